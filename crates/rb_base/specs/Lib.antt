@@ -1,0 +1,4 @@
+pub mod Names
+pub mod Doubling
+pub mod Outside
+pub mod Sunk
