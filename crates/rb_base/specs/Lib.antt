@@ -1,4 +1,5 @@
 pub mod Names
 pub mod Doubling
 pub mod Outside
-pub mod Sunk
+pub mod OutputInMemory
+pub mod FilesInMemory

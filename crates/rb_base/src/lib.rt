@@ -2,14 +2,18 @@
 #![tactic(auto)]
 
 mod memory;
+mod memory_shelf;
 mod memory_sink;
 mod names;
 mod shelf;
 mod sink;
 mod steps;
+#[cfg(test)]
+mod tests;
 mod text;
 
 pub use memory::Memory;
+pub use memory_shelf::{MemoryShelf, StoredFile};
 pub use memory_sink::MemorySink;
 pub use names::Names;
 pub use shelf::{Shelf, ShelfError};
