@@ -30,10 +30,10 @@ pub fn source_of(alloc: Global, chunk: &Chunk<'_>, out: &mut Text) -> Result<(),
 
 /// The chunk's source. Where the chunk is not doubled it is a part of the body, which takes no memory,
 /// and `room` stays as it is. Else `room` becomes the source. On want of memory `room` is as before.
-pub fn source_in<'a>(
+pub fn source_in<'a, 't: 'a>(
     room: &'a mut Text,
     alloc: Global,
-    chunk: &Chunk<'a>,
+    chunk: &Chunk<'t>,
 ) -> Result<&'a [u8], Memory>
     requires { IsChunk (piece chunk.now) }
     ensures* room { sem 𝓛 (EndsAs chunk.now.doubled room.entry result) }
@@ -60,7 +60,7 @@ fn fill_room(room: &mut Text, alloc: Global, chunk: &Chunk<'_>) -> Result<(), Me
 }
 
 /// The room where the chunk is doubled, and else the body without its leading blanks.
-fn source_from<'a>(room: &'a Text, chunk: &Chunk<'a>) -> &'a [u8]
+fn source_from<'a, 't: 'a>(room: &'a Text, chunk: &Chunk<'t>) -> &'a [u8]
     ensures { result.now ≡ (if chunk.now.doubled then room.now else drop_blanks chunk.now.body.now) }
 {
     if chunk.doubled {
