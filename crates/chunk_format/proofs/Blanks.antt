@@ -1,16 +1,13 @@
 -- The blanks that a text begins with.
-use Rattle.std.proofs.Common.{◌≡◌, ◌≢◌, ℕ, zero, suc, ◌+◌, ◌<◌, ◌≤◌, ◌⊎◌, inl, inr, Bool, true, false, cond, List, [], ◌∷◌, ◌++◌, length, drop, refl, ap, sym, subst, ◌∙◌, arith, ◌||◌, true≢false}
+use Rattle.std.proofs.Common.{◌≡◌, ◌≢◌, ℕ, zero, suc, ◌+◌, ◌⊎◌, inl, inr, Bool, true, false, cond, List, [], ◌∷◌, ◌++◌, length, drop, refl, ap, sym, subst, ◌∙◌, arith, ◌||◌, true≢false}
 use Rattle.std.specs.Prelude.{◌==◌, if◌then◌else◌}
-use Rattle.std.specs.List.{list_any, prefix_len}
 use Rattle.std.proofs.lemmas.Bool.{eq-eqb}
 use Rattle.std.proofs.lemmas.Bool.Decides.{eqb_tells}
-use Rattle.std.proofs.lemmas.List.{drop-drop, drop_at}
-use Rattle.std.proofs.lemmas.List.Folds.{prefix_len-append, list_any-append}
-use Rattle.std.proofs.lemmas.List.Sums.{prefix_len-le-length}
+use Rattle.std.proofs.lemmas.List.Folds.{list_any-append}
 use Rattle.rb_base.specs.Doubling.{IsPaired, Empty, Byte, Pair, doubled}
 use Rattle.chunk_format.specs.Blank.{is_blank, blank_len, IsBlank, drop_blanks, HasNoLeadingBlank}
 use Rattle.chunk_format.specs.Chunks.{holds_mark}
-use Rattle.chunk_format.proofs.Doubles.{doubled-mark, doubled-other, mark_or_not}
+use Rattle.chunk_format.proofs.Doubles.{doubled-other, mark_or_not}
 
 -- no blank is the mark
 blank_other : (b : ℕ) → is_blank b ≡ true → b ≢ 33

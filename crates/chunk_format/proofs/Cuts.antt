@@ -1,17 +1,15 @@
 -- Where a text is cut at a mark.
-use Rattle.std.proofs.Common.{◌≡◌, ◌≢◌, ℕ, zero, suc, ◌+◌, ◌-◌, ◌<◌, ◌≤◌, ◌⊎◌, inl, inr, Bool, true, false, List, [], ◌∷◌, ◌++◌, length, take, drop, get_or, refl, ap, sym, subst, ◌∙◌, arith, add-one, Some, None, ◌||◌, length-drop, take_all, append_assoc}
+use Rattle.std.proofs.Common.{◌≡◌, ◌≢◌, ℕ, zero, suc, ◌+◌, ◌-◌, ◌<◌, ◌≤◌, ◌⊎◌, inl, inr, true, false, List, [], ◌∷◌, ◌++◌, length, take, drop, get_or, refl, ap, sym, subst, ◌∙◌, arith, add-one, Some, None, ◌||◌, length-drop, take_all, append_assoc}
 use Rattle.std.proofs.lemmas.List.{take-append-drop, drop_more, take_more, get_or-drop, drop-drop}
 use Rattle.std.proofs.lemmas.List.Folds.{list_any-append}
-use Rattle.std.proofs.lemmas.Bool.{eq-eqb}
 use Rattle.std.proofs.Math.Seq.{take-add}
 use Rattle.std.proofs.Math.Bool.{or-false, or-true}
-use Rattle.std.specs.List.{list_any}
-use Rattle.std.specs.Prelude.{◌==◌, if◌then◌else◌}
+use Rattle.std.specs.Prelude.{◌==◌}
 use Rattle.std.proofs.lemmas.Bool.Decides.{eqb_tells}
 use Rattle.memchr.specs.Find.{IsFirstByte, is_byte}
-use Rattle.rb_base.specs.Doubling.{IsPaired, Empty, Byte, Pair, BeginsOtherwise, doubled}
+use Rattle.rb_base.specs.Doubling.{IsPaired, Empty, Pair, BeginsOtherwise, doubled}
 use Rattle.chunk_format.specs.Chunks.{IsCut, holds_mark}
-use Rattle.chunk_format.proofs.Doubles.{HasNoMark, behind_first, IsPaired-append, IsPaired-take, IsPaired-no_mark, FindsMark, FindsMark-from_first, HasNoMark-from_none, doubled-append, doubled-take_mark, doubled-no_mark, AtPair, first_pair}
+use Rattle.chunk_format.proofs.Doubles.{HasNoMark, behind_first, IsPaired-append, IsPaired-take, IsPaired-no_mark, FindsMark-from_first, HasNoMark-from_none, doubled-append, doubled-take_mark, doubled-no_mark, first_pair}
 
 -- the code's `&s[from..]`
 pub behind : (from : ℕ) (s : List ℕ) → from ≤ length s → take (length s - from) (drop from s) ≡ drop from s

@@ -1,10 +1,8 @@
 -- Texts in which a mark stands in pairs, and texts with each mark written twice.
-use Rattle.std.proofs.Common.{◌≡◌, ◌≢◌, ℕ, zero, suc, ◌+◌, ◌<◌, ◌≤◌, ◌⊎◌, inl, inr, Bool, true, false, List, [], ◌∷◌, ◌++◌, length, take, drop, get_or, refl, ap, sym, subst, ◌∙◌, arith, Some, None, length-drop, append_assoc, take_all, le_refl}
-use Rattle.std.specs.Prelude.{◌==◌, if◌then◌else◌, Option}
+use Rattle.std.proofs.Common.{◌≡◌, ◌≢◌, ℕ, zero, suc, ◌+◌, ◌<◌, ◌≤◌, ◌⊎◌, inl, inr, true, false, List, [], ◌∷◌, ◌++◌, length, take, drop, get_or, refl, ap, sym, subst, ◌∙◌, arith, Some, None, take_all, le_refl}
+use Rattle.std.specs.Prelude.{◌==◌, if◌then◌else◌}
 use Rattle.std.proofs.lemmas.Bool.{eq-eqb, eqb-true}
 use Rattle.std.proofs.lemmas.Bool.Decides.{eqb_tells}
-use Rattle.std.proofs.lemmas.List.{take-append-drop, drop-drop}
-use Rattle.std.proofs.Math.Seq.{take-add}
 use Rattle.memchr.specs.Find.{IsFirstByte, is_byte}
 use Rattle.rb_base.specs.Doubling.{IsPaired, Empty, Byte, Pair, doubled}
 

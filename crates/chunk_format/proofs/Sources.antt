@@ -1,5 +1,5 @@
 -- The source of a chunk, and where it is shown.
-use Rattle.std.proofs.Common.{◌≡◌, ℕ, Bool, true, false, List, drop, refl, ap, sym, ◌∙◌, Some, None}
+use Rattle.std.proofs.Common.{◌≡◌, ℕ, Bool, true, false, List, ap, sym, ◌∙◌, Some, None}
 use Rattle.std.specs.Prelude.{Option, is_some, MatchBool, if◌then◌else◌}
 use Rattle.memchr.specs.Find.{IsFirstByte, is_byte}
 use Rattle.rb_base.specs.Doubling.{doubled}

@@ -1,11 +1,11 @@
 -- A text has one list of chunks.
-use Rattle.std.proofs.Common.{◌≡◌, ◌≢◌, ℕ, zero, suc, ◌+◌, ◌<◌, ◌≤◌, ◌⊎◌, inl, inr, Bool, List, [], ◌∷◌, ◌++◌, Option, Some, None, refl, ap, sym, subst, ◌∙◌, arith, length, length-append, le_refl}
+use Rattle.std.proofs.Common.{◌≡◌, ◌≢◌, ℕ, zero, suc, ◌+◌, ◌<◌, ◌≤◌, ◌⊎◌, inl, inr, List, [], ◌∷◌, ◌++◌, Option, Some, None, refl, ap, sym, subst, ◌∙◌, arith, length, length-append, le_refl}
 use Rattle.std.proofs.lemmas.List.Sums.{prefix_len-le-length}
 use Rattle.std.proofs.Math.Nat.{eq-or-lt_of_le}
 use Rattle.rb_base.specs.Doubling.{IsPaired, Empty, Byte, Pair, BeginsOtherwise, doubled}
 use Rattle.chunk_format.specs.Blank.{is_blank, blank_len, IsBlank}
 use Rattle.chunk_format.specs.Left.{Left}
-use Rattle.chunk_format.specs.Chunks.{Piece, IsCut, Takes, HasChunks, First, Over, Refused, IsOver, IsUnended, holds_mark, left_behind, written_piece}
+use Rattle.chunk_format.specs.Chunks.{Piece, IsCut, Takes, HasChunks, First, Over, Refused, IsUnended, holds_mark, left_behind, written_piece}
 use Rattle.chunk_format.specs.declared.chunk_iter.Unended.{Unended}
 use Rattle.chunk_format.proofs.Doubles.{mark_or_not, IsPaired-append, IsPaired-doubled}
 use Rattle.chunk_format.proofs.Blanks.{IsPaired-IsBlank, holds_mark-written}

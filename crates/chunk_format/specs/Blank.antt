@@ -1,5 +1,5 @@
 -- The blanks of a file-out.
-use Rattle.std.specs.Prelude.{◌≡◌, ℕ, Bool, false, ◌||◌, ◌==◌, List, [], ◌∷◌, length, drop}
+use Rattle.std.specs.Prelude.{◌≡◌, ℕ, Bool, ◌||◌, ◌==◌, List, length, drop}
 use Rattle.std.specs.List.{prefix_len}
 
 -- a blank is a tab, a line feed, a form feed, a carriage return or a space

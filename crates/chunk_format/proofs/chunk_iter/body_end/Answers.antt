@@ -1,4 +1,4 @@
-use Rattle.std.proofs.Common.{◌≡◌, refl, arith, sym, ◌∙◌, inl, inr}
+use Rattle.std.proofs.Common.{refl, arith, sym, ◌∙◌, inl, inr}
 use Rattle.rb_base.specs.Doubling.{Empty}
 use Rattle.chunk_format.proofs.Cuts.{reaches, IsPaired-rest, cut_at, over_pair, behind}
 use Rattle.chunk_format.proofs.chunk_iter.body_end.Goals as goal

@@ -1,4 +1,4 @@
-use Rattle.std.proofs.Common.{◌≡◌, ℕ, ◌≤◌, ◌-◌, length, take}
+use Rattle.std.proofs.Common.{◌≡◌, ◌≤◌, ◌-◌, length, take}
 use Rattle.rb_base.specs.Doubling.{IsPaired}
 use Rattle.chunk_format.specs.Chunks.{holds_mark}
 use Rattle.chunk_format.proofs.chunk_iter.body_end.Given as goal

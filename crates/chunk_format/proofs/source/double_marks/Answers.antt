@@ -1,4 +1,4 @@
-use Rattle.std.proofs.Common.{◌≡◌, ◌++◌, ◌∷◌, [], ◌+◌, ◌-◌, length, take, drop, ap, ◌∙◌, arith}
+use Rattle.std.proofs.Common.{◌++◌, ◌∷◌, [], drop, ap, ◌∙◌, arith}
 use Rattle.chunk_format.proofs.Cuts.{behind, between, double_mark, double_rest}
 use Rattle.chunk_format.proofs.Doubles.{FindsMark-from_first}
 use Rattle.std.proofs.Common.{length-drop}

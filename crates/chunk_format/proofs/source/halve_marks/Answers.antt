@@ -1,4 +1,4 @@
-use Rattle.std.proofs.Common.{◌≡◌, ◌++◌, ◌+◌, ◌-◌, take, drop, ap, ◌∙◌, arith}
+use Rattle.std.proofs.Common.{◌++◌, drop, ap, ◌∙◌}
 use Rattle.rb_base.specs.Doubling.{doubled}
 use Rattle.chunk_format.proofs.Cuts.{behind, between, halve_pair, halve_rest}
 use Rattle.chunk_format.proofs.source.halve_marks.Goals as goal
