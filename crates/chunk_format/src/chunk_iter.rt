@@ -3,7 +3,7 @@ ghost use Rattle.std.specs.Prelude.{◌≡◌, ℕ, ◌+◌, ◌<◌, ◌≤◌,
 ghost use Rattle.std.specs.Iterator.{at_most};
 ghost use Rattle.rb_base.specs.Doubling.{IsPaired};
 ghost use Rattle.chunk_format.specs.Blank.{blank_len};
-ghost use Rattle.chunk_format.specs.Left.{Left};
+ghost use Rattle.chunk_format.specs.Left.{start_of};
 ghost use Rattle.chunk_format.specs.Chunks.{IsNext, IsCut, holds_mark};
 
 use crate::MARK;
@@ -55,7 +55,7 @@ impl<'t> Model for ChunkIter<'t> {
 
 /// The chunks of the text. Takes no memory.
 pub fn chunks<'t>(text: &'t [u8]) -> ChunkIter<'t>
-    ensures { result ≡ record { number = 1; at = 0; rest = text.now } }
+    ensures { result ≡ start_of text.now }
 {
     ChunkIter {
         number: 1,

@@ -52,10 +52,11 @@ fn fill_room(room: &mut Text, alloc: Global, chunk: &Chunk<'_>) -> Result<(), Me
     ensures err { OnErr result (room.new ≡ room.old) }
     ensures no_memory { chunk.now.doubled ≡ false → IsOk result }
 {
-    if chunk.doubled {
-        let source = halve_marks(alloc, without_blanks(chunk.body))?;
-        *room = Text::from_vec(source);
+    if !chunk.doubled {
+        return Ok(());
     }
+    let source = halve_marks(alloc, without_blanks(chunk.body))?;
+    *room = Text::from_vec(source);
     Ok(())
 }
 
