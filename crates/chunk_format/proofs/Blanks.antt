@@ -14,6 +14,7 @@ blank_other : (b : ℕ) → is_blank b ≡ true → b ≢ 33
 blank_other b blank is =
     let P : ℕ → Type 0 = λ y. is_blank y ≡ true in true≢false (sym (subst P is blank))
 
+-- one byte on: a blank is dropped, and any other byte ends the blanks
 pub drop_blanks-cons : (b : ℕ) (s : List ℕ) → drop_blanks (b ∷ s) ≡ (if is_blank b then drop_blanks s else b ∷ s)
 drop_blanks-cons b s = by (is_blank b)
   where
@@ -36,6 +37,7 @@ pub record BlankCons (b : ℕ) (s : List ℕ) : Type 0 where
   pub first : is_blank b ≡ true
   pub rest : IsBlank s
 
+-- a text of blanks begins with one, and goes on with blanks
 pub IsBlank-cons : (b : ℕ) (s : List ℕ) → IsBlank (b ∷ s) → BlankCons b s
 IsBlank-cons b s h = by (is_blank b) refl h
   where
@@ -43,20 +45,24 @@ IsBlank-cons b s h = by (is_blank b) refl h
     by true is e = record { first = is; rest = omega arith }
     by false is e = absurd (omega arith)
 
+-- blanks hold no mark, so no mark stands alone among them
 pub IsPaired-IsBlank : (s : List ℕ) → IsBlank s → IsPaired 33 s
 IsPaired-IsBlank [] h = Empty
 IsPaired-IsBlank (b ∷ s) h =
     let c = IsBlank-cons b s h in Byte (blank_other b c.first) (IsPaired-IsBlank s c.rest)
 
+-- the test of a byte that is not the mark
 not_mark : (b : ℕ) → b ≢ 33 → (b == 33) ≡ false
 not_mark b other = elim (eqb_tells b 33) [ inl same ↦ absurd (other same.1) | inr differs ↦ differs.0 ]
 
+-- blanks hold no mark
 holds_mark-IsBlank : (s : List ℕ) → IsBlank s → holds_mark s ≡ false
 holds_mark-IsBlank [] h = refl
 holds_mark-IsBlank (b ∷ s) h =
     let c = IsBlank-cons b s h in
     ap (λ t. t || holds_mark s) (not_mark b (blank_other b c.first)) ∙ holds_mark-IsBlank s c.rest
 
+-- writing each mark twice makes no mark, and takes none away
 holds_mark-doubled : (s : List ℕ) → holds_mark (doubled 33 s) ≡ holds_mark s
 holds_mark-doubled [] = refl
 holds_mark-doubled (b ∷ s) = by (holds_mark-doubled s) (mark_or_not 33 b)
@@ -71,6 +77,7 @@ pub holds_mark-written : (blanks s : List ℕ) → IsBlank blanks → holds_mark
 holds_mark-written blanks s h =
     sym (list_any-append (λ b. b == 33) blanks (doubled 33 s) ∙ ap (λ t. t || holds_mark (doubled 33 s)) (holds_mark-IsBlank blanks h) ∙ holds_mark-doubled s)
 
+-- blanks in front are dropped
 pub drop_blanks-append : (blanks s : List ℕ) → IsBlank blanks → drop_blanks (blanks ++ s) ≡ drop_blanks s
 drop_blanks-append [] s h = refl
 drop_blanks-append (b ∷ blanks) s h =
@@ -100,11 +107,13 @@ plain_cons b s h = by (mark_or_not 33 b)
     by (inl same) = absurd (true≢false (ap (λ t. t || holds_mark s) (sym (eq-eqb b 33 same)) ∙ h))
     by (inr other) = (other, ap (λ t. t || holds_mark s) (sym (not_mark b other)) ∙ h)
 
+-- what is left of a text that holds no mark holds none
 pub holds_mark-drop : (n : ℕ) (s : List ℕ) → holds_mark s ≡ false → holds_mark (drop n s) ≡ false
 holds_mark-drop zero s h = h
 holds_mark-drop (suc n) [] h = refl
 holds_mark-drop (suc n) (b ∷ s) h = holds_mark-drop n s (plain_cons b s h).1
 
+-- a text that holds no mark is written as it is
 pub doubled-plain : (s : List ℕ) → holds_mark s ≡ false → doubled 33 s ≡ s
 doubled-plain [] h = refl
 doubled-plain (b ∷ s) h = let c = plain_cons b s h in doubled-other 33 b s c.0 ∙ ap (λ t. b ∷ t) (doubled-plain s c.1)

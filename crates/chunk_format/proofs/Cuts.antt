@@ -15,6 +15,7 @@ use Rattle.chunk_format.proofs.Doubles.{HasNoMark, behind_first, IsPaired-append
 pub behind : (from : ℕ) (s : List ℕ) → from ≤ length s → take (length s - from) (drop from s) ≡ drop from s
 behind from s le = take_all _ _ (simp length-drop (omega arith))
 
+-- the test of bytes among which there is no mark
 no_mark : (s : List ℕ) (k : ℕ) → HasNoMark 33 s k → holds_mark (take k s) ≡ false
 no_mark s zero h = refl
 no_mark [] (suc k) h = refl
@@ -29,6 +30,7 @@ pub record Reaches (text : List ℕ) (from k : ℕ) : Type 0 where
   pub paired : IsPaired 33 (take (from + k) text)
   pub same : holds_mark (take (from + k) text) ≡ holds_mark (take from text)
 
+-- a search from behind a paired front, and the mark that it finds
 pub reaches : (text : List ℕ) (from k : ℕ) → from ≤ length text → IsPaired 33 (take from text) → IsFirstByte (is_byte 33) (drop from text) (Some k) → Reaches text from k
 reaches text from k le paired first =
     let rest = drop from text in
@@ -46,6 +48,7 @@ pub IsPaired-rest : (text : List ℕ) (from : ℕ) → IsPaired 33 (take from te
 IsPaired-rest text from paired none =
     subst (IsPaired 33) (take-append-drop from text) (IsPaired-append _ _ paired (IsPaired-no_mark 33 _ (HasNoMark-from_none 33 _ none)))
 
+-- what begins at the end, or at a byte that is not the mark, does not begin with it
 BeginsOtherwise-drop : (s : List ℕ) (i : ℕ) → (i ≡ length s) ⊎ (get_or s i 0 ≢ 33) → i ≤ length s → BeginsOtherwise 33 (drop i s)
 BeginsOtherwise-drop [] zero h le = tt
 BeginsOtherwise-drop (b ∷ s) zero (inl is) le = absurd (omega arith)
@@ -82,6 +85,7 @@ pub record Halved (paired made : List ℕ) (from k : ℕ) : Type 0 where
   pub made_so_far : doubled 33 (made ++ take (k + 1) (drop from paired)) ≡ take (from + k + 2) paired
   pub rest : IsPaired 33 (drop (from + k + 2) paired)
 
+-- the bytes up to the next mark, and one mark for the pair
 pub halve_pair : (paired made : List ℕ) (from k : ℕ) → from ≤ length paired → doubled 33 made ≡ take from paired → IsPaired 33 (drop from paired) → IsFirstByte (is_byte 33) (drop from paired) (Some k) → Halved paired made from k
 halve_pair paired made from k le so_far rest first =
     let left = drop from paired in

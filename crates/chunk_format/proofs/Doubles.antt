@@ -10,9 +10,11 @@ use Rattle.rb_base.specs.Doubling.{IsPaired, Empty, Byte, Pair, doubled}
 pub mark_or_not : (m b : ℕ) → (b ≡ m) ⊎ (b ≢ m)
 mark_or_not m b = elim (eqb_tells b m) [ inl same ↦ inl same.1 | inr other ↦ inr other.1 ]
 
+-- a mark is written twice
 pub doubled-mark : (m : ℕ) (s : List ℕ) → doubled m (m ∷ s) ≡ m ∷ m ∷ doubled m s
 doubled-mark m s = ap (λ b. if b then m ∷ m ∷ doubled m s else m ∷ doubled m s) (eq-eqb m m refl)
 
+-- any other byte is written once
 pub doubled-other : (m b : ℕ) (s : List ℕ) → b ≢ m → doubled m (b ∷ s) ≡ b ∷ doubled m s
 doubled-other m b s other = by (eqb_tells b m)
   where
@@ -20,6 +22,7 @@ doubled-other m b s other = by (eqb_tells b m)
     by (inl same) = absurd (other same.1)
     by (inr differs) = ap (λ t. if t then m ∷ m ∷ doubled m s else b ∷ doubled m s) differs.0
 
+-- two texts, one behind the other, are written one behind the other
 pub doubled-append : (m : ℕ) (a b : List ℕ) → doubled m (a ++ b) ≡ doubled m a ++ doubled m b
 doubled-append m [] b = refl
 doubled-append m (x ∷ a) b = by (doubled-append m a b) (mark_or_not m x)
@@ -30,11 +33,13 @@ doubled-append m (x ∷ a) b = by (doubled-append m a b) (mark_or_not m x)
         subst P (sym same) (doubled-mark m (a ++ b) ∙ ap (λ s. m ∷ m ∷ s) rest ∙ ap (λ s. s ++ doubled m b) (sym (doubled-mark m a)))
     by rest (inr other) = doubled-other m x (a ++ b) other ∙ ap (λ s. x ∷ s) rest ∙ ap (λ s. s ++ doubled m b) (sym (doubled-other m x a other))
 
+-- two paired texts, one behind the other, are paired
 pub IsPaired-append : {m : ℕ} (a b : List ℕ) → IsPaired m a → IsPaired m b → IsPaired m (a ++ b)
 IsPaired-append a b Empty k = k
 IsPaired-append a b (Byte other h) k = Byte other (IsPaired-append _ b h k)
 IsPaired-append a b (Pair h) k = Pair (IsPaired-append _ b h k)
 
+-- what is written with each mark twice is paired
 pub IsPaired-doubled : (m : ℕ) (s : List ℕ) → IsPaired m (doubled m s)
 IsPaired-doubled m [] = Empty
 IsPaired-doubled m (b ∷ s) = by (IsPaired-doubled m s) (mark_or_not m b)
@@ -93,11 +98,13 @@ pub record HasNoMark (m : ℕ) (s : List ℕ) (k : ℕ) : Type 0 where
 pub behind_first : {m b : ℕ} {s : List ℕ} {k : ℕ} → HasNoMark m (b ∷ s) (suc k) → HasNoMark m s k
 behind_first h = record { short = omega (arith, h.short); others = λ i l. h.others (suc i) (omega arith) }
 
+-- bytes among which there is no mark are paired
 pub IsPaired-take : (m : ℕ) (s : List ℕ) (k : ℕ) → HasNoMark m s k → IsPaired m (take k s)
 IsPaired-take m s zero h = Empty
 IsPaired-take m [] (suc k) h = absurd (omega (arith, h.short))
 IsPaired-take m (b ∷ s) (suc k) h = Byte (h.others 0 (omega arith)) (IsPaired-take m s k (behind_first h))
 
+-- bytes among which there is no mark are written as they are
 pub doubled-take : (m : ℕ) (s : List ℕ) (k : ℕ) → HasNoMark m s k → doubled m (take k s) ≡ take k s
 doubled-take m s zero h = refl
 doubled-take m [] (suc k) h = refl
@@ -117,6 +124,7 @@ pub record AtPair (m : ℕ) (s : List ℕ) (k : ℕ) : Type 0 where
   pub front : doubled m (take (suc k) s) ≡ take (suc (suc k)) s
   pub rest : IsPaired m (drop (suc (suc k)) s)
 
+-- the first mark of a paired text is the first of two
 pub first_pair : (m : ℕ) (s : List ℕ) (k : ℕ) → IsPaired m s → HasNoMark m s k → k < length s → get_or s k 0 ≡ m → AtPair m s k
 first_pair m s k Empty h l mark = absurd (omega arith)
 first_pair m s zero (Byte other p) h l mark = absurd (other mark)
@@ -140,6 +148,7 @@ pub record FindsMark (m : ℕ) (s : List ℕ) (k : ℕ) : Type 0 where
   pub inside : k < length s
   pub mark : get_or s k 0 ≡ m
 
+-- the place that a search gives
 pub FindsMark-from_first : (m : ℕ) (s : List ℕ) (k : ℕ) → IsFirstByte (is_byte m) s (Some k) → FindsMark m s k
 FindsMark-from_first m s k (first, found) = record {
   before = record {
@@ -150,6 +159,7 @@ FindsMark-from_first m s k (first, found) = record {
   mark = eqb-true _ m found;
 }
 
+-- a search that gives no place
 pub HasNoMark-from_none : (m : ℕ) (s : List ℕ) → IsFirstByte (is_byte m) s None → HasNoMark m s (length s)
 HasNoMark-from_none m s none = record {
   short = le_refl (length s);
@@ -160,8 +170,10 @@ HasNoMark-from_none m s none = record {
 whole : (s : List ℕ) → take (length s) s ≡ s
 whole s = take_all _ s (le_refl (length s))
 
+-- a text without a mark is written as it is
 pub doubled-no_mark : (m : ℕ) (s : List ℕ) → HasNoMark m s (length s) → doubled m s ≡ s
 doubled-no_mark m s h = ap (doubled m) (sym (whole s)) ∙ doubled-take m s (length s) h ∙ whole s
 
+-- a text without a mark is paired
 pub IsPaired-no_mark : (m : ℕ) (s : List ℕ) → HasNoMark m s (length s) → IsPaired m s
 IsPaired-no_mark m s h = subst (IsPaired m) (whole s) (IsPaired-take m s (length s) h)

@@ -37,6 +37,7 @@ no_cut s a (x ∷ b) (Pair h) Empty f e = f cc
 no_cut s a b (Pair h) (Byte o k) f e = o cc
 no_cut s a b (Pair h) (Pair k) f e = no_cut _ _ b h k f cc
 
+-- one chunk alone stands first, and one rest behind it
 Takes-same : (old new new' : Left) (p q : Piece) → Takes old p new → Takes old q new' → (p ≡ q) × (new ≡ new')
 Takes-same old new new' p q t u =
     let r = one_cut _ _ _ _ t.cut.paired u.cut.paired t.cut.other u.cut.other (sym t.cut.whole ∙ u.cut.whole) in
@@ -46,15 +47,18 @@ Takes-same old new new' p q t u =
     let same : p ≡ q = λ i. record { number = number i; at = at i; body = r.0 i; doubled = doubled i } in
     (same, t.after ∙ (λ i. left_behind (same i) (r.1 i)) ∙ sym u.after)
 
+-- where no chunk is left, none is taken
 not_both : (left new : Left) (p : Piece) → IsPaired 33 left.rest → Takes left p new → ⊥
 not_both left new p paired t = no_cut _ _ _ paired t.cut.paired t.cut.other t.cut.whole
 
+-- one fault alone is there
 IsUnended-same : (left : Left) (e d : Unended) → IsUnended left e → IsUnended left d → e ≡ d
 IsUnended-same left e d h k =
     let number : e.number ≡ d.number = h.2 ∙ sym k.2 in
     let at : e.at ≡ d.at = h.3 ∙ sym k.3 in
     λ i. record { number = number i; at = at i }
 
+-- one list of chunks, and one end
 pub HasChunks-same : (left : Left) (ps qs : List Piece) (d e : Option Unended) → HasChunks left ps d → HasChunks left qs e → (ps ≡ qs) × (d ≡ e)
 HasChunks-same left ps qs d e (First {new} {p} {ps = more} t h) (First {new = new'} {p = q} {ps = more'} u k) =
     let r = Takes-same left new new' p q t u in
@@ -74,6 +78,7 @@ pub record Cut (text : List ℕ) : Type 0 where
   pub behind : List ℕ
   pub is : IsCut text body behind
 
+-- each text is one or the other
 paired_or_cut : (s : List ℕ) → IsPaired 33 s ⊎ Cut s
 paired_or_cut [] = inl Empty
 paired_or_cut (x ∷ []) = by (mark_or_not 33 x)
@@ -109,6 +114,7 @@ record Chunked (left : Left) : Type 0 where
   end : Option Unended
   has : HasChunks left pieces end
 
+-- the end, where no chunk is left
 ended : (left : Left) → IsPaired 33 left.rest → Chunked left
 ended left paired = by (eq-or-lt_of_le (prefix_len-le-length is_blank left.rest))
   where
@@ -140,6 +146,7 @@ chunked (suc n) left short = by (λ (new : Left). chunked n new) (paired_or_cut 
         let rest = more (left_behind first.0 c.behind) (omega (arith, ap length c.is.whole, length-append c.body (33 ∷ c.behind))) in
         record { pieces = first.0 ∷ rest.pieces; end = rest.end; has = First first.1 rest.has }
 
+-- a text has a list of chunks, and an end
 pub HasChunks-some : (left : Left) → (pieces : List Piece) × (end : Option Unended) × HasChunks left pieces end
 HasChunks-some left = let c = chunked (length left.rest) left (le_refl _) in (c.pieces, c.end, c.has)
 

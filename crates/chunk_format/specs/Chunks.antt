@@ -17,13 +17,14 @@ pub record IsCut (text body behind : List ℕ) : Type 0 where
   pub paired : IsPaired 33 body
   pub other : BeginsOtherwise 33 behind
 
--- a chunk without where it lies in memory
+-- a chunk: its number, where its body begins, the body, and whether that holds a mark
 pub record Piece : Type 0 where
   pub number : ℕ
   pub at : ℕ
   pub body : List ℕ
   pub doubled : Bool
 
+-- a chunk of the program, without where it lies in memory
 abbrev pub piece : Chunk → Piece
 piece c = record { number = c.number; at = c.at; body = c.body.now; doubled = c.doubled }
 

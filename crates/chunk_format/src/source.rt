@@ -14,7 +14,7 @@ use rb_base::{Memory, Text};
 use std::alloc::Global;
 
 /// Appends the chunk's source: the body without its leading blanks, with each pair of marks made one
-/// mark. On want of memory `out` is as before.
+/// mark. Takes memory from `alloc` only where the chunk is doubled. On want of memory `out` is as before.
 pub fn source_of(alloc: Global, chunk: &Chunk<'_>, out: &mut Text) -> Result<(), Memory>
     requires { IsChunk (piece chunk.now) }
     ensures ok { OnOk result (AppendsSource chunk.now.body.now out.old out.new) }
