@@ -1,0 +1,6 @@
+pub mod Words
+pub mod Expressions
+pub mod Images
+pub mod Texts
+pub mod Reading
+pub mod Commands
