@@ -3,5 +3,8 @@
 
 mod command;
 mod image;
+mod laws;
 mod texts;
 mod words;
+
+pub use laws::one_image;
