@@ -3,3 +3,6 @@ pub mod Lists
 pub mod Spelling
 pub mod Valid
 pub mod Once
+pub mod Readings
+pub mod Places
+pub mod Following

@@ -4,7 +4,7 @@ use Rattle.std.specs.List.{list_all, flat_map, AllByRecursion}
 use Rattle.first_path.specs.Words.{is_word, is_word_byte}
 use Rattle.first_path.specs.Expressions.{UnaryExpression}
 use Rattle.first_path.specs.Images.{FileImage}
-use Rattle.first_path.specs.Texts.{class_text, method_text, expression_text, doit_text}
+use Rattle.first_path.specs.Texts.{class_text, method_text, message_text, expression_text}
 use Rattle.first_path.specs.declared.image.ClassDef.{ClassDef}
 use Rattle.first_path.specs.declared.image.MethodDef.{MethodDef}
 
@@ -56,6 +56,12 @@ pub record SpellsBetween (text before behind w rest : List ℕ) : Type 0 where
 -- no word goes on with these bytes
 abbrev pub EndsWord : List ℕ → Type 0
 EndsWord behind = (rest : List ℕ) → BeginsOutside (behind ++ rest)
+
+-- the text begins with these messages, and this rest ends them
+pub record SpellsMessages (text : List ℕ) (sends : List (List ℕ)) (rest : List ℕ) : Type 0 where
+  pub whole : text ≡ flat_map message_text sends ++ rest
+  pub words : AllByRecursion IsWord sends
+  pub ends : EndsExpression rest
 
 -- the text begins with the expression, and this rest ends it
 pub record SpellsExpression (text : List ℕ) (e : UnaryExpression) (rest : List ℕ) : Type 0 where
