@@ -1,5 +1,5 @@
 -- The one command, its conditions and what it does.
-use Rattle.std.specs.Prelude.{◌≡◌, ℕ, Bool, true, false, not, ◌&&◌, ◌||◌, ◌⊎◌, nat_le, List, [], ◌∷◌, ◌++◌, length, map, Option, None, Some, codes, IsTrue, if◌then◌else◌}
+use Rattle.std.specs.Prelude.{◌≡◌, ◌==◌, ℕ, Bool, true, false, not, ◌&&◌, ◌||◌, ◌⊎◌, nat_le, List, [], ◌∷◌, ◌++◌, length, map, Option, None, Some, codes, IsTrue, if◌then◌else◌}
 use Rattle.std.specs.List.{list_any}
 use Rattle.rb_base.specs.Names.{text_eq}
 use Rattle.first_path.specs.Words.{is_identifier, is_upper_word, is_one_of, is_pseudo_variable, is_global, is_kernel_class}
@@ -23,6 +23,10 @@ pub record IsCommand (c : Command) : Type 0 where
 -- the text is the line of the command, with or without the line's end
 abbrev pub IsScript : List ℕ → Command → Type 0
 IsScript text c = (text ≡ script_of c) ⊎ (text ≡ script_of c ++ 10 ∷ [])
+
+-- nothing, or a line's end alone
+abbrev pub is_line_end : List ℕ → Bool
+is_line_end s = length s == 0 || text_eq s (10 ∷ [])
 
 -- the name is that of a class of the file
 unfoldable pub is_user_class : FileImage → List ℕ → Bool

@@ -1,7 +1,15 @@
 // The one command, and its conditions.
-ghost use Rattle.std.specs.Prelude.{◌≡◌};
+ghost use Rattle.std.specs.Prelude.{◌≡◌, ◌&&◌, ◌||◌, not, IfOk, IfSome, IfNone};
+ghost use Rattle.std.specs.List.{list_any};
+ghost use Rattle.rb_base.specs.Names.{text_eq};
+ghost use Rattle.first_path.specs.Words.{is_one_of};
+ghost use Rattle.first_path.specs.Images.{class_names};
+ghost use Rattle.first_path.specs.Commands.{IsCommand, IsScript, is_line_end, first_false, is_user_class, is_good_name, is_unused_name, names_first};
 
-use rb_base::Text;
+use crate::image::{ClassDef, Expression, Image, MethodDef};
+use crate::words::{after, cut_word, is_global, is_identifier, is_kernel_class, is_pseudo_variable, is_upper_word, same};
+use rb_base::{Memory, Text};
+use std::alloc::Global;
 
 /// `renameClass from to`.
 #[derive(Drop)]
@@ -21,4 +29,98 @@ pub enum FalseCondition {
     GoodName,
     /// Nothing has the new name.
     NameUnused,
+}
+
+/// Reads a script of one command. The answer is `None` exactly where the text is no such script.
+pub fn read_command(alloc: Global, text: &[u8]) -> Result<Option<Command>, Memory>
+    ensures read { IfOk result (λ r. IfSome r (λ c. IsScript text.now c)) }
+    ensures command { IfOk result (λ r. IfSome r IsCommand) }
+    ensures only { IfOk result (λ r. IfNone r ((c : Command) → IsCommand c → ¬ IsScript text.now c)) }
+{
+    let Some(behind) = after(text, b"renameClass ") else {
+        return Ok(None);
+    };
+    let from = cut_word(behind);
+    let Some(behind) = after(from.rest, b" ") else {
+        return Ok(None);
+    };
+    let to = cut_word(behind);
+    if !is_line_end(to.rest) || !is_identifier(from.word) || !is_identifier(to.word) {
+        return Ok(None);
+    }
+    Ok(Some(Command {
+        from: Text::from_slice(alloc, from.word)?,
+        to: Text::from_slice(alloc, to.word)?,
+    }))
+}
+
+/// Whether nothing is left, or a line's end alone.
+fn is_line_end(rest: &[u8]) -> bool
+    ensures { result ≡ is_line_end rest.now }
+{
+    rest.is_empty() || same(rest, b"\n")
+}
+
+/// Whether a class of these has the name.
+fn has_class(classes: &[ClassDef], name: &[u8]) -> bool
+    ensures { result ≡ is_one_of (class_names classes.now) name.now }
+{
+    classes.iter().any(|class| same(name, class.name.as_slice()))
+}
+
+/// Whether the expression names it.
+fn names_first(name: &[u8], expression: &Expression) -> bool
+    ensures { result ≡ names_first name.now expression.now }
+{
+    same(name, expression.first.as_slice())
+}
+
+/// Whether the expression of one of these methods names it.
+fn is_named(methods: &[MethodDef], name: &[u8]) -> bool
+    ensures { result ≡ list_any (λ m. names_first name.now m.expression) methods.now }
+{
+    methods.iter().any(|method| names_first(name, &method.expression))
+}
+
+/// Whether it is a class of the file.
+#[tactic(auto, unfolding(crate::specs::Commands::is_user_class))]
+fn is_user_class(image: &Image, name: &[u8]) -> bool
+    ensures { result ≡ is_user_class image.now name.now }
+{
+    has_class(image.classes.as_slice(), name)
+}
+
+/// Whether a class may have the name.
+#[tactic(auto, unfolding(crate::specs::Commands::is_good_name))]
+fn is_good_name(name: &[u8]) -> bool
+    ensures { result ≡ is_good_name name.now }
+{
+    name.len() <= 200 && is_upper_word(name) && !is_pseudo_variable(name) && !is_global(name)
+}
+
+/// Whether nothing has the name.
+#[tactic(auto, unfolding(crate::specs::Commands::is_unused_name))]
+fn is_unused_name(image: &Image, name: &[u8]) -> bool
+    ensures { result ≡ is_unused_name image.now name.now }
+{
+    !has_class(image.classes.as_slice(), name)
+        && !is_kernel_class(name)
+        && !is_named(image.methods.as_slice(), name)
+        && !names_first(name, &image.doit)
+}
+
+/// The first of the three conditions that is false.
+#[tactic(auto, unfolding(crate::specs::Commands::first_false))]
+pub fn first_false(image: &Image, command: &Command) -> Option<FalseCondition>
+    ensures { result ≡ first_false image.now command.now }
+{
+    if !is_user_class(image, command.from.as_slice()) {
+        Some(FalseCondition::IsUserClass)
+    } else if !is_good_name(command.to.as_slice()) {
+        Some(FalseCondition::GoodName)
+    } else if !is_unused_name(image, command.to.as_slice()) {
+        Some(FalseCondition::NameUnused)
+    } else {
+        None
+    }
 }

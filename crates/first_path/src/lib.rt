@@ -10,5 +10,6 @@ mod read;
 mod texts;
 mod words;
 
+pub use command::{Command, FalseCondition, first_false, read_command};
 pub use file::read_image;
 pub use laws::one_image;
