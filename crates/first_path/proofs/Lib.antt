@@ -6,3 +6,4 @@ pub mod Once
 pub mod Readings
 pub mod Places
 pub mod Following
+pub mod Scripts

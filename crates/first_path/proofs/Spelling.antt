@@ -42,7 +42,7 @@ pub BeginsOutside-EndsExpression : (r : List ℕ) → EndsExpression r → Begin
 BeginsOutside-EndsExpression [] h = tt
 BeginsOutside-EndsExpression (b ∷ r) h = h.0
 
-blank_outside : (r : List ℕ) → BeginsOutside (32 ∷ r)
+pub blank_outside : (r : List ℕ) → BeginsOutside (32 ∷ r)
 unfolding is_word_byte
 blank_outside r = refl
 
@@ -100,7 +100,7 @@ mark_outside : is_word_byte 33 ≡ false
 unfolding is_word_byte
 mark_outside = refl
 
-line_outside : is_word_byte 10 ≡ false
+pub line_outside : is_word_byte 10 ≡ false
 unfolding is_word_byte
 line_outside = refl
 

@@ -2,9 +2,9 @@
 use Rattle.std.specs.Prelude.{◌≡◌, ◌==◌, ℕ, Bool, true, false, not, ◌&&◌, ◌||◌, ◌⊎◌, nat_le, List, [], ◌∷◌, ◌++◌, length, map, Option, None, Some, codes, IsTrue, if◌then◌else◌}
 use Rattle.std.specs.List.{list_any}
 use Rattle.rb_base.specs.Names.{text_eq}
-use Rattle.first_path.specs.Words.{is_identifier, is_upper_word, is_one_of, is_pseudo_variable, is_global, is_kernel_class}
+use Rattle.first_path.specs.Words.{is_identifier, is_upper_word, is_pseudo_variable, is_global, is_kernel_class}
 use Rattle.first_path.specs.Expressions.{UnaryExpression}
-use Rattle.first_path.specs.Images.{FileImage, class_names}
+use Rattle.first_path.specs.Images.{FileImage}
 use Rattle.first_path.specs.declared.image.ClassDef.{ClassDef}
 use Rattle.first_path.specs.declared.image.MethodDef.{MethodDef}
 use Rattle.first_path.specs.declared.command.Command.{Command}
@@ -28,9 +28,13 @@ IsScript text c = (text ≡ script_of c) ⊎ (text ≡ script_of c ++ 10 ∷ [])
 abbrev pub is_line_end : List ℕ → Bool
 is_line_end s = length s == 0 || text_eq s (10 ∷ [])
 
+-- a class of these has the name
+abbrev pub has_class : List ClassDef → List ℕ → Bool
+has_class classes name = list_any (λ d. text_eq name d.name) classes
+
 -- the name is that of a class of the file
 unfoldable pub is_user_class : FileImage → List ℕ → Bool
-is_user_class i name = is_one_of (class_names i.classes) name
+is_user_class i name = has_class i.classes name
 
 -- a class may have the name: at most 200 bytes, an identifier that begins upper case, no pseudo-variable and no global variable
 unfoldable pub is_good_name : List ℕ → Bool
@@ -42,7 +46,7 @@ names_first name e = text_eq name e.first
 
 -- no class has the name, and no expression names it
 unfoldable pub is_unused_name : FileImage → List ℕ → Bool
-is_unused_name i name = not (is_one_of (class_names i.classes) name) && not (is_kernel_class name) && not (list_any (λ m. names_first name m.expression) i.methods) && not (names_first name i.doit)
+is_unused_name i name = not (has_class i.classes name) && not (is_kernel_class name) && not (list_any (λ m. names_first name m.expression) i.methods) && not (names_first name i.doit)
 
 -- the first of the three conditions that is false, in this order; none where all hold
 unfoldable pub first_false : FileImage → Command → Option FalseCondition

@@ -2,12 +2,12 @@
 ghost use Rattle.std.specs.Prelude.{◌≡◌, ◌&&◌, ◌||◌, not, IfOk, IfSome, IfNone};
 ghost use Rattle.std.specs.List.{list_any};
 ghost use Rattle.rb_base.specs.Names.{text_eq};
-ghost use Rattle.first_path.specs.Words.{is_one_of};
-ghost use Rattle.first_path.specs.Images.{class_names};
-ghost use Rattle.first_path.specs.Commands.{IsCommand, IsScript, is_line_end, first_false, is_user_class, is_good_name, is_unused_name, names_first};
+ghost use Rattle.first_path.specs.Words.{is_identifier};
+ghost use Rattle.first_path.specs.Commands.{IsCommand, IsScript, is_line_end, first_false, has_class, is_user_class, is_good_name, is_unused_name, names_first};
 
 use crate::image::{ClassDef, Expression, Image, MethodDef};
-use crate::words::{after, cut_word, is_global, is_identifier, is_kernel_class, is_pseudo_variable, is_upper_word, same};
+use crate::read::named;
+use crate::words::{cut_word, is_global, is_identifier, is_kernel_class, is_pseudo_variable, is_upper_word, same};
 use rb_base::{Memory, Text};
 use std::alloc::Global;
 
@@ -37,21 +37,24 @@ pub fn read_command(alloc: Global, text: &[u8]) -> Result<Option<Command>, Memor
     ensures command { IfOk result (λ r. IfSome r IsCommand) }
     ensures only { IfOk result (λ r. IfNone r ((c : Command) → IsCommand c → ¬ IsScript text.now c)) }
 {
-    let Some(behind) = after(text, b"renameClass ") else {
+    let Some(from) = named(text, b"renameClass ", b" ") else {
         return Ok(None);
     };
-    let from = cut_word(behind);
-    let Some(behind) = after(from.rest, b" ") else {
-        return Ok(None);
-    };
-    let to = cut_word(behind);
-    if !is_line_end(to.rest) || !is_identifier(from.word) || !is_identifier(to.word) {
+    let to = cut_word(from.rest);
+    if !is_command(from.word, to.word, to.rest) {
         return Ok(None);
     }
     Ok(Some(Command {
         from: Text::from_slice(alloc, from.word)?,
         to: Text::from_slice(alloc, to.word)?,
     }))
+}
+
+/// Whether both words are identifiers, and nothing else follows in the line.
+fn is_command(from: &[u8], to: &[u8], rest: &[u8]) -> bool
+    ensures { result ≡ (is_line_end rest.now && is_identifier from.now && is_identifier to.now) }
+{
+    is_line_end(rest) && is_identifier(from) && is_identifier(to)
 }
 
 /// Whether nothing is left, or a line's end alone.
@@ -63,7 +66,7 @@ fn is_line_end(rest: &[u8]) -> bool
 
 /// Whether a class of these has the name.
 fn has_class(classes: &[ClassDef], name: &[u8]) -> bool
-    ensures { result ≡ is_one_of (class_names classes.now) name.now }
+    ensures { result ≡ has_class classes.now name.now }
 {
     classes.iter().any(|class| same(name, class.name.as_slice()))
 }
