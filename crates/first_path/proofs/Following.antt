@@ -4,7 +4,8 @@ use Rattle.std.proofs.lemmas.Bool.{and_parts, not-true}
 use Rattle.std.proofs.lemmas.List.{drop_more}
 use Rattle.rb_base.specs.Names.{interned, text_eq}
 use Rattle.first_path.specs.Words.{is_one_of}
-use Rattle.first_path.specs.Images.{class_names, is_new_class, are_classes, is_new_method, are_methods, full_name}
+use Rattle.first_path.specs.Images.{class_names}
+use Rattle.first_path.specs.Checking.{is_new_class, are_classes, is_new_method, are_methods, full_name}
 use Rattle.first_path.specs.declared.image.ClassDef.{ClassDef}
 use Rattle.first_path.specs.declared.image.MethodDef.{MethodDef}
 

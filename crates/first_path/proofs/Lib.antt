@@ -7,3 +7,4 @@ pub mod Readings
 pub mod Places
 pub mod Following
 pub mod Scripts
+pub mod Checked

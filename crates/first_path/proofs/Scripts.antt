@@ -73,3 +73,13 @@ pub IsCommand-words : (w v r : List ℕ) → true ≡ (is_line_end r && is_ident
 IsCommand-words w v r h =
     let both = and_parts _ _ (sym h) in
     record { from = (and_parts _ _ both.0).1; to = both.1 }
+
+-- a script is that of one command
+pub one_script : (text : List ℕ) (c d : Command) → IsCommand c → IsCommand d → IsScript text c → IsScript text d → c ≡ d
+one_script text c d h k s t =
+    let e = Ended-script text c s in
+    let f = Ended-script text d t in
+    let first = one_word c.from d.from _ _ (IsWord-identifier c.from h.from) (IsWord-identifier d.from k.from) (blank_outside (c.to ++ e.end)) (blank_outside (d.to ++ f.end)) (append_cancel_left (codes "renameClass ") _ _ (sym e.whole ∙ f.whole)) in
+    let behind : c.to ++ e.end ≡ d.to ++ f.end = cc in
+    let second = one_word c.to d.to e.end f.end (IsWord-identifier c.to h.to) (IsWord-identifier d.to k.to) e.outside f.outside behind in
+    λ i. record { from = first.0 i; to = second.0 i }

@@ -2,11 +2,12 @@
 use Rattle.std.proofs.Common.{◌≡◌, ℕ, ◌⊎◌, inl, inr, Bool, true, false, not, ◌&&◌, ◌||◌, List, [], ◌∷◌, ◌++◌, refl, ap, sym, subst, ◌∙◌, IsTrue, map, codes, nat_le, length, true≢false}
 use Rattle.std.specs.List.{list_all, list_any, AllByRecursion}
 use Rattle.std.proofs.lemmas.Bool.{and_parts, or_cases, or_right}
+use Rattle.std.proofs.lemmas.List.Elements.{recursion_from_All}
 use Rattle.std.proofs.lemmas.Slice.Eq.{bytes_eq-Decides}
 use Rattle.rb_base.specs.Names.{text_eq}
 use Rattle.first_path.specs.Words.{is_word, is_word_byte, is_upper_word, is_lower_word, is_identifier, is_integer, is_digit, is_one_of, begins}
 use Rattle.first_path.specs.Expressions.{UnaryExpression}
-use Rattle.first_path.specs.Images.{FileImage, IsImage, class_names, is_class_name, is_new_class, are_classes, is_receiver, is_message, is_expression, is_new_method, are_methods, full_name}
+use Rattle.first_path.specs.Images.{FileImage, IsImage, class_names, is_class_name, AreDefined, is_receiver, is_message, is_expression, IsMethodOf}
 use Rattle.first_path.specs.Reading.{IsWord, HasWords, ClassHasWords, MethodHasWords, ImageHasWords}
 use Rattle.first_path.specs.declared.image.ClassDef.{ClassDef}
 use Rattle.first_path.specs.declared.image.MethodDef.{MethodDef}
@@ -110,51 +111,36 @@ IsWord-class_name : (w : List ℕ) → is_class_name w ≡ true → IsWord w
 unfolding is_class_name
 IsWord-class_name w h = IsWord-upper w (and_parts _ _ (and_parts _ _ h).0).0
 
--- the names of a class behind classes whose names are words
-ClassHasWords-new : (before : List (List ℕ)) (c : ClassDef) → AllByRecursion IsWord before → is_new_class before c ≡ true → ClassHasWords c
-unfolding is_new_class
-ClassHasWords-new before c w h =
-    let both = and_parts _ _ (and_parts _ _ h).0 in
-    record { name = IsWord-class_name c.name both.0; superclass = by (or_cases _ _ both.1) }
+-- the names of classes behind classes whose names are words
+ClassHasWords-all : (before : List (List ℕ)) (cs : List ClassDef) → AllByRecursion IsWord before → AllByRecursion (λ c. IsTrue (is_class_name c.name)) cs → AreDefined before cs → AllByRecursion ClassHasWords cs
+ClassHasWords-all before [] w h d = tt
+ClassHasWords-all before (c ∷ cs) w h d =
+    let name = IsWord-class_name c.name h.0 in
+    (record { name = name; superclass = by (or_cases _ _ d.0) }, ClassHasWords-all (before ++ c.name ∷ []) cs (AllByRecursion-push IsWord before c.name w name) h.1 d.1)
   where
     by : (text_eq c.superclass (codes "Object") ≡ true) ⊎ (is_one_of before c.superclass ≡ true) → IsWord c.superclass
     by (inl object) = IsWord-text_eq _ _ object IsWord-object
     by (inr one) = IsWord-one_of before c.superclass w one
 
-ClassHasWords-all : (before : List (List ℕ)) (cs : List ClassDef) → AllByRecursion IsWord before → are_classes before cs ≡ true → AllByRecursion ClassHasWords cs
-ClassHasWords-all before [] w h = tt
-ClassHasWords-all before (c ∷ cs) w h =
-    let both = and_parts _ _ h in
-    let words = ClassHasWords-new before c w both.0 in
-    (words, ClassHasWords-all (before ++ c.name ∷ []) cs (AllByRecursion-push IsWord before c.name w words.name) both.1)
-
 IsWord-class_names : (cs : List ClassDef) → AllByRecursion ClassHasWords cs → AllByRecursion IsWord (class_names cs)
 IsWord-class_names [] h = tt
 IsWord-class_names (c ∷ cs) h = (h.0.name, IsWord-class_names cs h.1)
 
-MethodHasWords-new : (classes before : List (List ℕ)) (m : MethodDef) → AllByRecursion IsWord classes → is_new_method classes before m ≡ true → MethodHasWords m
-unfolding is_new_method
-MethodHasWords-new classes before m w h =
-    let first = and_parts _ _ (and_parts _ _ h).0 in
-    let second = and_parts _ _ first.0 in
-    record {
-      class = IsWord-one_of classes m.class w second.0;
-      selector = IsWord-lower m.selector second.1;
-      expression = HasWords-expression m.expression first.1;
-    }
-
-MethodHasWords-all : (classes before : List (List ℕ)) (ms : List MethodDef) → AllByRecursion IsWord classes → are_methods classes before ms ≡ true → AllByRecursion MethodHasWords ms
-MethodHasWords-all classes before [] w h = tt
-MethodHasWords-all classes before (m ∷ ms) w h =
-    let both = and_parts _ _ h in
-    (MethodHasWords-new classes before m w both.0, MethodHasWords-all classes (before ++ full_name m ∷ []) ms w both.1)
+MethodHasWords-all : (classes : List (List ℕ)) (ms : List MethodDef) → AllByRecursion IsWord classes → AllByRecursion (IsMethodOf classes) ms → AllByRecursion MethodHasWords ms
+MethodHasWords-all classes [] w h = tt
+MethodHasWords-all classes (m ∷ ms) w h =
+    (record {
+      class = IsWord-one_of classes m.class w h.0.class;
+      selector = IsWord-lower m.selector h.0.selector;
+      expression = HasWords-expression m.expression h.0.expression;
+    }, MethodHasWords-all classes ms w h.1)
 
 -- the names of an image are words
 pub ImageHasWords-image : (i : FileImage) → IsImage i → ImageHasWords i
 ImageHasWords-image i h =
-    let classes = ClassHasWords-all [] i.classes tt h.classes in
+    let classes = ClassHasWords-all [] i.classes tt (recursion_from_All (λ c. IsTrue (is_class_name c.name)) i.classes h.names) h.superclasses in
     record {
       classes = classes;
-      methods = MethodHasWords-all (class_names i.classes) [] i.methods (IsWord-class_names i.classes classes) h.methods;
+      methods = MethodHasWords-all (class_names i.classes) i.methods (IsWord-class_names i.classes classes) (recursion_from_All (IsMethodOf (class_names i.classes)) i.methods h.methods);
       doit = HasWords-expression i.doit h.doit;
     }

@@ -1,5 +1,5 @@
 -- What a small file-out holds: classes, unary methods and one expression.
-use Rattle.std.specs.Prelude.{ℕ, Bool, true, not, ◌&&◌, ◌||◌, List, [], ◌∷◌, ◌++◌, map, codes, IsTrue}
+use Rattle.std.specs.Prelude.{◌≡◌, ◌≢◌, ℕ, Bool, not, ◌&&◌, ◌||◌, List, [], ◌∷◌, ◌++◌, map, codes, IsTrue, All, AllPairs}
 use Rattle.std.specs.List.{list_all}
 use Rattle.rb_base.specs.Names.{text_eq}
 use Rattle.first_path.specs.Words.{is_upper_word, is_lower_word, is_integer, is_one_of, is_pseudo_variable, is_global, is_kernel_class}
@@ -25,14 +25,10 @@ class_names = map class_name
 unfoldable pub is_class_name : List ℕ → Bool
 is_class_name w = is_upper_word w && not (is_global w) && not (is_kernel_class w)
 
--- a class may follow those of these names: its name is new, and its superclass is `Object` or one of them
-unfoldable pub is_new_class : List (List ℕ) → ClassDef → Bool
-is_new_class before c = is_class_name c.name && (text_eq c.superclass (codes "Object") || is_one_of before c.superclass) && not (is_one_of before c.name)
-
--- each class may follow those before it
-abbrev pub are_classes : List (List ℕ) → List ClassDef → Bool
-are_classes before [] = true
-are_classes before (c ∷ cs) = is_new_class before c && are_classes (before ++ c.name ∷ []) cs
+-- each superclass is `Object` or one of the names before
+abbrev pub AreDefined : List (List ℕ) → List ClassDef → Type 0
+AreDefined before [] = Unit {0}
+AreDefined before (c ∷ cs) = IsTrue (text_eq c.superclass (codes "Object") || is_one_of before c.superclass) × AreDefined (before ++ c.name ∷ []) cs
 
 -- a receiver: `self`, `nil`, an integer, or an identifier that begins upper case and is not `Transcript`
 unfoldable pub is_receiver : List ℕ → Bool
@@ -46,22 +42,21 @@ is_message w = is_lower_word w && not (is_pseudo_variable w)
 unfoldable pub is_expression : UnaryExpression → Bool
 is_expression e = is_receiver e.first && list_all is_message e.sends
 
--- the full name of a method, as `Account>>balance`; no identifier has a `>`, so it tells class and selector
-abbrev pub full_name : MethodDef → List ℕ
-full_name m = m.class ++ (62 ∷ 62 ∷ m.selector)
+-- a method of one of these classes. Its selector is any identifier that begins lower case, a pseudo-variable too
+pub record IsMethodOf (classes : List (List ℕ)) (m : MethodDef) : Type 0 where
+  pub class : IsTrue (is_one_of classes m.class)
+  pub selector : IsTrue (is_lower_word m.selector)
+  pub expression : IsTrue (is_expression m.expression)
 
--- a method may follow those of these full names: its class is one of the file and has no method of this selector yet.
--- Its selector is any identifier that begins lower case, a pseudo-variable too.
-unfoldable pub is_new_method : List (List ℕ) → List (List ℕ) → MethodDef → Bool
-is_new_method classes before m = is_one_of classes m.class && is_lower_word m.selector && is_expression m.expression && not (is_one_of before (full_name m))
-
--- each method may follow those before it
-abbrev pub are_methods : List (List ℕ) → List (List ℕ) → List MethodDef → Bool
-are_methods classes before [] = true
-are_methods classes before (m ∷ ms) = is_new_method classes before m && are_methods classes (before ++ full_name m ∷ []) ms
+-- both are methods of one class and one selector
+abbrev pub IsSameMethod : MethodDef → MethodDef → Type 0
+IsSameMethod m n = (m.class ≡ n.class) × (m.selector ≡ n.selector)
 
 -- an image of the small form
 pub record IsImage (i : FileImage) : Type 0 where
-  pub classes : IsTrue (are_classes [] i.classes)
-  pub methods : IsTrue (are_methods (class_names i.classes) [] i.methods)
+  pub names : All (λ c. IsTrue (is_class_name c.name)) i.classes
+  pub distinct : AllPairs (λ c d. c.name ≢ d.name) i.classes
+  pub superclasses : AreDefined [] i.classes
+  pub methods : All (IsMethodOf (class_names i.classes)) i.methods
+  pub single : AllPairs (λ m n. ¬ IsSameMethod m n) i.methods
   pub doit : IsTrue (is_expression i.doit)

@@ -3,9 +3,10 @@ ghost use Rattle.std.specs.Prelude.{◌≡◌, [], IfOk, IsTrue, ◌↔◌};
 ghost use Rattle.std.specs.List.{list_all};
 ghost use Rattle.rb_base.specs.Names.{text_eq};
 ghost use Rattle.first_path.specs.Words.{is_one_of};
-ghost use Rattle.first_path.specs.Images.{FileImage, IsImage, class_names, full_name, is_class_name, is_new_class, are_classes, is_receiver, is_message, is_expression, is_new_method, are_methods};
+ghost use Rattle.first_path.specs.Images.{IsImage, class_names, is_class_name, is_receiver, is_message, is_expression};
+ghost use Rattle.first_path.specs.Checking.{full_name, is_new_class, are_classes, is_new_method, are_methods};
 
-use crate::image::{ClassDef, Expression, Image, MethodDef};
+use crate::image::{ClassDef, Expression, MethodDef};
 use crate::words::{is_global, is_integer, is_kernel_class, is_lower_word, is_pseudo_variable, is_upper_word, same};
 use rb_base::{Memory, Names, Text};
 use std::alloc::Global;
@@ -26,7 +27,7 @@ fn is_one_of(names: &Names, word: &[u8]) -> bool
 }
 
 /// Whether the class may follow those of these names.
-#[tactic(auto, unfolding(crate::specs::Images::is_new_class))]
+#[tactic(auto, unfolding(crate::specs::Checking::is_new_class))]
 fn is_new_class(before: &Names, class: &ClassDef) -> bool
     ensures { result ≡ is_new_class before.now class.now }
 {
@@ -80,7 +81,7 @@ fn full_name(alloc: Global, method: &MethodDef) -> Result<Text, Memory>
 }
 
 /// Whether the method may follow those of these full names; `name` is its own.
-#[tactic(auto, unfolding(crate::specs::Images::is_new_method))]
+#[tactic(auto, unfolding(crate::specs::Checking::is_new_method))]
 fn is_new_method(classes: &Names, before: &Names, method: &MethodDef, name: &Text) -> bool
     requires { name.now ≡ full_name method.now }
     ensures { result ≡ is_new_method classes.now before.now method.now }
@@ -121,16 +122,17 @@ fn are_methods(alloc: Global, classes: &Names, methods: &[MethodDef]) -> Result<
     Ok(true)
 }
 
-/// Whether it is an image of the small form.
-pub(crate) fn is_image(alloc: Global, image: &Image) -> Result<bool, Memory>
-    ensures { IfOk result (λ answer. IsTrue answer ↔ IsImage image.now) }
+/// Whether these are the parts of an image.
+pub(crate) fn is_image(alloc: Global, classes: &[ClassDef], methods: &[MethodDef], doit: &Expression) -> Result<bool, Memory>
+    ensures { IfOk result (λ answer. IsTrue answer
+        ↔ IsImage (record { classes = classes.now; methods = methods.now; doit = doit.now })) }
 {
     let mut names = Names::new(alloc);
-    if !are_classes(image.classes.as_slice(), &mut names)? {
+    if !are_classes(classes, &mut names)? {
         return Ok(false);
     }
-    if !are_methods(alloc, &names, image.methods.as_slice())? {
+    if !are_methods(alloc, &names, methods)? {
         return Ok(false);
     }
-    Ok(is_expression(&image.doit))
+    Ok(is_expression(doit))
 }

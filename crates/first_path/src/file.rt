@@ -23,15 +23,14 @@ pub fn read_image(alloc: Global, text: &[u8]) -> Result<Option<Image>, Memory>
     if !same(doit.rest, chunk_end()) {
         return Ok(None);
     }
-    let image = Image {
+    let parts = is_image(alloc, classes.classes.as_slice(), methods.methods.as_slice(), &doit.expression)?;
+    if !parts {
+        return Ok(None);
+    }
+    Ok(Some(Image {
         alloc,
         classes: classes.classes,
         methods: methods.methods,
         doit: doit.expression,
-    };
-    if is_image(alloc, &image)? {
-        Ok(Some(image))
-    } else {
-        Ok(None)
-    }
+    }))
 }

@@ -16,6 +16,6 @@ mod write;
 pub use command::{Command, FalseCondition, first_false, read_command};
 pub use file::read_image;
 pub use image::{ClassDef, Expression, Image, MethodDef};
-pub use laws::one_image;
+pub use laws::{one_command, one_image};
 pub use rename::renamed_image;
 pub use write::write_image;

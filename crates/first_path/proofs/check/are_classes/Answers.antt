@@ -1,6 +1,6 @@
 use Rattle.std.proofs.Common.{◌≡◌, true, sym, ap, ◌∙◌}
 use Rattle.rb_base.specs.Names.{interned}
-use Rattle.first_path.specs.Images.{is_new_class}
+use Rattle.first_path.specs.Checking.{is_new_class}
 use Rattle.first_path.proofs.Following.{are_classes-more, class_names-more}
 use Rattle.first_path.proofs.check.are_classes.Goals as goal
 

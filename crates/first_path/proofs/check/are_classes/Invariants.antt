@@ -1,5 +1,6 @@
 use Rattle.std.proofs.Common.{◌≡◌, ◌++◌, [], drop}
-use Rattle.first_path.specs.Images.{class_names, are_classes}
+use Rattle.first_path.specs.Images.{class_names}
+use Rattle.first_path.specs.Checking.{are_classes}
 use Rattle.first_path.proofs.check.are_classes.Given as goal
 
 abbrev pub invariant-loop-class : goal.invariant-loop-class

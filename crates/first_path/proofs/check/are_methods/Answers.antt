@@ -1,6 +1,6 @@
 use Rattle.std.proofs.Common.{◌≡◌, true, sym, ap, ◌∙◌}
 use Rattle.rb_base.specs.Names.{interned}
-use Rattle.first_path.specs.Images.{is_new_method, full_name}
+use Rattle.first_path.specs.Checking.{is_new_method, full_name}
 use Rattle.first_path.proofs.Following.{are_methods-more}
 use Rattle.first_path.proofs.check.are_methods.Goals as goal
 

@@ -1,5 +1,5 @@
 use Rattle.std.proofs.Common.{◌≡◌, [], drop}
-use Rattle.first_path.specs.Images.{are_methods}
+use Rattle.first_path.specs.Checking.{are_methods}
 use Rattle.first_path.proofs.check.are_methods.Given as goal
 
 abbrev pub invariant-loop-method : goal.invariant-loop-method
