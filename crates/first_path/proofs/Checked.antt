@@ -1,16 +1,15 @@
 -- What passes the tests is an image, and an image passes them.
-use Rattle.std.proofs.Common.{◌≡◌, ◌≢◌, ℕ, zero, suc, ◌+◌, ◌<◌, ◌⊎◌, inl, inr, Bool, true, false, not, ◌&&◌, ◌||◌, List, [], ◌∷◌, ◌++◌, length, get_or, refl, ap, sym, subst, ◌∙◌, arith, IsTrue, codes, All, AllPairs}
-use Rattle.std.specs.List.{AllByRecursion, list_any}
+use Rattle.std.proofs.Common.{◌≡◌, ◌≢◌, ℕ, zero, suc, Bool, true, false, ◌||◌, List, [], ◌∷◌, ◌++◌, refl, ap, sym, ◌∙◌, arith, IsTrue, AllPairs}
+use Rattle.std.specs.List.{AllByRecursion}
 use Rattle.std.proofs.lemmas.Bool.{and_parts, and_from, or_parts, or_from, not-true, not_from_false, false_from_ne_true, both_ways, false≢true}
 use Rattle.std.proofs.lemmas.List.Elements.{All-from_recursion, recursion_from_All}
 use Rattle.std.proofs.lemmas.List.Folds.{list_any-append}
 use Rattle.std.proofs.lemmas.Slice.Eq.{bytes_eq-Decides}
 use Rattle.rb_base.specs.Names.{text_eq}
-use Rattle.first_path.specs.Words.{is_one_of, is_word_byte, is_lower_word}
-use Rattle.first_path.specs.Expressions.{UnaryExpression}
+use Rattle.first_path.specs.Words.{is_one_of, is_word_byte}
 use Rattle.first_path.specs.Images.{FileImage, IsImage, class_names, is_class_name, AreDefined, is_expression, IsMethodOf, IsSameMethod}
 use Rattle.first_path.specs.Checking.{is_new_class, are_classes, full_name, is_new_method, are_methods}
-use Rattle.first_path.specs.Reading.{IsWord, BeginsOutside, MethodHasWords}
+use Rattle.first_path.specs.Reading.{BeginsOutside, MethodHasWords}
 use Rattle.first_path.specs.declared.image.ClassDef.{ClassDef}
 use Rattle.first_path.specs.declared.image.MethodDef.{MethodDef}
 use Rattle.first_path.proofs.Cutting.{one_word}

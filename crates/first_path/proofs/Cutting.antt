@@ -1,7 +1,7 @@
 -- Words and what stands behind them.
-use Rattle.std.proofs.Common.{◌≡◌, ◌≢◌, ℕ, zero, suc, ◌+◌, ◌<◌, ◌≤◌, ◌⊎◌, inl, inr, Bool, true, false, not, ◌&&◌, List, [], ◌∷◌, ◌++◌, length, take, drop, Some, None, Option, cond, refl, ap, sym, subst, ◌∙◌, arith, take_all, true≢false, IsTrue, nat_lt, position}
-use Rattle.std.specs.List.{list_all, position_or_len}
-use Rattle.std.proofs.lemmas.Bool.{and_parts, and_from, cases_Bool, ltb-false, ltb-true, not_from_true, not_from_false}
+use Rattle.std.proofs.Common.{◌≡◌, ℕ, ◌⊎◌, inl, inr, Bool, true, false, not, List, [], ◌∷◌, ◌++◌, length, take, drop, Some, None, cond, refl, ap, sym, subst, ◌∙◌, take_all, true≢false, nat_lt, position}
+use Rattle.std.specs.List.{position_or_len}
+use Rattle.std.proofs.lemmas.Bool.{and_parts, and_from, cases_Bool, ltb-false}
 use Rattle.std.proofs.Math.Numerals.{one-add}
 use Rattle.std.proofs.lemmas.List.{take-append-drop, append-nil}
 use Rattle.first_path.specs.Words.{is_word, is_word_byte}

@@ -1,8 +1,8 @@
 -- One more class or method behind those that were looked at.
-use Rattle.std.proofs.Common.{◌≡◌, ℕ, ◌+◌, ◌<◌, Bool, true, false, not, ◌&&◌, List, [], ◌∷◌, ◌++◌, length, get_or, drop, map, refl, ap, sym, subst, ◌∙◌, append_assoc, if◌then◌else◌}
+use Rattle.std.proofs.Common.{◌≡◌, ℕ, ◌+◌, ◌<◌, true, false, ◌&&◌, List, [], ◌∷◌, ◌++◌, length, get_or, drop, ap, sym, ◌∙◌, append_assoc, if◌then◌else◌}
 use Rattle.std.proofs.lemmas.Bool.{and_parts, not-true}
 use Rattle.std.proofs.lemmas.List.{drop_more}
-use Rattle.rb_base.specs.Names.{interned, text_eq}
+use Rattle.rb_base.specs.Names.{interned}
 use Rattle.first_path.specs.Words.{is_one_of}
 use Rattle.first_path.specs.Images.{class_names}
 use Rattle.first_path.specs.Checking.{is_new_class, are_classes, is_new_method, are_methods, full_name}

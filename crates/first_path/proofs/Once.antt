@@ -1,14 +1,13 @@
 -- A text is that of one image.
-use Rattle.std.proofs.Common.{◌≡◌, ◌≢◌, ℕ, false, subst, List, [], ◌∷◌, ◌++◌, refl, ap, sym, ◌∙◌}
-use Rattle.std.specs.List.{flat_map, AllByRecursion}
+use Rattle.std.proofs.Common.{◌≡◌, ◌≢◌, ℕ, false, subst, List, [], refl, sym, ◌∙◌}
 use Rattle.std.proofs.lemmas.List.{append-nil}
 use Rattle.std.proofs.lemmas.Bool.{false≢true}
 use Rattle.std.proofs.lemmas.Slice.Eq.{bytes_eq-Decides}
 use Rattle.rb_base.specs.Names.{text_eq}
 use Rattle.first_path.specs.Expressions.{UnaryExpression}
 use Rattle.first_path.specs.Images.{FileImage, IsImage}
-use Rattle.first_path.specs.Texts.{chunk_end, class_text, expression_text, method_text, doit_text, text_of}
-use Rattle.first_path.specs.Reading.{EndsExpression, HasWords, ClassHasWords, MethodHasWords, ImageHasWords, SpellsClasses, SpellsMethods, SpellsExpression}
+use Rattle.first_path.specs.Texts.{chunk_end, class_text, method_text, text_of}
+use Rattle.first_path.specs.Reading.{EndsExpression, ClassHasWords, MethodHasWords, ImageHasWords, SpellsClasses, SpellsMethods, SpellsExpression}
 use Rattle.first_path.specs.declared.image.ClassDef.{ClassDef}
 use Rattle.first_path.specs.declared.image.MethodDef.{MethodDef}
 use Rattle.first_path.proofs.Lists.{one_list}

@@ -1,17 +1,13 @@
 -- What is read of a small file-out, part by part.
-use Rattle.std.proofs.Common.{◌≡◌, ◌≢◌, ℕ, ◌+◌, ◌<◌, ◌≤◌, List, [], ◌∷◌, ◌++◌, length, refl, ap, sym, subst, ◌∙◌, arith, append_assoc, length-append}
-use Rattle.std.specs.List.{flat_map, AllByRecursion}
+use Rattle.std.proofs.Common.{◌≡◌, ◌≢◌, ℕ, ◌+◌, ◌<◌, ◌≤◌, List, [], ◌∷◌, ◌++◌, length, refl, ap, sym, ◌∙◌, arith, append_assoc, length-append}
+use Rattle.std.specs.List.{flat_map}
 use Rattle.std.proofs.lemmas.List.{append_cancel_left}
 use Rattle.std.proofs.lemmas.Grind.{flat_map-append}
-use Rattle.first_path.specs.Words.{is_word_byte}
 use Rattle.first_path.specs.Expressions.{UnaryExpression}
-use Rattle.first_path.specs.Texts.{class_middle, class_end, run_middle, run_end, body_start, class_text, message_text, expression_text, method_text}
-use Rattle.first_path.specs.Reading.{BeginsOutside, IsCut, IsWord, EndsWord, EndsExpression, HasWords, ClassHasWords, MethodHasWords, NoClass, NoMethod, NoneBetween, SpellsBetween, SpellsMessages, SpellsExpression, SpellsClass, SpellsMethod, SpellsClasses, SpellsMethods}
-use Rattle.first_path.specs.declared.image.ClassDef.{ClassDef}
-use Rattle.first_path.specs.declared.image.MethodDef.{MethodDef}
+use Rattle.first_path.specs.Texts.{class_middle, class_end, run_middle, run_end, body_start, message_text, expression_text}
+use Rattle.first_path.specs.Reading.{BeginsOutside, IsCut, EndsWord, EndsExpression, NoClass, NoMethod, NoneBetween, SpellsBetween, SpellsMessages, SpellsExpression, SpellsClass, SpellsMethod}
 use Rattle.first_path.proofs.Cutting.{one_word}
-use Rattle.first_path.proofs.Lists.{AllByRecursion-push}
-use Rattle.first_path.proofs.Spelling.{one_expression, class_text-append, method_text-append, EndsWord-class_middle, EndsWord-class_end, EndsWord-run_middle, EndsWord-body_start, EndsExpression-run_end}
+use Rattle.first_path.proofs.Spelling.{one_expression, class_text-append, method_text-append, EndsWord-class_middle, EndsWord-run_middle, EndsWord-body_start, EndsExpression-run_end}
 
 -- a word is there, and the bytes behind it are not
 pub NoneBetween-behind : (text before behind begun w r : List ℕ) → text ≡ before ++ begun → IsCut begun w r → ((x : List ℕ) → r ≢ behind ++ x) → EndsWord behind → NoneBetween text before behind

@@ -1,14 +1,14 @@
 -- Each part of a small file-out is spelled in one way.
-use Rattle.std.proofs.Common.{◌≡◌, ◌≢◌, ℕ, Bool, true, false, List, [], ◌∷◌, ◌++◌, refl, ap, sym, subst, ◌∙◌, arith, append_assoc, true≢false, IsTrue, codes}
+use Rattle.std.proofs.Common.{◌≡◌, ◌≢◌, ℕ, false, List, [], ◌∷◌, ◌++◌, refl, ap, sym, ◌∙◌, arith, append_assoc, true≢false, codes}
 use Rattle.std.specs.List.{flat_map, AllByRecursion}
 use Rattle.std.proofs.lemmas.List.{append_cancel_left}
 use Rattle.first_path.specs.Words.{is_word, is_word_byte}
 use Rattle.first_path.specs.Expressions.{UnaryExpression}
 use Rattle.first_path.specs.Texts.{class_middle, class_end, run_middle, run_end, body_start, chunk_end, class_text, message_text, expression_text, method_text, doit_text}
-use Rattle.first_path.specs.Reading.{BeginsOutside, IsCut, IsWord, EndsWord, EndsExpression, HasWords, ClassHasWords, MethodHasWords, NoClass, NoMethod, NoneBetween, SpellsBetween, SpellsExpression, SpellsClass, SpellsMethod}
+use Rattle.first_path.specs.Reading.{BeginsOutside, IsWord, EndsWord, EndsExpression, HasWords, ClassHasWords, MethodHasWords, NoClass, NoMethod}
 use Rattle.first_path.specs.declared.image.ClassDef.{ClassDef}
 use Rattle.first_path.specs.declared.image.MethodDef.{MethodDef}
-use Rattle.first_path.proofs.Cutting.{one_word, IsWord-parts, IsWord-nil, IsWord-cons}
+use Rattle.first_path.proofs.Cutting.{one_word, IsWord-parts}
 use Rattle.first_path.proofs.Lists.{Stops, one_list, Follows-flat_map}
 
 pub EndsWord-class_middle : EndsWord class_middle

@@ -1,6 +1,6 @@
 -- The names of an image are words.
-use Rattle.std.proofs.Common.{◌≡◌, ℕ, ◌⊎◌, inl, inr, Bool, true, false, not, ◌&&◌, ◌||◌, List, [], ◌∷◌, ◌++◌, refl, ap, sym, subst, ◌∙◌, IsTrue, map, codes, nat_le, length, true≢false}
-use Rattle.std.specs.List.{list_all, list_any, AllByRecursion}
+use Rattle.std.proofs.Common.{◌≡◌, ℕ, ◌⊎◌, inl, inr, true, not, ◌&&◌, ◌||◌, List, [], ◌∷◌, ◌++◌, refl, ap, sym, subst, ◌∙◌, IsTrue, codes, nat_le, length, true≢false}
+use Rattle.std.specs.List.{list_all, AllByRecursion}
 use Rattle.std.proofs.lemmas.Bool.{and_parts, or_cases, or_right}
 use Rattle.std.proofs.lemmas.List.Elements.{recursion_from_All}
 use Rattle.std.proofs.lemmas.Slice.Eq.{bytes_eq-Decides}
@@ -128,12 +128,14 @@ IsWord-class_names (c ∷ cs) h = (h.0.name, IsWord-class_names cs h.1)
 
 MethodHasWords-all : (classes : List (List ℕ)) (ms : List MethodDef) → AllByRecursion IsWord classes → AllByRecursion (IsMethodOf classes) ms → AllByRecursion MethodHasWords ms
 MethodHasWords-all classes [] w h = tt
-MethodHasWords-all classes (m ∷ ms) w h =
-    (record {
-      class = IsWord-one_of classes m.class w h.0.class;
-      selector = IsWord-lower m.selector h.0.selector;
-      expression = HasWords-expression m.expression h.0.expression;
-    }, MethodHasWords-all classes ms w h.1)
+MethodHasWords-all classes (m ∷ ms) w h = (
+  record {
+    class = IsWord-one_of classes m.class w h.0.class;
+    selector = IsWord-lower m.selector h.0.selector;
+    expression = HasWords-expression m.expression h.0.expression;
+  },
+  MethodHasWords-all classes ms w h.1,
+)
 
 -- the names of an image are words
 pub ImageHasWords-image : (i : FileImage) → IsImage i → ImageHasWords i

@@ -1,5 +1,5 @@
 -- The one command, its conditions and what it does.
-use Rattle.std.specs.Prelude.{◌≡◌, ◌==◌, ℕ, Bool, true, false, not, ◌&&◌, ◌||◌, ◌⊎◌, nat_le, List, [], ◌∷◌, ◌++◌, length, map, Option, None, Some, codes, IsTrue, if◌then◌else◌}
+use Rattle.std.specs.Prelude.{◌≡◌, ◌==◌, ℕ, Bool, not, ◌&&◌, ◌||◌, ◌⊎◌, nat_le, List, [], ◌∷◌, ◌++◌, length, map, Option, None, Some, codes, IsTrue, if◌then◌else◌}
 use Rattle.std.specs.List.{list_any}
 use Rattle.rb_base.specs.Names.{text_eq}
 use Rattle.first_path.specs.Words.{is_identifier, is_upper_word, is_pseudo_variable, is_global, is_kernel_class}

@@ -1,6 +1,6 @@
 -- How a small file-out is read from its front.
-use Rattle.std.specs.Prelude.{◌≡◌, ◌≢◌, ℕ, Bool, false, List, [], ◌∷◌, ◌++◌, IsTrue}
-use Rattle.std.specs.List.{list_all, flat_map, AllByRecursion}
+use Rattle.std.specs.Prelude.{◌≡◌, ◌≢◌, ℕ, false, List, [], ◌∷◌, ◌++◌, IsTrue}
+use Rattle.std.specs.List.{flat_map, AllByRecursion}
 use Rattle.first_path.specs.Words.{is_word, is_word_byte}
 use Rattle.first_path.specs.Expressions.{UnaryExpression}
 use Rattle.first_path.specs.Images.{FileImage}

@@ -7,7 +7,9 @@ ghost use Rattle.first_path.specs.Images.{IsImage, class_names, is_class_name, i
 ghost use Rattle.first_path.specs.Checking.{full_name, is_new_class, are_classes, is_new_method, are_methods};
 
 use crate::image::{ClassDef, Expression, MethodDef};
-use crate::words::{is_global, is_integer, is_kernel_class, is_lower_word, is_pseudo_variable, is_upper_word, same};
+use crate::words::{
+    is_global, is_integer, is_kernel_class, is_lower_word, is_pseudo_variable, is_upper_word, same,
+};
 use rb_base::{Memory, Names, Text};
 use std::alloc::Global;
 
@@ -33,7 +35,9 @@ fn is_new_class(before: &Names, class: &ClassDef) -> bool
 {
     let name = class.name.as_slice();
     let superclass = class.superclass.as_slice();
-    is_class_name(name) && (same(superclass, b"Object") || is_one_of(before, superclass)) && !is_one_of(before, name)
+    is_class_name(name)
+        && (same(superclass, b"Object") || is_one_of(before, superclass))
+        && !is_one_of(before, name)
 }
 
 /// Whether it is a receiver.
@@ -123,7 +127,12 @@ fn are_methods(alloc: Global, classes: &Names, methods: &[MethodDef]) -> Result<
 }
 
 /// Whether these are the parts of an image.
-pub(crate) fn is_image(alloc: Global, classes: &[ClassDef], methods: &[MethodDef], doit: &Expression) -> Result<bool, Memory>
+pub(crate) fn is_image(
+    alloc: Global,
+    classes: &[ClassDef],
+    methods: &[MethodDef],
+    doit: &Expression,
+) -> Result<bool, Memory>
     ensures { IfOk result (λ answer. IsTrue answer
         ↔ IsImage (record { classes = classes.now; methods = methods.now; doit = doit.now })) }
 {

@@ -7,7 +7,9 @@ ghost use Rattle.first_path.specs.Commands.{IsCommand, IsScript, is_line_end, fi
 
 use crate::image::{ClassDef, Expression, Image, MethodDef};
 use crate::read::named;
-use crate::words::{cut_word, is_global, is_identifier, is_kernel_class, is_pseudo_variable, is_upper_word, same};
+use crate::words::{
+    cut_word, is_global, is_identifier, is_kernel_class, is_pseudo_variable, is_upper_word, same,
+};
 use rb_base::{Memory, Text};
 use std::alloc::Global;
 
@@ -68,7 +70,9 @@ fn is_line_end(rest: &[u8]) -> bool
 fn has_class(classes: &[ClassDef], name: &[u8]) -> bool
     ensures { result ≡ has_class classes.now name.now }
 {
-    classes.iter().any(|class| same(name, class.name.as_slice()))
+    classes
+        .iter()
+        .any(|class| same(name, class.name.as_slice()))
 }
 
 /// Whether the expression names it.
@@ -82,7 +86,9 @@ fn names_first(name: &[u8], expression: &Expression) -> bool
 fn is_named(methods: &[MethodDef], name: &[u8]) -> bool
     ensures { result ≡ list_any (λ m. names_first name.now m.expression) methods.now }
 {
-    methods.iter().any(|method| names_first(name, &method.expression))
+    methods
+        .iter()
+        .any(|method| names_first(name, &method.expression))
 }
 
 /// Whether it is a class of the file.

@@ -23,7 +23,12 @@ pub fn read_image(alloc: Global, text: &[u8]) -> Result<Option<Image>, Memory>
     if !same(doit.rest, chunk_end()) {
         return Ok(None);
     }
-    let parts = is_image(alloc, classes.classes.as_slice(), methods.methods.as_slice(), &doit.expression)?;
+    let parts = is_image(
+        alloc,
+        classes.classes.as_slice(),
+        methods.methods.as_slice(),
+        &doit.expression,
+    )?;
     if !parts {
         return Ok(None);
     }

@@ -23,15 +23,20 @@ impl Model for Expression {
 /// The definition of a class.
 #[derive(Drop)]
 pub struct ClassDef {
+    /// The name of the class.
     pub name: Text,
+    /// The name of its superclass.
     pub superclass: Text,
 }
 
 /// A unary method, which answers its expression.
 #[derive(Drop)]
 pub struct MethodDef {
+    /// The name of its class.
     pub class: Text,
+    /// Its selector.
     pub selector: Text,
+    /// What it answers.
     pub expression: Expression,
 }
 

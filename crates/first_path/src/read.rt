@@ -86,7 +86,10 @@ fn read_messages<'t>(alloc: Global, text: &'t [u8]) -> Result<ReadMessages<'t>, 
 }
 
 /// Reads an expression.
-pub(crate) fn read_expression<'t>(alloc: Global, text: &'t [u8]) -> Result<ReadExpression<'t>, Memory>
+pub(crate) fn read_expression<'t>(
+    alloc: Global,
+    text: &'t [u8],
+) -> Result<ReadExpression<'t>, Memory>
     ensures { IfOk result (λ r. SpellsExpression text.now r.expression r.rest.now) }
 {
     let receiver = cut_word(text);

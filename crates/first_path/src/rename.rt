@@ -41,7 +41,11 @@ fn renamed_class(alloc: Global, class: &ClassDef, command: &Command) -> Result<C
 }
 
 /// The expression with the new name.
-fn renamed_expression(alloc: Global, expression: &Expression, command: &Command) -> Result<Expression, Memory>
+fn renamed_expression(
+    alloc: Global,
+    expression: &Expression,
+    command: &Command,
+) -> Result<Expression, Memory>
     ensures { IfOk result (λ renamed. renamed ≡ renamed_expression command.now expression.now) }
 {
     Ok(Expression {
@@ -62,7 +66,11 @@ fn renamed_method(alloc: Global, method: &MethodDef, command: &Command) -> Resul
 }
 
 /// The classes with the new name.
-fn renamed_classes(alloc: Global, classes: &[ClassDef], command: &Command) -> Result<Vec<ClassDef>, Memory>
+fn renamed_classes(
+    alloc: Global,
+    classes: &[ClassDef],
+    command: &Command,
+) -> Result<Vec<ClassDef>, Memory>
     ensures { IfOk result (λ renamed. renamed.items ≡ map (renamed_class command.now) classes.now) }
 {
     let mut renamed = Vec::new(alloc);
@@ -73,7 +81,11 @@ fn renamed_classes(alloc: Global, classes: &[ClassDef], command: &Command) -> Re
 }
 
 /// The methods with the new name.
-fn renamed_methods(alloc: Global, methods: &[MethodDef], command: &Command) -> Result<Vec<MethodDef>, Memory>
+fn renamed_methods(
+    alloc: Global,
+    methods: &[MethodDef],
+    command: &Command,
+) -> Result<Vec<MethodDef>, Memory>
     ensures { IfOk result (λ renamed. renamed.items ≡ map (renamed_method command.now) methods.now) }
 {
     let mut renamed = Vec::new(alloc);

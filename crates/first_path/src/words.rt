@@ -16,7 +16,9 @@ pub(crate) struct Cut<'t> {
 fn is_word_byte(byte: u8) -> bool
     ensures { result ≡ is_word_byte byte }
 {
-    (byte >= b'A' && byte <= b'Z') || (byte >= b'a' && byte <= b'z') || (byte >= b'0' && byte <= b'9')
+    (byte >= b'A' && byte <= b'Z')
+        || (byte >= b'a' && byte <= b'z')
+        || (byte >= b'0' && byte <= b'9')
 }
 
 /// Whether both texts are the same.
@@ -109,7 +111,10 @@ pub(crate) fn is_global(word: &[u8]) -> bool
 pub(crate) fn is_kernel_class(word: &[u8]) -> bool
     ensures { result ≡ is_kernel_class word.now }
 {
-    same(word, b"Object") || same(word, b"UndefinedObject") || same(word, b"Integer") || same(word, b"Class")
+    same(word, b"Object")
+        || same(word, b"UndefinedObject")
+        || same(word, b"Integer")
+        || same(word, b"Class")
 }
 
 /// What stands behind the expected bytes, where the text begins with them.

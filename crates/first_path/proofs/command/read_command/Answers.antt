@@ -1,4 +1,4 @@
-use Rattle.first_path.proofs.Scripts.{EndsWord-blank, no_script-start, no_script-words, IsScript-words, IsCommand-words}
+use Rattle.first_path.proofs.Scripts.{EndsWord-blank, no_script-start, no_script-words, IsScript-words}
 use Rattle.first_path.proofs.command.read_command.Goals as goal
 
 pub named-requires : goal.named-requires

@@ -1,5 +1,5 @@
 use Rattle.first_path.proofs.Spelling.{EndsWord-class_middle, EndsWord-class_end}
-use Rattle.first_path.proofs.Readings.{NoClass-superclass, NoClass-name, SpellsClass-from, shorter_class}
+use Rattle.first_path.proofs.Readings.{NoClass-name, shorter_class}
 use Rattle.first_path.proofs.read.read_class.Goals as goal
 
 pub named-requires : goal.named-requires

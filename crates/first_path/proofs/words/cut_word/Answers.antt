@@ -1,4 +1,3 @@
-use Rattle.std.proofs.Common.{take_all}
 use Rattle.first_path.proofs.Cutting.{IsCut-from_none, IsCut-from_some}
 use Rattle.first_path.proofs.words.cut_word.Goals as goal
 

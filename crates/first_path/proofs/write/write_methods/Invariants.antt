@@ -1,4 +1,4 @@
-use Rattle.std.proofs.Common.{◌≡◌, ◌++◌, drop, Some, None}
+use Rattle.std.proofs.Common.{◌≡◌, ◌++◌, drop, Some}
 use Rattle.first_path.specs.Texts.{runs_text}
 use Rattle.first_path.proofs.write.write_methods.Given as goal
 
