@@ -16,7 +16,7 @@ is_end kind = false
 
 -- where the reader stands at first
 abbrev pub start : List ℕ → Unread
-start t = record { text = t; at = 0; over = false }
+start text = record { text = text; at = 0; over = false }
 
 -- a call gives the next token, then the fault or the end, and nothing after that
 abbrev pub Gives : Unread → Option (Result Token LexFault) → Unread → Type 0

@@ -9,4 +9,4 @@ piece token = record { kind = token.kind; from = token.from; to = token.to }
 
 -- its text is the slice of its span
 abbrev pub IsSliceOf : List ℕ → Token → Type 0
-IsSliceOf t token = token.text.now ≡ slice_range t token.from token.to
+IsSliceOf text token = token.text.now ≡ slice_range text token.from token.to

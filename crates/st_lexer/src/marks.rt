@@ -12,8 +12,8 @@ use token_model::{LexFault, TokenKind};
 
 /// The kind of token that a byte is alone, whatever follows it.
 fn single_kind(byte: u8) -> Option<TokenKind>
-    ensures some { IfSome result (λ kind. (t : List ℕ) (i : ℕ) → Has t i byte → IsToken Second kind t i (i + 1)) }
-    ensures none { IfNone result ((t : List ℕ) (i : ℕ) → Has t i byte → i < length t → Fails is_letter t i → Fails is_digit t i → Fails is_binary t i → byte ≢ 58 → byte ≢ 35 → byte ≢ 39 → byte ≢ 34 → byte ≢ 36 → NoToken Second t i) }
+    ensures some { IfSome result (λ kind. (text : List ℕ) (i : ℕ) → Has text i byte → IsToken Second kind text i (i + 1)) }
+    ensures none { IfNone result ((text : List ℕ) (i : ℕ) → Has text i byte → i < length text → Fails is_letter text i → Fails is_digit text i → Fails is_binary text i → byte ≢ 58 → byte ≢ 35 → byte ≢ 39 → byte ≢ 34 → byte ≢ 36 → NoToken Second text i) }
 {
     match byte {
         b'|' => Some(TokenKind::Bar),
@@ -67,7 +67,7 @@ fn hash_token(text: &[u8], from: usize) -> Result<(TokenKind, usize), LexFault>
 /// The fault at a `#` that begins no token, by the byte behind it.
 fn hash_fault(second: u8, from: usize) -> LexFault
     requires { from < 2 ^ 63 }
-    ensures { (t : List ℕ) → Has t from 35 → Has t (from + 1) second → FaultsAs t from result }
+    ensures { (text : List ℕ) → Has text from 35 → Has text (from + 1) second → FaultsAs text from result }
 {
     if second == b'\'' {
         LexFault::OpenString { at: from + 1 }

@@ -39,18 +39,18 @@ is_second b = is_binary b && not (b == 45)
 
 -- this byte stands at i
 abbrev pub Has : List ℕ → ℕ → ℕ → Type 0
-Has t i b = slice_index t i ≡ b
+Has text i b = slice_index text i ≡ b
 
 -- the byte at i is in the class
 abbrev pub Passes : (ℕ → Bool) → List ℕ → ℕ → Type 0
-Passes p t i = p (slice_index t i) ≡ true
+Passes p text i = p (slice_index text i) ≡ true
 
 -- the byte at i is not in the class
 abbrev pub Fails : (ℕ → Bool) → List ℕ → ℕ → Type 0
-Fails p t i = p (slice_index t i) ≡ false
+Fails p text i = p (slice_index text i) ≡ false
 
 -- the longest run of such bytes from i on ends at j
-pub record IsRun (p : ℕ → Bool) (t : List ℕ) (i j : ℕ) : Type 0 where
+pub record IsRun (p : ℕ → Bool) (text : List ℕ) (i j : ℕ) : Type 0 where
   pub order : i ≤ j
-  pub all : (k : ℕ) → i ≤ k → k < j → Passes p t k
-  pub stops : Fails p t j
+  pub all : (k : ℕ) → i ≤ k → k < j → Passes p text k
+  pub stops : Fails p text j
