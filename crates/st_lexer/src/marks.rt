@@ -1,7 +1,8 @@
 ghost use Rattle.std.specs.Prelude.{◌≡◌, ◌≢◌, ℕ, ◌+◌, ◌^◌, ◌<◌, ◌≤◌, ◌⊎◌, List, length, slice_index, IfSome, IfNone, IfOk, IfErr};
 ghost use Rattle.token_model.specs.Bytes.{is_letter, is_digit, is_binary, Has, Passes, Fails};
-ghost use Rattle.token_model.specs.Tokens.{IsToken, NoToken};
+ghost use Rattle.token_model.specs.Tokens.{IsToken};
 ghost use Rattle.token_model.specs.Faults.{FaultsAs, IsFault};
+ghost use Rattle.st_lexer.specs.Marks.{IsAlone, BeginsNoMark};
 ghost use Rattle.token_model.specs.declared.kind.Dialect.TheVariants.{Second};
 
 use crate::bytes::{byte_at, is_binary_byte, is_digit_byte, is_letter_byte};
@@ -12,8 +13,8 @@ use token_model::{LexFault, TokenKind};
 
 /// The kind of token that a byte is alone, whatever follows it.
 fn single_kind(byte: u8) -> Option<TokenKind>
-    ensures some { IfSome result (λ kind. (text : List ℕ) (i : ℕ) → Has text i byte → IsToken Second kind text i (i + 1)) }
-    ensures none { IfNone result ((text : List ℕ) (i : ℕ) → Has text i byte → i < length text → Fails is_letter text i → Fails is_digit text i → Fails is_binary text i → byte ≢ 58 → byte ≢ 35 → byte ≢ 39 → byte ≢ 34 → byte ≢ 36 → NoToken Second text i) }
+    ensures some { IfSome result (IsAlone byte) }
+    ensures none { IfNone result (BeginsNoMark byte) }
 {
     match byte {
         b'|' => Some(TokenKind::Bar),
@@ -67,7 +68,8 @@ fn hash_token(text: &[u8], from: usize) -> Result<(TokenKind, usize), LexFault>
 /// The fault at a `#` that begins no token, by the byte behind it.
 fn hash_fault(second: u8, from: usize) -> LexFault
     requires { from < 2 ^ 63 }
-    ensures { (text : List ℕ) → Has text from 35 → Has text (from + 1) second → FaultsAs text from result }
+    ensures { (text : List ℕ) → Has text from 35 → Has text (from + 1) second →
+        FaultsAs text from result }
 {
     if second == b'\'' {
         LexFault::OpenString { at: from + 1 }

@@ -82,5 +82,7 @@ impl<'t> Iterator for TokenIter<'t> {
 /// What the calls of `next` give, from a text's start until they give `None`, are the tokens of the
 /// text and its first fault, if it has one.
 pub fn gives_the_tokens()
-    ensures { (text : List ℕ) (items : List (Result Token LexFault)) (last : Unread) → YieldsThen Gives (start text) items None last → HasTokens Second text 0 (pieces items) (first_fault items) }
+    ensures { (text : List ℕ) (items : List (Result Token LexFault)) (last : Unread) →
+        YieldsThen Gives (start text) items None last →
+        HasTokens Second text 0 (pieces items) (first_fault items) }
 {}
