@@ -1,0 +1,15 @@
+//! The program: what the words of a command line and the files that they name are answered with.
+#![tactic(auto)]
+
+mod apply;
+mod load;
+mod send;
+mod status;
+mod top;
+mod words;
+
+#[cfg(test)]
+mod tests;
+
+pub use status::Status;
+pub use top::{browse, has_one_answer};
