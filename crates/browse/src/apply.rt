@@ -8,7 +8,9 @@ ghost use Rattle.browse.specs.declared.status.Status.{Status};
 
 use crate::load::{load, push_line};
 use crate::status::Status;
-use first_path::{Command, FalseCondition, first_false, read_command, read_image, renamed_image, write_image};
+use first_path::{
+    Command, FalseCondition, first_false, read_command, read_image, renamed_image, write_image,
+};
 use rb_base::{Memory, Shelf, Text};
 use std::alloc::Global;
 
@@ -34,9 +36,17 @@ fn push_refusal(command: &Command, condition: FalseCondition, out: &mut Text) ->
     ensures { OnOk result (out.new ≡ refusal command.now condition) }
 {
     match condition {
-        FalseCondition::IsUserClass => push_line(out, "refused 1 C2 IsUserClass ", command.from.as_slice()),
+        FalseCondition::IsUserClass => push_line(
+            out,
+            "refused 1 C2 IsUserClass ",
+            command.from.as_slice(),
+        ),
         FalseCondition::GoodName => push_line(out, "refused 1 C3 GoodName ", command.to.as_slice()),
-        FalseCondition::NameUnused => push_line(out, "refused 1 C4 NameUnused ", command.to.as_slice()),
+        FalseCondition::NameUnused => push_line(
+            out,
+            "refused 1 C4 NameUnused ",
+            command.to.as_slice(),
+        ),
     }
 }
 
@@ -65,7 +75,13 @@ fn apply_texts(alloc: Global, image: &[u8], script: &[u8], out: &mut Text) -> Re
 }
 
 /// The answer to the two files.
-pub fn apply<F: Shelf>(alloc: Global, shelf: &mut F, image: &str, script: &str, out: &mut Text) -> Result<Status, Memory>
+pub fn apply<F: Shelf>(
+    alloc: Global,
+    shelf: &mut F,
+    image: &str,
+    script: &str,
+    out: &mut Text,
+) -> Result<Status, Memory>
     requires { out.old ≡ [] }
     ensures answered { IfOk result (λ status. AnswersForm (world F.told F.faults F.taken shelf.old shelf.new) (Apply image.now script.now) status out.new) }
     ensures same { F.told shelf.new ≡ F.told shelf.old }

@@ -5,11 +5,10 @@ mod apply;
 mod load;
 mod send;
 mod status;
-mod top;
-mod words;
-
 #[cfg(test)]
 mod tests;
+mod top;
+mod words;
 
 pub use status::Status;
 pub use top::{browse, has_one_answer};

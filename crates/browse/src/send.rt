@@ -19,5 +19,9 @@ pub fn send<K: Sink>(bytes: &[u8], out: &mut K) -> Result<(), SinkError>
         out.put(piece)?;
         rest = others;
     }
-    if rest.is_empty() { Ok(()) } else { out.put(rest) }
+    if rest.is_empty() {
+        Ok(())
+    } else {
+        out.put(rest)
+    }
 }

@@ -14,7 +14,12 @@ use rb_base::{Memory, Shelf, Sink, SinkError, Text};
 use std::alloc::Global;
 
 /// Builds the whole answer.
-fn answer<F: Shelf>(alloc: Global, words: &[String], shelf: &mut F, out: &mut Text) -> Result<Status, Memory>
+fn answer<F: Shelf>(
+    alloc: Global,
+    words: &[String],
+    shelf: &mut F,
+    out: &mut Text,
+) -> Result<Status, Memory>
     requires { out.old ≡ [] }
     ensures answered { IfOk result (λ status. Answers (world F.told F.faults F.taken shelf.old shelf.new) (map string_bytes words.now) status out.new) }
     ensures same { F.told shelf.new ≡ F.told shelf.old }
@@ -27,7 +32,12 @@ fn answer<F: Shelf>(alloc: Global, words: &[String], shelf: &mut F, out: &mut Te
 
 /// Does what the words say, with the files of `shelf`, and sends the answer to `out`: the whole of it is built before the first
 /// piece is sent, and no piece follows one that failed.
-pub fn browse<F: Shelf, K: Sink>(alloc: Global, words: &[String], shelf: &mut F, out: &mut K) -> Status
+pub fn browse<F: Shelf, K: Sink>(
+    alloc: Global,
+    words: &[String],
+    shelf: &mut F,
+    out: &mut K,
+) -> Status
     // Unless memory is wanting or the output fails, the status and what is sent answer the words.
     ensures answered { result ≢ Status.Memory → result ≢ Status.Write → (bytes : List ℕ) ×
         Answers (world F.told F.faults F.taken shelf.old shelf.new) (map string_bytes words.now) result bytes
@@ -63,5 +73,4 @@ pub fn browse<F: Shelf, K: Sink>(alloc: Global, words: &[String], shelf: &mut F,
 pub fn has_one_answer()
     ensures { (w : World) (words : List (List ℕ)) (s t : Status) (x y : List ℕ) → IsHonest w (files_of (form_of words)) →
         Answers w words s x → Answers w words t y → (s ≡ t) × (x ≡ y) }
-{
-}
+{}
