@@ -20,12 +20,15 @@ abbrev pub lead : ℕ → ℕ → TokenKind
 lead b c =
     if is_letter b then Identifier else (if is_digit b then Numeral else (if is_binary b then Binary else (if b == 58 then (if c == 61 then Assign else Colon) else (if b == 35 then (if c == 40 then ArrayOpen else (if c == 91 then BytesOpen else Symbol)) else mark_of b))))
 
+-- a digit is no letter
 digit-letter : (b : ℕ) → is_digit b ≡ true → is_letter b ≡ false
 digit-letter b h = grind (arith, nat_tests)
 
+-- a binary character is no letter
 binary-letter : (b : ℕ) → is_binary b ≡ true → is_letter b ≡ false
 binary-letter b h = grind (arith, nat_tests)
 
+-- a binary character is no digit
 binary-digit : (b : ℕ) → is_binary b ≡ true → is_digit b ≡ false
 binary-digit b h = grind (arith, nat_tests)
 
@@ -33,21 +36,27 @@ binary-digit b h = grind (arith, nat_tests)
 pub other_byte : (p : ℕ → Bool) (b n : ℕ) → p b ≡ true → p n ≡ false → b ≢ n
 other_byte p b n h none e = false≢true (sym none ∙ ap p (sym e) ∙ h)
 
+-- a letter begins a word
 pub lead-letter : (b c : ℕ) → is_letter b ≡ true → lead b c ≡ Identifier
 lead-letter b c h = rw h refl
 
+-- a digit begins a numeral
 pub lead-digit : (b c : ℕ) → is_digit b ≡ true → lead b c ≡ Numeral
 lead-digit b c h = rw (digit-letter b h, h) refl
 
+-- a binary character begins a binary selector
 pub lead-binary : (b c : ℕ) → is_binary b ≡ true → lead b c ≡ Binary
 lead-binary b c h = rw (binary-letter b h, binary-digit b h, h) refl
 
+-- a byte that is known begins what its code does
 pub lead-byte : (n b c : ℕ) → b ≡ n → lead b c ≡ lead n c
 lead-byte n b c e = ap (λ x. lead x c) e
 
+-- a colon begins itself where no = follows
 pub lead-colon : (c : ℕ) → c ≢ 61 → lead 58 c ≡ Colon
 lead-colon c h = grind (arith, nat_tests)
 
+-- # begins a symbol where no opening follows
 pub lead-symbol : (c : ℕ) → c ≢ 40 → c ≢ 91 → lead 35 c ≡ Symbol
 lead-symbol c h k = grind (arith, nat_tests)
 
@@ -60,6 +69,7 @@ IsKeywordRow-letter t i j (More _ _ _ word row) = word.name.0
 letter_symbol : (c : ℕ) → is_letter c ≡ true → lead 35 c ≡ Symbol
 letter_symbol c h = lead-symbol c (other_byte is_letter c 40 h refl) (other_byte is_letter c 91 h refl)
 
+-- # and a symbol's name begin a symbol
 pub lead_of_symbol : (t : List ℕ) (i j : ℕ) → IsSymbolName t i j → lead 35 (get_or t i 0) ≡ Symbol
 lead_of_symbol t i j (Name h) = letter_symbol (get_or t i 0) h.0.0
 lead_of_symbol t i j (Keywords h) = letter_symbol (get_or t i 0) (IsKeywordRow-letter t i j h)
@@ -73,6 +83,7 @@ abbrev pub normal : TokenKind → TokenKind
 normal Keyword = Identifier
 normal k = k
 
+-- the first two bytes of a token begin its kind
 pub lead_of_token : (d : Dialect) (k : TokenKind) (t : List ℕ) (i j : ℕ) → IsToken d k t i j → lead (get_or t i 0) (get_or t (i + 1) 0) ≡ normal k
 lead_of_token d Identifier t i j h = lead-letter (get_or t i 0) (get_or t (i + 1) 0) h.0.0
 lead_of_token d Keyword t i j h = lead-letter (get_or t i 0) (get_or t (i + 1) 0) h.name.0
