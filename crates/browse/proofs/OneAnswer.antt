@@ -1,5 +1,5 @@
 -- Where the outside tells of the files and no read fails, words have at most one answer.
-use Rattle.std.proofs.Common.{◌≡◌, ℕ, List, [], ◌∷◌, ◌++◌, ◌≤◌, ◌<◌, length, ◌⊎◌, inl, inr, refl, ap, sym, subst, ◌∙◌, arith}
+use Rattle.std.proofs.Common.{◌≡◌, ℕ, List, ◌<◌, length, inl, inr, ap, sym, subst, ◌∙◌, arith}
 use Rattle.rb_base.specs.Outside.{Told, Untold, NoFile, File, IsNoFile, OnFile, MayGive, Rose}
 use Rattle.first_path.specs.Images.{FileImage}
 use Rattle.first_path.specs.declared.command.Command.{Command}
@@ -7,7 +7,7 @@ use Rattle.first_path.proofs.Once.{one_text}
 use Rattle.first_path.proofs.Scripts.{one_script}
 use Rattle.browse.specs.declared.status.Status.{Status}
 use Rattle.browse.specs.Forms.{Form, Apply, NoForm, files_of, form_of}
-use Rattle.browse.specs.Loads.{World, Loads, Given, Refused, Refuses, MayFail, MayBeTooLarge, IsTold, IsHonest}
+use Rattle.browse.specs.Loads.{World, Loads, Given, Refused, Refuses, MayFail, IsTold, IsHonest}
 use Rattle.browse.specs.Answers.{Answer, Reads, Applies, Unread, Judged, judged, AnswersForm, Answers, image_limit, script_limit}
 
 -- both answers are one

@@ -1,5 +1,5 @@
 -- What the words are answered with: a status, and the bytes that are sent.
-use Rattle.std.specs.Prelude.{◌≡◌, ℕ, List, [], ◌∷◌, ◌++◌, codes}
+use Rattle.std.specs.Prelude.{◌≡◌, ℕ, List, ◌++◌, codes}
 use Rattle.std.specs.Option.{option_map_or}
 use Rattle.first_path.specs.Images.{FileImage, IsImage}
 use Rattle.first_path.specs.Texts.{text_of, file_of}

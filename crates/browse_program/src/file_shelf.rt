@@ -28,7 +28,10 @@ pub struct FileShelf<'r, R: Files> {
 
 impl<'r, R: Files> FileShelf<'r, R> {
     /// The files of this system, with no read that failed and no byte taken.
-    pub fn new(system: &'r R, alloc: Global) -> FileShelf<'r, R> {
+    pub fn new(system: &'r R, alloc: Global) -> FileShelf<'r, R>
+        ensures faults { result.faults ≡ 0 }
+        ensures taken { result.taken ≡ 0 }
+    {
         FileShelf {
             system,
             alloc,
@@ -60,7 +63,12 @@ fn read_up_to<F: Read>(file: &mut F, most: usize, into: &mut Vec<u8>) -> Result<
 }
 
 /// Appends the file of the path, at most `most` bytes.
-fn read_file<R: Files>(system: &R, path: &str, most: usize, into: &mut Vec<u8>) -> Result<(), ReadFault>
+fn read_file<R: Files>(
+    system: &R,
+    path: &str,
+    most: usize,
+    into: &mut Vec<u8>,
+) -> Result<(), ReadFault>
     requires { into.old.items ≡ [] }
     ensures { length into.new.items ≤ most }
 {
@@ -99,5 +107,26 @@ impl<R: Files> Shelf for FileShelf<'_, R> {
                 }
             }
         }
+    }
+}
+
+#[cfg(test)]
+mod tests {
+    use super::*;
+    use std::io;
+
+    #[test]
+    fn a_file_is_read_or_refused(rt: HostRuntime) -> io::Result<()> {
+        let path = "/tmp/vizkendu-file-shelf-test";
+        fs::write(&rt, path, b"abc")?;
+        let mut shelf = FileShelf::new(&rt, rt.alloc());
+        let mut into = Vec::new(rt.alloc());
+        assert!(rt; shelf.load(path, 3, &mut into) == Ok(()));
+        assert!(rt; shelf.load(path, 2, &mut into) == Err(ShelfError::TooLarge));
+        assert!(rt;
+            shelf.load("/tmp/vizkendu-no-such-file", 3, &mut into) == Err(ShelfError::Failed)
+        );
+        assert!(rt; into.as_slice() == b"abc".as_slice());
+        fs::remove_file(&rt, path)
     }
 }

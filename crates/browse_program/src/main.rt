@@ -7,10 +7,9 @@ mod out_sink;
 use browse::browse;
 use file_shelf::FileShelf;
 use out_sink::OutSink;
-use std::env;
-use std::io;
 use std::io::ErrorKind;
 use std::process::ExitCode;
+use std::{env, io};
 
 /// The status where memory is wanting.
 const WANT_OF_MEMORY: u8 = 7;

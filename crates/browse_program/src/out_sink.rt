@@ -1,4 +1,6 @@
 // The output of the system.
+ghost use Rattle.std.specs.Prelude.{◌≡◌};
+
 use rb_base::{Sink, SinkError};
 use std::io::Write;
 
@@ -11,7 +13,10 @@ pub struct OutSink<W: Write> {
 
 impl<W: Write> OutSink<W> {
     /// This writer, of which no write failed.
-    pub fn new(writer: W) -> OutSink<W> {
+    pub fn new(writer: W) -> OutSink<W>
+        ensures faults { result.faults ≡ 0 }
+        ensures writer { result.writer ≡ writer }
+    {
         OutSink { writer, faults: 0 }
     }
 }
@@ -35,5 +40,18 @@ impl<W: Write> Sink for OutSink<W> {
             }
         }
         Ok(())
+    }
+}
+
+#[cfg(test)]
+mod tests {
+    use super::*;
+
+    #[test]
+    fn a_piece_is_written(rt: HostRuntime) {
+        let mut sink = OutSink::new(Vec::new(rt.alloc()));
+        assert!(rt; sink.put(b"one ") == Ok(()));
+        assert!(rt; sink.put(b"two") == Ok(()));
+        assert!(rt; sink.writer.as_slice() == b"one two".as_slice());
     }
 }

@@ -1,5 +1,4 @@
-use Rattle.std.proofs.Common.{sym}
-use Rattle.browse.specs.Answers.{Unread, Judged}
+use Rattle.browse.specs.Answers.{Judged}
 use Rattle.browse.proofs.Judging.{judged-false, judged-true}
 use Rattle.browse.proofs.apply.apply_texts.Goals as goal
 
