@@ -1,13 +1,19 @@
 //! The syntax trees of the program: nodes, literals, statements, methods, paths, and what is done with them.
 #![tactic(auto)]
 
+mod copies;
 mod lists;
 mod literal;
+mod measures;
 mod path;
+mod sameness;
 mod tree;
 
+pub use copies::{try_copy, try_copy_doit};
 pub use literal::{Literal, LiteralKind, Literals};
+pub use measures::{height, size, size_doit};
 pub use path::{Part, Path};
+pub use sameness::same;
 pub use tree::{
     Comments, Message, Messages, Method, Node, NodeKind, Nodes, Sequence, Statement, Statements,
 };
