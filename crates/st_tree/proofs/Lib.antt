@@ -1,1 +1,2 @@
 pub mod SameLength
+pub mod Places

@@ -5,6 +5,7 @@ mod copies;
 mod lists;
 mod literal;
 mod measures;
+mod parts;
 mod path;
 mod sameness;
 mod tree;
@@ -12,6 +13,7 @@ mod tree;
 pub use copies::{try_copy, try_copy_doit};
 pub use literal::{Literal, LiteralKind, Literals};
 pub use measures::{height, size, size_doit};
+pub use parts::{part_at, part_at_doit};
 pub use path::{Part, Path};
 pub use sameness::same;
 pub use tree::{
