@@ -1,2 +1,3 @@
 pub mod SameLength
 pub mod Places
+pub mod Putting

@@ -7,6 +7,7 @@ mod literal;
 mod measures;
 mod parts;
 mod path;
+mod replacing;
 mod sameness;
 mod tree;
 
@@ -15,6 +16,7 @@ pub use literal::{Literal, LiteralKind, Literals};
 pub use measures::{height, size, size_doit};
 pub use parts::{part_at, part_at_doit};
 pub use path::{Part, Path};
+pub use replacing::{BadPath, replace_at, replace_at_doit};
 pub use sameness::same;
 pub use tree::{
     Comments, Message, Messages, Method, Node, NodeKind, Nodes, Sequence, Statement, Statements,
