@@ -2,6 +2,7 @@
 #![tactic(auto)]
 
 mod copies;
+mod laws;
 mod lists;
 mod literal;
 mod measures;
@@ -12,6 +13,7 @@ mod sameness;
 mod tree;
 
 pub use copies::{try_copy, try_copy_doit};
+pub use laws::{law_restored, law_views};
 pub use literal::{Literal, LiteralKind, Literals};
 pub use measures::{height, size, size_doit};
 pub use parts::{part_at, part_at_doit};
