@@ -1,0 +1,7 @@
+pub mod LiteralView
+pub mod View
+pub mod PartCode
+pub mod ListFalls
+pub mod NodeFalls
+pub mod Replaced
+pub mod Lending
