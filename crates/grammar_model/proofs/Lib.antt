@@ -1,0 +1,3 @@
+pub mod OneLiteral
+pub mod OneTree
+pub mod OneWhole
