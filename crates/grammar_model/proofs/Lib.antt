@@ -1,3 +1,5 @@
 pub mod OneLiteral
 pub mod OneTree
 pub mod OneWhole
+pub mod Reading
+pub mod Recognizes
