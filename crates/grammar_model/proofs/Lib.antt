@@ -3,3 +3,4 @@ pub mod OneTree
 pub mod OneWhole
 pub mod Reading
 pub mod Recognizes
+pub mod RecoversLiterals

@@ -7,7 +7,7 @@ use Rattle.grammar_model.specs.Input.{Lexeme, lex, first_kind, others}
 use Rattle.grammar_model.specs.Spanned.{SpannedTree, SpannedTrees}
 use Rattle.grammar_model.specs.Chain.{Chain, Waiting, Alone, Told, sent, IsWhole}
 use Rattle.grammar_model.specs.Ahead.{NoName, NoKeyword, NoBinary, NoBar, NoSemicolon, NoColon, NoPeriod, NoDigits, NoElement, NoOperand, NoStatement, NoAssignment, IsOperandStart}
-use Rattle.grammar_model.specs.Machine.{Part, Stack, TheExpression, TheArgument, TheKeywordArgument, BehindName, BehindSuper, BehindSuperOfKeyword, BehindSuperOfBinary, UnaryOfBinary, UnaryOfKeyword, BinaryOfKeyword, UnaryMessages, BinaryMessages, KeywordMessages, TheCascade, TheElements, TheBytes, TheItems, FurtherItem, TheBlock, TheSequence, TheStatements, BehindStatement, BehindReturn, PatternRest, Awaits, begin_operand, body_part, step, wish, may_start, At, run}
+use Rattle.grammar_model.specs.Machine.{Part, Stack, TheExpression, TheArgument, TheKeywordArgument, BehindName, BehindFirstSuper, BehindSuper, BehindSuperOfKeyword, BehindSuperOfBinary, UnaryOfBinary, UnaryOfKeyword, BinaryOfKeyword, UnaryMessages, BinaryMessages, KeywordMessages, TheCascade, TheElements, TheBytes, TheItems, FurtherItem, TheBlock, TheSequence, TheStatements, BehindStatement, BehindReturn, PatternRest, Awaits, begin_operand, body_part, step, wish, may_start, At, run}
 
 -- any token but the end of a text
 abbrev pub IsReal : Terminal → Type 0
@@ -271,11 +271,11 @@ behind_name [] n ss h = refl
 behind_name (lex c f e Assignment ∷ ts) n ss h = absurd h
 behind_name (lex c f e k ∷ ts) n ss h = refl
 
--- what stands behind a name that is an operand
-abbrev pub name_part : Position → Part
-name_part InExpression = BehindName
-name_part InKeyword = UnaryOfKeyword
-name_part InBinary = UnaryOfBinary
+-- behind super there too
+behind_super : (ts : List Lexeme) (n : Text) (ss : Stack) → NoAssignment (Name Super n) (first_kind ts) → run (BehindFirstSuper ∷ ss) ts ≡ run (BehindSuper ∷ ss) ts
+behind_super [] n ss h = refl
+behind_super (lex c f e Assignment ∷ ts) n ss h = absurd h
+behind_super (lex c f e k ∷ ts) n ss h = refl
 
 -- no assignment may follow a name that is an expression's operand
 abbrev pub MayBeOperand : Position → List Lexeme → Type 0
@@ -287,10 +287,10 @@ reads_name InExpression ts n t ss h e = reads _ _ ts (Name Ordinary n) e tt refl
 reads_name InKeyword ts n t ss h e = reads _ _ ts (Name Ordinary n) e tt refl
 reads_name InBinary ts n t ss h e = reads _ _ ts (Name Ordinary n) e tt refl
 
-pub reads_super : (p : Position) (ts : List Lexeme) (f e : ℕ) (n : Text) (ss : Stack) → first_kind ts ≡ Name Super n → run (operand_part p ∷ ss) ts ≡ run (unary_part p (Waiting f e n) ∷ ss) (others ts)
-reads_super InExpression ts f e n ss h = reads _ _ ts (Name Super n) h tt refl
-reads_super InKeyword ts f e n ss h = reads _ _ ts (Name Super n) h tt refl
-reads_super InBinary ts f e n ss h = reads _ _ ts (Name Super n) h tt refl
+pub reads_super : (p : Position) (ts : List Lexeme) (f e : ℕ) (n : Text) (ss : Stack) → MayBeOperand p ts → first_kind ts ≡ Name Super n → run (operand_part p ∷ ss) ts ≡ run (unary_part p (Waiting f e n) ∷ ss) (others ts)
+reads_super InExpression ts f e n ss m h = reads _ _ ts (Name Super n) h tt refl ∙ behind_super (others ts) n ss (subst (λ k. NoAssignment k (first_kind (others ts))) h m)
+reads_super InKeyword ts f e n ss m h = reads _ _ ts (Name Super n) h tt refl
+reads_super InBinary ts f e n ss m h = reads _ _ ts (Name Super n) h tt refl
 
 -- a statement stands where an operand can begin
 pub as_statement : (ts : List Lexeme) (ss : Stack) → IsOperandStart (first_kind ts) → run (TheStatements ∷ ss) ts ≡ run (TheExpression ∷ BehindStatement ∷ ss) ts

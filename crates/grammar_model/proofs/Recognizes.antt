@@ -8,7 +8,7 @@ use Rattle.grammar_model.specs.Chain.{Chain, Alone}
 use Rattle.grammar_model.specs.Ahead.{Longest, NoName, NoKeyword, NoBinary, IsDigits}
 use Rattle.grammar_model.specs.Literals.{NoSign, KeywordRow, LastKeyword, JoinedKeyword, ByteElements, OneByte, NoBytes, LiteralAt, Unsigned, Negative, Fixed, Array, ByteArray, Element, LiteralElement, InnerArray, InnerBytes, NameElement, KeywordElement, BinaryElement, Elements, OneElement, NoElements}
 use Rattle.grammar_model.specs.Grammar.{Periods, OnePeriod, NoPeriods, Names, OneName, NoNames, Parameters, OneParameter, NoParameters, Temporaries, Declares, DeclaresNone, Expression, Assigned, Simple, Operand, Variable, SuperName, LiteralOperand, Grouped, BlockOperand, BraceOperand, Unaries, OneUnary, NoUnaries, Binaries, OneBinary, NoBinaries, Keywords, OneKeywords, NoKeywords, Parts, LastPart, FurtherPart, Argument, BinaryArgument, KeywordArgument, ArgumentOfKeyword, Cascaded, NoCascade, OneCascade, Messages, OneMessage, LastMessage, Message, UnaryMessage, BinaryMessage, KeywordMessage, Items, NoItems, OneItem, FurtherItems, NextItem, LastItem, BlockBody, WithoutParameters, ParametersAlone, WithParameters, Sequence, Sequenced, Statements, BlankPeriod, NoMore, Returned, OneStatement, After, Ended, Unended, Finish, EndedReturn, UnendedReturn}
-use Rattle.grammar_model.specs.Machine.{Stack, TheExpression, TheArgument, TheKeywordArgument, BehindName, BehindSuper, KeywordMessages, TheMessage, TheCascade, TheNumeral, TheElements, TheBytes, TheItems, FurtherItem, TheBlock, TheParameter, TheParameters, TheSequence, TheNames, TheStatements, BehindStatement, BehindReturn, Awaits, begin_operand, step, run}
+use Rattle.grammar_model.specs.Machine.{Stack, TheExpression, TheArgument, TheKeywordArgument, BehindName, BehindFirstSuper, KeywordMessages, TheMessage, TheCascade, TheNumeral, TheElements, TheBytes, TheItems, FurtherItem, TheBlock, TheParameter, TheParameters, TheSequence, TheNames, TheStatements, BehindStatement, BehindReturn, Awaits, begin_operand, step, run}
 use Rattle.grammar_model.proofs.OneTree.{starts_Expression}
 use Rattle.grammar_model.proofs.Reading.{reads, reads_alike, Takes, takes_closing, Position, InExpression, InKeyword, InBinary, operand_part, unary_part, argument_part, binary_part, cascade_part, is_told, IsLiteralStart, step-operand, step-unary, step-argument, step-binary, step-keyword, cascade_part-sent, unary_end-argument, unary_end-expression, unary_end-binary, argument_end, binary_end, cascade_end, keywords_end, messages_end, statement_end, return_end, item_end, elements_end, bytes_end, items_end, statements_end, MayBeOperand, reads_name, reads_super, as_statement, as_item, as_sequence, as_statements}
 
@@ -47,7 +47,7 @@ step-element c s ss h = refl
 abbrev pub BeginsLiteral : Stack → Stack → Type 0
 BeginsLiteral top below = (k : Terminal) → IsLiteralStart k → step top k ≡ begin_operand k below None
 
-elements_begin : (ss : Stack) → BeginsLiteral (TheElements ∷ ss) (TheElements ∷ ss)
+pub elements_begin : (ss : Stack) → BeginsLiteral (TheElements ∷ ss) (TheElements ∷ ss)
 elements_begin ss (Binary Sign s) h = refl
 elements_begin ss (Numeral c t) h = refl
 elements_begin ss (Constant l) h = refl
@@ -101,19 +101,19 @@ reads_Temporaries {i} (Declares {j} {s} {t} e d f) ss = reads _ _ i.rest (Binary
 reads_Temporaries {i} (DeclaresNone h) ss = as_statements i.rest ss h
 
 -- rows end where their tokens end
-ends_Unaries : {f : ℕ} {i j : Input} {r u : Chain} → Unaries Longest f r i u j → NoName (kind_of j)
+pub ends_Unaries : {f : ℕ} {i j : Input} {r u : Chain} → Unaries Longest f r i u j → NoName (kind_of j)
 ends_Unaries (OneUnary e u) = ends_Unaries u
 ends_Unaries (NoUnaries h) = h
 
-ends_Binaries : {f : ℕ} {i j : Input} {r u : Chain} → Binaries Longest f r i u j → NoBinary (kind_of j)
+pub ends_Binaries : {f : ℕ} {i j : Input} {r u : Chain} → Binaries Longest f r i u j → NoBinary (kind_of j)
 ends_Binaries (OneBinary e x u) = ends_Binaries u
 ends_Binaries (NoBinaries h) = h
 
-ends_Parts : {i j : Input} {k : Text} {xs : SpannedTrees} → Parts Longest i k xs j → NoKeyword (kind_of j)
+pub ends_Parts : {i j : Input} {k : Text} {xs : SpannedTrees} → Parts Longest i k xs j → NoKeyword (kind_of j)
 ends_Parts (LastPart e x h) = h
 ends_Parts (FurtherPart e x d) = ends_Parts d
 
-ends_Keywords : {f : ℕ} {i j : Input} {r u : Chain} → Keywords Longest f r i u j → NoKeyword (kind_of j)
+pub ends_Keywords : {f : ℕ} {i j : Input} {r u : Chain} → Keywords Longest f r i u j → NoKeyword (kind_of j)
 ends_Keywords (OneKeywords d) = ends_Parts d
 ends_Keywords (NoKeywords h) = h
 
@@ -126,7 +126,7 @@ reads_Unaries : {f : ℕ} {i j : Input} {r u : Chain} → Unaries Longest f r i 
 reads_Unaries {f} {i} {r} (OneUnary {c} {n} e u) p ss = reads _ _ i.rest (Name c n) e tt (step-unary p r c n ss f (next i).last n NoTrees) ∙ reads_Unaries u p ss
 reads_Unaries (NoUnaries h) p ss = refl
 
-position_begins : (p : Position) (t : SpannedTree) (ss : Stack) → BeginsLiteral (operand_part p ∷ ss) (unary_part p (Alone t) ∷ ss)
+pub position_begins : (p : Position) (t : SpannedTree) (ss : Stack) → BeginsLiteral (operand_part p ∷ ss) (unary_part p (Alone t) ∷ ss)
 position_begins p t ss (Binary Sign s) h = step-operand p (Binary Sign s) ss t tt
 position_begins p t ss (Numeral c n) h = step-operand p (Numeral c n) ss t tt
 position_begins p t ss (Constant l) h = step-operand p (Constant l) ss t tt
@@ -137,7 +137,7 @@ position_begins p t ss k h = absurd h
 -- the name and the arrow of an assignment
 reads_target : (c : NameKind) (ts : List Lexeme) (n : Text) (ss : Stack) → first_kind ts ≡ Name c n → first_kind (others ts) ≡ Assignment → run (TheExpression ∷ ss) ts ≡ run (TheExpression ∷ ss) (others (others ts))
 reads_target Ordinary ts n ss e f = reads _ _ ts (Name Ordinary n) e tt refl ∙ reads (BehindName ∷ ss) _ (others ts) Assignment f tt refl
-reads_target Super ts n ss e f = reads _ _ ts (Name Super n) e tt refl ∙ reads (BehindSuper ∷ ss) _ (others ts) Assignment f tt refl
+reads_target Super ts n ss e f = reads _ _ ts (Name Super n) e tt refl ∙ reads (BehindFirstSuper ∷ ss) _ (others ts) Assignment f tt refl
 
 mutual
   -- an expression is read
@@ -149,7 +149,7 @@ mutual
 
   reads_Operand : {i j : Input} {r : Chain} → Operand Longest i r j → (p : Position) (ss : Stack) → MayBeOperand p i.rest → run (operand_part p ∷ ss) i.rest ≡ run (unary_part p r ∷ ss) j.rest
   reads_Operand {i} (Variable {n} e) p ss h = reads_name p i.rest n _ ss h e
-  reads_Operand {i} (SuperName {n} e) p ss h = reads_super p i.rest _ _ n ss e
+  reads_Operand {i} (SuperName {n} e) p ss h = reads_super p i.rest _ _ n ss h e
   reads_Operand (LiteralOperand d) p ss h = reads_LiteralAt d _ _ (position_begins p _ ss)
   reads_Operand {i} (Grouped {m} e d c) p ss h =
       reads _ _ i.rest (Opens Group) e tt (step-operand p (Opens Group) ss _ tt) ∙ reads_Expression d _ ∙ closes _ m.rest c

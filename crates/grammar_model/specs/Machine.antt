@@ -13,8 +13,9 @@ pub data Part : Type 0 where
   TheExpression : Part
   TheArgument : Part
   TheKeywordArgument : Part
-  -- behind the first name of an expression, and behind super as an expression's receiver, a keyword's argument, a binary message's argument
+  -- behind the first name of an expression; behind super there, and behind super where no assignment may follow
   BehindName : Part
+  BehindFirstSuper : Part
   BehindSuper : Part
   BehindSuperOfKeyword : Part
   BehindSuperOfBinary : Part
@@ -70,7 +71,7 @@ begin_operand k ss other = other
 -- behind the first token of an expression
 abbrev pub begin_expression : Terminal → Stack → Option Stack → Option Stack
 begin_expression (Name Ordinary n) ss other = Some (BehindName ∷ ss)
-begin_expression (Name Super n) ss other = Some (BehindSuper ∷ ss)
+begin_expression (Name Super n) ss other = Some (BehindFirstSuper ∷ ss)
 begin_expression k ss other = begin_operand k (UnaryMessages false ∷ ss) other
 
 -- behind a period or the first token of a statement
@@ -115,7 +116,11 @@ step (BehindName ∷ ss) (Binary c s) = Some (TheArgument ∷ BinaryMessages tru
 step (BehindName ∷ ss) (Keyword c s) = Some (TheKeywordArgument ∷ KeywordMessages true ∷ ss)
 step (BehindName ∷ ss) Semicolon = None
 step (BehindName ∷ ss) k = step ss k
-step (BehindSuper ∷ ss) Assignment = Some (TheExpression ∷ ss)
+step (BehindFirstSuper ∷ ss) Assignment = Some (TheExpression ∷ ss)
+step (BehindFirstSuper ∷ ss) (Name c n) = Some (UnaryMessages false ∷ ss)
+step (BehindFirstSuper ∷ ss) (Binary c s) = Some (TheArgument ∷ BinaryMessages false ∷ ss)
+step (BehindFirstSuper ∷ ss) (Keyword c s) = Some (TheKeywordArgument ∷ KeywordMessages false ∷ ss)
+step (BehindFirstSuper ∷ ss) k = None
 step (BehindSuper ∷ ss) (Name c n) = Some (UnaryMessages false ∷ ss)
 step (BehindSuper ∷ ss) (Binary c s) = Some (TheArgument ∷ BinaryMessages false ∷ ss)
 step (BehindSuper ∷ ss) (Keyword c s) = Some (TheKeywordArgument ∷ KeywordMessages false ∷ ss)
