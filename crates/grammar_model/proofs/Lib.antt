@@ -4,3 +4,4 @@ pub mod OneWhole
 pub mod Reading
 pub mod Recognizes
 pub mod RecoversLiterals
+pub mod Recovers

@@ -135,7 +135,7 @@ position_begins p t ss (Opens BytesStart) h = step-operand p (Opens BytesStart) 
 position_begins p t ss k h = absurd h
 
 -- the name and the arrow of an assignment
-reads_target : (c : NameKind) (ts : List Lexeme) (n : Text) (ss : Stack) → first_kind ts ≡ Name c n → first_kind (others ts) ≡ Assignment → run (TheExpression ∷ ss) ts ≡ run (TheExpression ∷ ss) (others (others ts))
+pub reads_target : (c : NameKind) (ts : List Lexeme) (n : Text) (ss : Stack) → first_kind ts ≡ Name c n → first_kind (others ts) ≡ Assignment → run (TheExpression ∷ ss) ts ≡ run (TheExpression ∷ ss) (others (others ts))
 reads_target Ordinary ts n ss e f = reads _ _ ts (Name Ordinary n) e tt refl ∙ reads (BehindName ∷ ss) _ (others ts) Assignment f tt refl
 reads_target Super ts n ss e f = reads _ _ ts (Name Super n) e tt refl ∙ reads (BehindFirstSuper ∷ ss) _ (others ts) Assignment f tt refl
 
