@@ -5,3 +5,4 @@ pub mod Reading
 pub mod Recognizes
 pub mod RecoversLiterals
 pub mod Recovers
+pub mod WholeTexts

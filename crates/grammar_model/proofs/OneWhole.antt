@@ -94,7 +94,7 @@ one_Primitive (OnePrimitive {t} a b c d) (OnePrimitive {t = t'} a' b' c' d') s =
     (ap (digits_value 10) same, ap (λ i. next (next (next (next i)))) s)
 
 -- the closing token of a text stands where its method's body ends
-closing_bracket : {i : Input} {ss : SpannedStatements} {j : Input} {c : Notes} {s : Text} → kind_of i ≡ Binary Less s → Statements Longest i ss j → IsOver j c → ⊥
+pub closing_bracket : {i : Input} {ss : SpannedStatements} {j : Input} {c : Notes} {s : Text} → kind_of i ≡ Binary Less s → Statements Longest i ss j → IsOver j c → ⊥
 closing_bracket e (BlankPeriod f b) o = let k = sym e ∙ f in cc
 closing_bracket e (NoMore h) o = let k = sym e ∙ ap first_kind o.over in cc
 closing_bracket e (Returned f d b) o = let k = sym e ∙ f in cc
