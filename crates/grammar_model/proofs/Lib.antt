@@ -6,3 +6,5 @@ pub mod Recognizes
 pub mod RecoversLiterals
 pub mod Recovers
 pub mod WholeTexts
+pub mod Stacks
+pub mod Steps
