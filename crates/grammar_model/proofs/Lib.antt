@@ -8,3 +8,5 @@ pub mod Recovers
 pub mod WholeTexts
 pub mod Stacks
 pub mod Steps
+pub mod Continuing
+pub mod Wishes
