@@ -10,3 +10,4 @@ pub mod Stacks
 pub mod Steps
 pub mod Continuing
 pub mod Wishes
+pub mod Stops
