@@ -11,3 +11,5 @@ pub mod Steps
 pub mod Continuing
 pub mod Wishes
 pub mod Stops
+pub mod Either
+pub mod Texts

@@ -86,7 +86,7 @@ stops_at [] ss left w b h r = absurd (never ss left w b r)
 stops_at (lex c g e k ∷ ts) ss left w b h r = stop_step c g e k ts ss (step ss k) left w b h refl r (λ s is. stops_at ts s left w b (subst GoodIfSome is (good_step ss k h)))
 
 -- the stack before a text is good
-good_start : (form : Form) → IsGood (start form)
+pub good_start : (form : Form) → IsGood (start form)
 good_start DoIt = tt
 good_start (Method kernel) = tt
 

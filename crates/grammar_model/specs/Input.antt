@@ -1,5 +1,5 @@
 -- What is left to read.
-use Rattle.std.specs.Prelude.{ℕ, List, [], ◌∷◌, ◌++◌}
+use Rattle.std.specs.Prelude.{◌≡◌, ℕ, List, [], ◌∷◌, ◌++◌}
 use Rattle.tree_model.specs.Tree.{Notes}
 use Rattle.grammar_model.specs.Terminal.{Terminal, Closes, TextEnd}
 
@@ -66,3 +66,9 @@ back outer i = record { held = outer.held; last = i.last; rest = i.rest }
 abbrev pub kinds : List Lexeme → List Terminal
 kinds [] = []
 kinds (lex c f e k ∷ ts) = k ∷ kinds ts
+
+-- the last token is the end of the text
+abbrev pub IsEnded : List Lexeme → Type 0
+IsEnded [] = ⊥
+IsEnded (lex c f e k ∷ []) = k ≡ Closes TextEnd
+IsEnded (t ∷ ts) = IsEnded ts

@@ -2,6 +2,10 @@
 //! the first fault of a text that has no tree; and the laws on both. No program text runs here.
 #![tactic(auto)]
 
+mod laws;
 mod wanted;
 
+pub use laws::{
+    has_at_most_one_tree, is_text_or_stops, spells_doit_or_has_fault, spells_method_or_has_fault,
+};
 pub use wanted::Wanted;

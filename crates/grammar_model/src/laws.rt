@@ -1,0 +1,41 @@
+ghost use Rattle.std.specs.Prelude.{◌≡◌, ◌⊎◌, Bool, List, Option, Some, None};
+ghost use Rattle.tree_model.specs.Tree.{SequenceOf, MethodOf};
+ghost use Rattle.token_model.specs.declared.kind.Dialect.{Dialect};
+ghost use Rattle.grammar_model.specs.Terminal.{Text};
+ghost use Rattle.grammar_model.specs.Input.{Lexeme, IsEnded};
+ghost use Rattle.grammar_model.specs.Ahead.{Longest};
+ghost use Rattle.grammar_model.specs.Spanned.{SpannedSequence, SpannedMethod};
+ghost use Rattle.grammar_model.specs.Whole.{IsDoIt, IsMethod, Form, DoIt, Method, IsText};
+ghost use Rattle.grammar_model.specs.Checks.{Fault};
+ghost use Rattle.grammar_model.specs.Spelling.{SpellsDoIt, SpellsMethod, HasStop, HasFirstFault};
+
+/// Tokens have at most one tree, with one place for each of its parts.
+pub fn has_at_most_one_tree()
+    ensures doit { (tokens : List Lexeme) (tree other : SpannedSequence) → IsDoIt Longest tokens tree → IsDoIt Longest tokens other → tree ≡ other }
+    ensures method { (kernel : Bool) (tokens : List Lexeme) (tree other : SpannedMethod) → IsMethod Longest kernel tokens tree → IsMethod Longest kernel tokens other → tree ≡ other }
+{}
+
+/// Tokens that end with the end of a text are a text of the grammar or have one first fault, never
+/// both.
+pub fn is_text_or_stops()
+    ensures either { (form : Form) (tokens : List Lexeme) → IsEnded tokens → IsText form tokens ⊎ ((fault : Fault) × HasStop form tokens fault) }
+    ensures not_both { (form : Form) (tokens : List Lexeme) (fault : Fault) → IsText form tokens → ¬ HasStop form tokens fault }
+    ensures one_fault { (form : Form) (tokens : List Lexeme) (fault other : Fault) → HasStop form tokens fault → HasStop form tokens other → fault ≡ other }
+{}
+
+/// Each text spells exactly one do-it or has exactly one first fault, never both.
+pub fn spells_doit_or_has_fault()
+    ensures either { (dialect : Dialect) (text : Text) → ((tree : SequenceOf Text) × SpellsDoIt dialect text tree) ⊎ ((fault : Fault) × HasFirstFault dialect DoIt text fault) }
+    ensures not_both { (dialect : Dialect) (text : Text) (tree : SequenceOf Text) (fault : Fault) → SpellsDoIt dialect text tree → ¬ HasFirstFault dialect DoIt text fault }
+    ensures one_tree { (dialect : Dialect) (text : Text) (tree other : SequenceOf Text) → SpellsDoIt dialect text tree → SpellsDoIt dialect text other → tree ≡ other }
+    ensures one_fault { (dialect : Dialect) (text : Text) (fault other : Fault) → HasFirstFault dialect DoIt text fault → HasFirstFault dialect DoIt text other → fault ≡ other }
+{}
+
+/// Each text spells exactly one method, of the kernel or of a user, or has exactly one first fault,
+/// never both.
+pub fn spells_method_or_has_fault()
+    ensures either { (dialect : Dialect) (kernel : Bool) (text : Text) → ((tree : MethodOf Text) × SpellsMethod dialect kernel text tree) ⊎ ((fault : Fault) × HasFirstFault dialect (Method kernel) text fault) }
+    ensures not_both { (dialect : Dialect) (kernel : Bool) (text : Text) (tree : MethodOf Text) (fault : Fault) → SpellsMethod dialect kernel text tree → ¬ HasFirstFault dialect (Method kernel) text fault }
+    ensures one_tree { (dialect : Dialect) (kernel : Bool) (text : Text) (tree other : MethodOf Text) → SpellsMethod dialect kernel text tree → SpellsMethod dialect kernel text other → tree ≡ other }
+    ensures one_fault { (dialect : Dialect) (kernel : Bool) (text : Text) (fault other : Fault) → HasFirstFault dialect (Method kernel) text fault → HasFirstFault dialect (Method kernel) text other → fault ≡ other }
+{}
