@@ -13,3 +13,5 @@ pub mod Wishes
 pub mod Stops
 pub mod Either
 pub mod Texts
+pub mod RowsLiterals
+pub mod Rows
