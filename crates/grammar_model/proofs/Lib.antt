@@ -15,3 +15,6 @@ pub mod Either
 pub mod Texts
 pub mod RowsLiterals
 pub mod Rows
+pub mod ExamplesJudged
+pub mod Forgets
+pub mod Dialects

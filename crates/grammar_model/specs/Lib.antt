@@ -12,3 +12,4 @@ pub mod Lexemes
 pub mod Checks
 pub mod Spelling
 pub mod Machine
+pub mod Examples

@@ -1,13 +1,15 @@
-ghost use Rattle.std.specs.Prelude.{◌≡◌, ◌⊎◌, Bool, List, Option, Some, None};
+ghost use Rattle.std.specs.Prelude.{◌≡◌, ◌⊎◌, ◌↔◌, Bool, List, Option, Some, None};
 ghost use Rattle.tree_model.specs.Tree.{SequenceOf, MethodOf};
 ghost use Rattle.token_model.specs.declared.kind.Dialect.{Dialect};
+ghost use Rattle.token_model.specs.declared.kind.Dialect.TheVariants.{First, Second};
 ghost use Rattle.grammar_model.specs.Terminal.{Text};
 ghost use Rattle.grammar_model.specs.Input.{Lexeme, IsEnded};
-ghost use Rattle.grammar_model.specs.Ahead.{Longest};
+ghost use Rattle.grammar_model.specs.Ahead.{Longest, Any};
 ghost use Rattle.grammar_model.specs.Spanned.{SpannedSequence, SpannedMethod};
 ghost use Rattle.grammar_model.specs.Whole.{IsDoIt, IsMethod, Form, DoIt, Method, IsText};
 ghost use Rattle.grammar_model.specs.Checks.{Fault};
 ghost use Rattle.grammar_model.specs.Spelling.{SpellsDoIt, SpellsMethod, HasStop, HasFirstFault};
+ghost use Rattle.grammar_model.specs.Examples.{AllJudged, doits, methods, kernel_methods};
 
 /// Tokens have at most one tree, with one place for each of its parts.
 pub fn has_at_most_one_tree()
@@ -38,4 +40,24 @@ pub fn spells_method_or_has_fault()
     ensures not_both { (dialect : Dialect) (kernel : Bool) (text : Text) (tree : MethodOf Text) (fault : Fault) → SpellsMethod dialect kernel text tree → ¬ HasFirstFault dialect (Method kernel) text fault }
     ensures one_tree { (dialect : Dialect) (kernel : Bool) (text : Text) (tree other : MethodOf Text) → SpellsMethod dialect kernel text tree → SpellsMethod dialect kernel text other → tree ≡ other }
     ensures one_fault { (dialect : Dialect) (kernel : Bool) (text : Text) (fault other : Fault) → HasFirstFault dialect (Method kernel) text fault → HasFirstFault dialect (Method kernel) text other → fault ≡ other }
+{}
+
+/// Where rows may end anywhere, as the grammar is written down, tokens have the same trees as where
+/// rows are as long as they can be: looking ahead at the end of a row excludes no text.
+pub fn needs_no_looking_ahead()
+    ensures doit { (tokens : List Lexeme) (tree : SpannedSequence) → IsDoIt Any tokens tree ↔ IsDoIt Longest tokens tree }
+    ensures method { (kernel : Bool) (tokens : List Lexeme) (tree : SpannedMethod) → IsMethod Any kernel tokens tree ↔ IsMethod Longest kernel tokens tree }
+{}
+
+/// What a text spells in the first dialect it spells in the second.
+pub fn spells_the_same_with_braces()
+    ensures doit { (text : Text) (tree : SequenceOf Text) → SpellsDoIt First text tree → SpellsDoIt Second text tree }
+    ensures method { (kernel : Bool) (text : Text) (tree : MethodOf Text) → SpellsMethod First kernel text tree → SpellsMethod Second kernel text tree }
+{}
+
+/// The texts of the examples are texts, or have the fault that stands beside them.
+pub fn judges_examples()
+    ensures doits { AllJudged doits }
+    ensures methods { AllJudged methods }
+    ensures kernel_methods { AllJudged kernel_methods }
 {}

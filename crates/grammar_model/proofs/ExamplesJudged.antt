@@ -1,0 +1,43 @@
+-- The examples are judged rightly.
+use Rattle.std.proofs.Common.{◌≡◌, List, [], ◌∷◌, Option, Some, None, map, refl, subst}
+use Rattle.grammar_model.specs.Input.{Lexeme}
+use Rattle.grammar_model.specs.Whole.{Form}
+use Rattle.grammar_model.specs.Checks.{Fault}
+use Rattle.grammar_model.specs.Spelling.{HasStop}
+use Rattle.grammar_model.specs.Machine.{start, run, Wrong, Missing, At, fault_at}
+use Rattle.grammar_model.specs.Examples.{lexemes, Row, Judges, AllJudged, doits, methods, kernel_methods}
+use Rattle.grammar_model.proofs.WholeTexts.{gets_text}
+use Rattle.grammar_model.proofs.Stops.{first_fault}
+
+-- what the machine says of tokens: too few, or a fault or none
+data Verdict : Type 0 where
+  TooFew : Verdict
+  Judged : Option Fault → Verdict
+
+abbrev verdict : Form → Option Wrong → Verdict
+verdict form None = Judged None
+verdict form (Some Missing) = TooFew
+verdict form (Some (At left w b)) = Judged (Some (fault_at form left w b))
+
+judged : (form : Form) (ts : List Lexeme) (fault : Option Fault) (o : Option Wrong) → run (start form) ts ≡ o → verdict form o ≡ Judged fault → Judges form ts fault
+judged form ts None None r e = gets_text form ts r
+judged form ts (Some fault) None r e = cc
+judged form ts fault (Some Missing) r e = cc
+judged form ts None (Some (At left w b)) r e = cc
+judged form ts (Some fault) (Some (At left w b)) r e = let same : fault_at form left w b ≡ fault = cc in subst (HasStop form ts) same (first_fault form ts left w b r)
+
+all_judged : (rs : List Row) → map (λ (r : Row). verdict r.form (run (start r.form) (lexemes 0 r.tokens))) rs ≡ map (λ (r : Row). Judged r.fault) rs → AllJudged rs
+all_judged [] e = tt
+all_judged (r ∷ rs) e =
+    let first : verdict r.form (run (start r.form) (lexemes 0 r.tokens)) ≡ Judged r.fault = cc in
+    let others : map (λ (r : Row). verdict r.form (run (start r.form) (lexemes 0 r.tokens))) rs ≡ map (λ (r : Row). Judged r.fault) rs = cc in
+    (judged r.form (lexemes 0 r.tokens) r.fault (run (start r.form) (lexemes 0 r.tokens)) refl first, all_judged rs others)
+
+pub judges_doits : AllJudged doits
+judges_doits = all_judged doits refl
+
+pub judges_methods : AllJudged methods
+judges_methods = all_judged methods refl
+
+pub judges_kernel_methods : AllJudged kernel_methods
+judges_kernel_methods = all_judged kernel_methods refl

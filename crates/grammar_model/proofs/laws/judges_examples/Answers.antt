@@ -1,0 +1,11 @@
+use Rattle.grammar_model.proofs.ExamplesJudged.{judges_doits, judges_methods, judges_kernel_methods}
+use Rattle.grammar_model.proofs.laws.judges_examples.Goals as goal
+
+pub returns-clause-doits : goal.returns-clause-doits
+returns-clause-doits c = judges_doits
+
+pub returns-clause-methods : goal.returns-clause-methods
+returns-clause-methods c = judges_methods
+
+pub returns-clause-kernel_methods : goal.returns-clause-kernel_methods
+returns-clause-kernel_methods c = judges_kernel_methods

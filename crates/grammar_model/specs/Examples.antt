@@ -1,0 +1,236 @@
+-- Some token lists, each with its fault or none, as the language has them.
+use Rattle.std.specs.Prelude.{ℕ, ◌+◌, List, [], ◌∷◌, Option, Some, None}
+use Rattle.grammar_model.specs.declared.wanted.Wanted.TheVariants as wanted
+use Rattle.grammar_model.specs.Terminal.{Ordinary, Super, PrimitiveKeyword, AnyKeyword, Common, Sign, Less, Greater, Bar, SmallDigits, LargeDigits, OtherNumeral, Group, BlockStart, BraceStart, ArrayStart, BytesStart, GroupEnd, BlockEnd, BraceEnd, TextEnd, Terminal, Name, Keyword, Binary, Numeral, Opens, Closes, Assignment, Colon, Semicolon, Period, Caret}
+use Rattle.grammar_model.specs.Input.{Lexeme, lex}
+use Rattle.grammar_model.specs.Whole.{Form, DoIt, IsText}
+use Rattle.grammar_model.specs.Checks.{Fault, Expected, PrimitiveInUser}
+use Rattle.grammar_model.specs.Spelling.{HasStop}
+
+-- the tokens from a place on, each one byte long, and the end
+abbrev pub lexemes : ℕ → List Terminal → List Lexeme
+lexemes n [] = lex [] n n (Closes TextEnd) ∷ []
+lexemes n (k ∷ ks) = lex [] n (n + 1) k ∷ lexemes (n + 1) ks
+
+-- an identifier, super, a numeral of digits, one with a point, a keyword, a binary selector, a sign, and a bar
+abbrev pub name : Terminal
+name = Name Ordinary []
+
+abbrev pub super : Terminal
+super = Name Super []
+
+abbrev pub digits : Terminal
+digits = Numeral SmallDigits []
+
+abbrev pub fraction : Terminal
+fraction = Numeral OtherNumeral []
+
+abbrev pub keyword : Terminal
+keyword = Keyword AnyKeyword []
+
+abbrev pub plus : Terminal
+plus = Binary Common []
+
+abbrev pub minus : Terminal
+minus = Binary Sign []
+
+abbrev pub bar : Terminal
+bar = Binary Bar []
+
+-- a form, tokens without the end, and the fault that they have or none
+pub record Row : Type 0 where
+  pub form : Form
+  pub tokens : List Terminal
+  pub fault : Option Fault
+
+abbrev pub row : Form → List Terminal → Option Fault → Row
+row form ks o = record { form = form; tokens = ks; fault = o }
+
+-- the tokens are a text, or have this fault
+abbrev pub Judges : Form → List Lexeme → Option Fault → Type 0
+Judges form ts None = IsText form ts
+Judges form ts (Some fault) = HasStop form ts fault
+
+-- each row is judged rightly
+abbrev pub AllJudged : List Row → Type 0
+AllJudged [] = Unit {0}
+AllJudged (r ∷ rs) = Judges r.form (lexemes 0 r.tokens) r.fault × AllJudged rs
+
+-- do-its, each with its text above it
+abbrev pub doits : List Row
+doits =
+    -- nothing
+    row DoIt [] None ∷
+    -- | x 3 |
+    row DoIt (bar ∷ name ∷ digits ∷ bar ∷ []) (Some (Expected wanted.End 2)) ∷
+    -- x x ; 3
+    row DoIt (name ∷ name ∷ Semicolon ∷ digits ∷ []) (Some (Expected wanted.End 3)) ∷
+    -- [ : x 3 ]
+    row DoIt (Opens BlockStart ∷ Colon ∷ name ∷ digits ∷ Closes BlockEnd ∷ []) (Some (Expected wanted.End 3)) ∷
+    -- [ : 3 ]
+    row DoIt (Opens BlockStart ∷ Colon ∷ digits ∷ Closes BlockEnd ∷ []) (Some (Expected wanted.Identifier 2)) ∷
+    -- ( s ) x
+    row DoIt (Opens Group ∷ super ∷ Closes GroupEnd ∷ name ∷ []) (Some (Expected wanted.End 2)) ∷
+    -- x k: s + 3
+    row DoIt (name ∷ keyword ∷ super ∷ plus ∷ digits ∷ []) None ∷
+    -- x k: s
+    row DoIt (name ∷ keyword ∷ super ∷ []) (Some (Expected wanted.End 3)) ∷
+    -- x + s
+    row DoIt (name ∷ plus ∷ super ∷ []) (Some (Expected wanted.Identifier 3)) ∷
+    -- x + s x
+    row DoIt (name ∷ plus ∷ super ∷ name ∷ []) None ∷
+    -- ( x x ) ; x
+    row DoIt (Opens Group ∷ name ∷ name ∷ Closes GroupEnd ∷ Semicolon ∷ name ∷ []) (Some (Expected wanted.End 4)) ∷
+    -- s x ; x
+    row DoIt (super ∷ name ∷ Semicolon ∷ name ∷ []) (Some (Expected wanted.End 2)) ∷
+    -- s x x ; x
+    row DoIt (super ∷ name ∷ name ∷ Semicolon ∷ name ∷ []) None ∷
+    -- s k: x ; x
+    row DoIt (super ∷ keyword ∷ name ∷ Semicolon ∷ name ∷ []) (Some (Expected wanted.End 3)) ∷
+    -- s + x ; x
+    row DoIt (super ∷ plus ∷ name ∷ Semicolon ∷ name ∷ []) (Some (Expected wanted.End 3)) ∷
+    -- s + x + x ; x
+    row DoIt (super ∷ plus ∷ name ∷ plus ∷ name ∷ Semicolon ∷ name ∷ []) None ∷
+    -- s + x x ; x
+    row DoIt (super ∷ plus ∷ name ∷ name ∷ Semicolon ∷ name ∷ []) (Some (Expected wanted.End 4)) ∷
+    -- s x + x ; x
+    row DoIt (super ∷ name ∷ plus ∷ name ∷ Semicolon ∷ name ∷ []) None ∷
+    -- s := 3
+    row DoIt (super ∷ Assignment ∷ digits ∷ []) None ∷
+    -- s
+    row DoIt (super ∷ []) (Some (Expected wanted.End 1)) ∷
+    -- x x := 3
+    row DoIt (name ∷ name ∷ Assignment ∷ digits ∷ []) (Some (Expected wanted.End 2)) ∷
+    -- ( x ) := 3
+    row DoIt (Opens Group ∷ name ∷ Closes GroupEnd ∷ Assignment ∷ digits ∷ []) (Some (Expected wanted.End 3)) ∷
+    -- x := x := 3
+    row DoIt (name ∷ Assignment ∷ name ∷ Assignment ∷ digits ∷ []) None ∷
+    -- x ; x
+    row DoIt (name ∷ Semicolon ∷ name ∷ []) (Some (Expected wanted.End 1)) ∷
+    -- x + x ; x ; + 3 x ; k: x k: x ; x
+    row DoIt (name ∷ plus ∷ name ∷ Semicolon ∷ name ∷ Semicolon ∷ plus ∷ digits ∷ name ∷ Semicolon ∷ keyword ∷ name ∷ keyword ∷ name ∷ Semicolon ∷ name ∷ []) None ∷
+    -- x + x ; + x + x
+    row DoIt (name ∷ plus ∷ name ∷ Semicolon ∷ plus ∷ name ∷ plus ∷ name ∷ []) (Some (Expected wanted.End 6)) ∷
+    -- #[ - 3 ]
+    row DoIt (Opens BytesStart ∷ minus ∷ digits ∷ Closes BlockEnd ∷ []) (Some (Expected wanted.Element 1)) ∷
+    -- #[ 1.5 ]
+    row DoIt (Opens BytesStart ∷ fraction ∷ Closes BlockEnd ∷ []) (Some (Expected wanted.Element 1)) ∷
+    -- #[ x ]
+    row DoIt (Opens BytesStart ∷ name ∷ Closes BlockEnd ∷ []) (Some (Expected wanted.Element 1)) ∷
+    -- #[ 3 70000 ]
+    row DoIt (Opens BytesStart ∷ digits ∷ Numeral LargeDigits [] ∷ Closes BlockEnd ∷ []) None ∷
+    -- #( 3 - 3 x k: + | ( x ) [ 3 ] #[ 3 ] #( ) )
+    row DoIt (Opens ArrayStart ∷ digits ∷ minus ∷ digits ∷ name ∷ keyword ∷ plus ∷ bar ∷ Opens Group ∷ name ∷ Closes GroupEnd ∷ Opens BlockStart ∷ digits ∷ Closes BlockEnd ∷ Opens BytesStart ∷ digits ∷ Closes BlockEnd ∷ Opens ArrayStart ∷ Closes GroupEnd ∷ Closes GroupEnd ∷ []) None ∷
+    -- #( { 3 } )
+    row DoIt (Opens ArrayStart ∷ Opens BraceStart ∷ digits ∷ Closes BraceEnd ∷ Closes GroupEnd ∷ []) (Some (Expected wanted.Element 1)) ∷
+    -- #( ^ )
+    row DoIt (Opens ArrayStart ∷ Caret ∷ Closes GroupEnd ∷ []) (Some (Expected wanted.Element 1)) ∷
+    -- #( ( [ 3 x
+    row DoIt (Opens ArrayStart ∷ Opens Group ∷ Opens BlockStart ∷ digits ∷ name ∷ []) (Some (Expected wanted.Element 4)) ∷
+    -- ^ x . x
+    row DoIt (Caret ∷ name ∷ Period ∷ name ∷ []) (Some (Expected wanted.End 3)) ∷
+    -- ^ x . . .
+    row DoIt (Caret ∷ name ∷ Period ∷ Period ∷ Period ∷ []) None ∷
+    -- ^ x x
+    row DoIt (Caret ∷ name ∷ name ∷ []) None ∷
+    -- . . x . . x . .
+    row DoIt (Period ∷ Period ∷ name ∷ Period ∷ Period ∷ name ∷ Period ∷ Period ∷ []) None ∷
+    -- | |
+    row DoIt (bar ∷ bar ∷ []) None ∷
+    -- | | .
+    row DoIt (bar ∷ bar ∷ Period ∷ []) None ∷
+    -- | x x | x | x
+    row DoIt (bar ∷ name ∷ name ∷ bar ∷ name ∷ bar ∷ name ∷ []) None ∷
+    -- < primitive: 3 >
+    row DoIt (Binary Less [] ∷ Keyword PrimitiveKeyword [] ∷ digits ∷ Binary Greater [] ∷ []) (Some (PrimitiveInUser 0)) ∷
+    -- x . < primitive: 3 >
+    row DoIt (name ∷ Period ∷ Binary Less [] ∷ Keyword PrimitiveKeyword [] ∷ digits ∷ Binary Greater [] ∷ []) (Some (PrimitiveInUser 2)) ∷
+    -- [ < primitive: 3 > ]
+    row DoIt (Opens BlockStart ∷ Binary Less [] ∷ Keyword PrimitiveKeyword [] ∷ digits ∷ Binary Greater [] ∷ Closes BlockEnd ∷ []) (Some (PrimitiveInUser 1)) ∷
+    -- [ : x | < primitive: 3 > ]
+    row DoIt (Opens BlockStart ∷ Colon ∷ name ∷ bar ∷ Binary Less [] ∷ Keyword PrimitiveKeyword [] ∷ digits ∷ Binary Greater [] ∷ Closes BlockEnd ∷ []) (Some (PrimitiveInUser 4)) ∷
+    -- ^ < primitive: 3 >
+    row DoIt (Caret ∷ Binary Less [] ∷ Keyword PrimitiveKeyword [] ∷ digits ∷ Binary Greater [] ∷ []) (Some (Expected wanted.Operand 1)) ∷
+    -- ( < primitive: 3 >
+    row DoIt (Opens Group ∷ Binary Less [] ∷ Keyword PrimitiveKeyword [] ∷ digits ∷ Binary Greater [] ∷ []) (Some (Expected wanted.Operand 1)) ∷
+    -- { < primitive: 3 >
+    row DoIt (Opens BraceStart ∷ Binary Less [] ∷ Keyword PrimitiveKeyword [] ∷ digits ∷ Binary Greater [] ∷ []) (Some (Expected wanted.Operand 1)) ∷
+    -- ^ x . < primitive: 3 >
+    row DoIt (Caret ∷ name ∷ Period ∷ Binary Less [] ∷ Keyword PrimitiveKeyword [] ∷ digits ∷ Binary Greater [] ∷ []) (Some (Expected wanted.End 3)) ∷
+    -- x < primitive: 3 >
+    row DoIt (name ∷ Binary Less [] ∷ Keyword PrimitiveKeyword [] ∷ digits ∷ Binary Greater [] ∷ []) (Some (Expected wanted.Operand 2)) ∷
+    -- | x | < primitive: 3 >
+    row DoIt (bar ∷ name ∷ bar ∷ Binary Less [] ∷ Keyword PrimitiveKeyword [] ∷ digits ∷ Binary Greater [] ∷ []) (Some (PrimitiveInUser 3)) ∷
+    -- x - 3
+    row DoIt (name ∷ minus ∷ digits ∷ []) None ∷
+    -- x + 3 - 3
+    row DoIt (name ∷ plus ∷ digits ∷ minus ∷ digits ∷ []) None ∷
+    -- 3 - - 3
+    row DoIt (digits ∷ minus ∷ minus ∷ digits ∷ []) None ∷
+    -- + 3
+    row DoIt (plus ∷ digits ∷ []) (Some (Expected wanted.Operand 0)) ∷
+    -- x k: + 3
+    row DoIt (name ∷ keyword ∷ plus ∷ digits ∷ []) (Some (Expected wanted.Operand 2)) ∷
+    -- x + k: x
+    row DoIt (name ∷ plus ∷ keyword ∷ name ∷ []) (Some (Expected wanted.Operand 2)) ∷
+    -- { 3 . { 3 } . }
+    row DoIt (Opens BraceStart ∷ digits ∷ Period ∷ Opens BraceStart ∷ digits ∷ Closes BraceEnd ∷ Period ∷ Closes BraceEnd ∷ []) None ∷
+    -- { 3 . . }
+    row DoIt (Opens BraceStart ∷ digits ∷ Period ∷ Period ∷ Closes BraceEnd ∷ []) (Some (Expected wanted.Operand 3)) ∷
+    -- { . }
+    row DoIt (Opens BraceStart ∷ Period ∷ Closes BraceEnd ∷ []) (Some (Expected wanted.Operand 1)) ∷
+    -- { }
+    row DoIt (Opens BraceStart ∷ Closes BraceEnd ∷ []) None ∷
+    -- { x x ; x . 3
+    row DoIt (Opens BraceStart ∷ name ∷ name ∷ Semicolon ∷ name ∷ Period ∷ digits ∷ []) (Some (Expected wanted.End 7)) ∷
+    -- [ ]
+    row DoIt (Opens BlockStart ∷ Closes BlockEnd ∷ []) None ∷
+    -- [ : x ]
+    row DoIt (Opens BlockStart ∷ Colon ∷ name ∷ Closes BlockEnd ∷ []) None ∷
+    -- [ : x : x | ]
+    row DoIt (Opens BlockStart ∷ Colon ∷ name ∷ Colon ∷ name ∷ bar ∷ Closes BlockEnd ∷ []) None ∷
+    -- [ : x | | x | x ]
+    row DoIt (Opens BlockStart ∷ Colon ∷ name ∷ bar ∷ bar ∷ name ∷ bar ∷ name ∷ Closes BlockEnd ∷ []) None ∷
+    -- [ : x : x . ]
+    row DoIt (Opens BlockStart ∷ Colon ∷ name ∷ Colon ∷ name ∷ Period ∷ Closes BlockEnd ∷ []) (Some (Expected wanted.End 5)) ∷
+    -- [ x . x
+    row DoIt (Opens BlockStart ∷ name ∷ Period ∷ name ∷ []) (Some (Expected wanted.End 4)) ∷
+    -- x )
+    row DoIt (name ∷ Closes GroupEnd ∷ []) (Some (Expected wanted.End 1)) ∷
+    -- )
+    row DoIt (Closes GroupEnd ∷ []) (Some (Expected wanted.Operand 0)) ∷
+    -- #( k: k: x )
+    row DoIt (Opens ArrayStart ∷ keyword ∷ keyword ∷ name ∷ Closes GroupEnd ∷ []) None ∷
+    -- x k: x k:
+    row DoIt (name ∷ keyword ∷ name ∷ keyword ∷ []) (Some (Expected wanted.Operand 4)) ∷
+    -- | x
+    row DoIt (bar ∷ name ∷ []) (Some (Expected wanted.End 2)) ∷
+    -- x :=
+    row DoIt (name ∷ Assignment ∷ []) (Some (Expected wanted.Operand 2)) ∷
+    -- x ^ x
+    row DoIt (name ∷ Caret ∷ name ∷ []) (Some (Expected wanted.End 1)) ∷
+    -- x . ^ x
+    row DoIt (name ∷ Period ∷ Caret ∷ name ∷ []) None ∷
+    -- ( ^ x )
+    row DoIt (Opens Group ∷ Caret ∷ name ∷ Closes GroupEnd ∷ []) (Some (Expected wanted.Operand 1)) ∷
+    -- ( | x | x )
+    row DoIt (Opens Group ∷ bar ∷ name ∷ bar ∷ name ∷ Closes GroupEnd ∷ []) (Some (Expected wanted.Operand 1)) ∷
+    -- ( x . x )
+    row DoIt (Opens Group ∷ name ∷ Period ∷ name ∷ Closes GroupEnd ∷ []) (Some (Expected wanted.End 2)) ∷
+    -- ( x x ; x ) x ; x
+    row DoIt (Opens Group ∷ name ∷ name ∷ Semicolon ∷ name ∷ Closes GroupEnd ∷ name ∷ Semicolon ∷ name ∷ []) None ∷
+    -- - 3 x
+    row DoIt (minus ∷ digits ∷ name ∷ []) None ∷
+    -- - 3 x . - 3
+    row DoIt (minus ∷ digits ∷ name ∷ Period ∷ minus ∷ digits ∷ []) None ∷
+    []
+
+-- methods of users, each with its text above it
+abbrev pub methods : List Row
+methods =
+    []
+
+-- methods of the kernel, each with its text above it
+abbrev pub kernel_methods : List Row
+kernel_methods =
+    []
