@@ -5,7 +5,8 @@ use Rattle.grammar_model.specs.Whole.{Form}
 use Rattle.grammar_model.specs.Checks.{Fault}
 use Rattle.grammar_model.specs.Spelling.{HasStop}
 use Rattle.grammar_model.specs.Machine.{start, run, Wrong, Missing, At, fault_at}
-use Rattle.grammar_model.specs.Examples.{lexemes, Row, Judges, AllJudged, doits, methods, kernel_methods}
+use Rattle.grammar_model.specs.Examples.{lexemes, Row, Judges, AllJudged, doits, methods, kernel_methods, a_text, its_tokens, its_lexemes}
+use Rattle.grammar_model.specs.Lexemes.{lexemes_of}
 use Rattle.grammar_model.proofs.WholeTexts.{gets_text}
 use Rattle.grammar_model.proofs.Stops.{first_fault}
 
@@ -41,3 +42,6 @@ judges_methods = all_judged methods refl
 
 pub judges_kernel_methods : AllJudged kernel_methods
 judges_kernel_methods = all_judged kernel_methods refl
+
+pub sees_lexemes : lexemes_of a_text [] its_tokens ≡ its_lexemes
+sees_lexemes = refl

@@ -1,7 +1,11 @@
 -- Some token lists, each with its fault or none, as the language has them.
-use Rattle.std.specs.Prelude.{ℕ, ◌+◌, List, [], ◌∷◌, Option, Some, None}
+use Rattle.std.specs.Prelude.{ℕ, ◌+◌, List, [], ◌∷◌, Option, Some, None, codes}
+use Rattle.token_model.specs.TokenLists.{Piece}
+use Rattle.token_model.specs.declared.kind.TokenKind.{TokenKind}
+use Rattle.token_model.specs.declared.kind.TokenKind.TheVariants as token
+use Rattle.tree_model.specs.Tree.{str, symbol, char}
 use Rattle.grammar_model.specs.declared.wanted.Wanted.TheVariants as wanted
-use Rattle.grammar_model.specs.Terminal.{Ordinary, Super, PrimitiveKeyword, AnyKeyword, Common, Sign, Less, Greater, Bar, SmallDigits, LargeDigits, OtherNumeral, Group, BlockStart, BraceStart, ArrayStart, BytesStart, GroupEnd, BlockEnd, BraceEnd, TextEnd, Terminal, Name, Keyword, Binary, Numeral, Opens, Closes, Assignment, Colon, Semicolon, Period, Caret}
+use Rattle.grammar_model.specs.Terminal.{Text, Ordinary, Super, PrimitiveKeyword, AnyKeyword, Common, Sign, Less, Greater, Bar, SmallDigits, LargeDigits, OtherNumeral, Group, BlockStart, BraceStart, ArrayStart, BytesStart, GroupEnd, BlockEnd, BraceEnd, TextEnd, Terminal, Name, Keyword, Binary, Numeral, Constant, Opens, Closes, Assignment, Colon, Semicolon, Period, Caret}
 use Rattle.grammar_model.specs.Input.{Lexeme, lex}
 use Rattle.grammar_model.specs.Whole.{Form, DoIt, IsText}
 use Rattle.grammar_model.specs.Checks.{Fault, Expected, PrimitiveInUser}
@@ -233,4 +237,80 @@ methods =
 -- methods of the kernel, each with its text above it
 abbrev pub kernel_methods : List Row
 kernel_methods =
+    []
+
+-- a text, its tokens with their places, and what the grammar sees of them
+abbrev pub a_text : Text
+a_text = codes "\"a\" x\"b\" -3 - 3 #(foo:bar: baz) 'it''s' #at:put: #'a b' #+ $' super primitive: 65535 65536 1.5 <> < > | := #[1] \"c\""
+
+abbrev pub piece : TokenKind → ℕ → ℕ → Piece
+piece k f e = record { kind = k; from = f; to = e }
+
+abbrev pub its_tokens : List Piece
+its_tokens =
+    piece token.Comment 0 3 ∷
+    piece token.Identifier 4 5 ∷
+    piece token.Comment 5 8 ∷
+    piece token.Binary 9 10 ∷
+    piece token.Numeral 10 11 ∷
+    piece token.Binary 12 13 ∷
+    piece token.Numeral 14 15 ∷
+    piece token.ArrayOpen 16 18 ∷
+    piece token.Keyword 18 22 ∷
+    piece token.Keyword 22 26 ∷
+    piece token.Identifier 27 30 ∷
+    piece token.Close 30 31 ∷
+    piece token.String 32 39 ∷
+    piece token.Symbol 40 48 ∷
+    piece token.Symbol 49 55 ∷
+    piece token.Symbol 56 58 ∷
+    piece token.Character 59 61 ∷
+    piece token.Identifier 62 67 ∷
+    piece token.Keyword 68 78 ∷
+    piece token.Numeral 79 84 ∷
+    piece token.Numeral 85 90 ∷
+    piece token.Numeral 91 94 ∷
+    piece token.Binary 95 97 ∷
+    piece token.Binary 98 99 ∷
+    piece token.Binary 100 101 ∷
+    piece token.Bar 102 103 ∷
+    piece token.Assign 104 106 ∷
+    piece token.BytesOpen 107 109 ∷
+    piece token.Numeral 109 110 ∷
+    piece token.BlockClose 110 111 ∷
+    piece token.Comment 112 115 ∷
+    piece token.End 115 115 ∷
+    []
+
+abbrev pub its_lexemes : List Lexeme
+its_lexemes =
+    lex (codes "\"a\"" ∷ []) 4 5 (Name Ordinary (codes "x")) ∷
+    lex (codes "\"b\"" ∷ []) 9 10 (Binary Sign (codes "-")) ∷
+    lex [] 10 11 (Numeral SmallDigits (codes "3")) ∷
+    lex [] 12 13 (Binary Common (codes "-")) ∷
+    lex [] 14 15 (Numeral SmallDigits (codes "3")) ∷
+    lex [] 16 18 (Opens ArrayStart) ∷
+    lex [] 18 22 (Keyword AnyKeyword (codes "foo:")) ∷
+    lex [] 22 26 (Keyword AnyKeyword (codes "bar:")) ∷
+    lex [] 27 30 (Name Ordinary (codes "baz")) ∷
+    lex [] 30 31 (Closes GroupEnd) ∷
+    lex [] 32 39 (Constant (str (codes "it's"))) ∷
+    lex [] 40 48 (Constant (symbol (codes "at:put:"))) ∷
+    lex [] 49 55 (Constant (symbol (codes "a b"))) ∷
+    lex [] 56 58 (Constant (symbol (codes "+"))) ∷
+    lex [] 59 61 (Constant (char 39)) ∷
+    lex [] 62 67 (Name Super (codes "super")) ∷
+    lex [] 68 78 (Keyword PrimitiveKeyword (codes "primitive:")) ∷
+    lex [] 79 84 (Numeral SmallDigits (codes "65535")) ∷
+    lex [] 85 90 (Numeral LargeDigits (codes "65536")) ∷
+    lex [] 91 94 (Numeral OtherNumeral (codes "1.5")) ∷
+    lex [] 95 97 (Binary Common (codes "<>")) ∷
+    lex [] 98 99 (Binary Less (codes "<")) ∷
+    lex [] 100 101 (Binary Greater (codes ">")) ∷
+    lex [] 102 103 (Binary Bar (codes "|")) ∷
+    lex [] 104 106 Assignment ∷
+    lex [] 107 109 (Opens BytesStart) ∷
+    lex [] 109 110 (Numeral SmallDigits (codes "1")) ∷
+    lex [] 110 111 (Closes BlockEnd) ∷
+    lex (codes "\"c\"" ∷ []) 115 115 (Closes TextEnd) ∷
     []

@@ -1,4 +1,4 @@
-ghost use Rattle.std.specs.Prelude.{◌≡◌, ◌⊎◌, ◌↔◌, Bool, List, Option, Some, None};
+ghost use Rattle.std.specs.Prelude.{◌≡◌, ◌⊎◌, ◌↔◌, Bool, List, [], Option, Some, None};
 ghost use Rattle.tree_model.specs.Tree.{SequenceOf, MethodOf};
 ghost use Rattle.token_model.specs.declared.kind.Dialect.{Dialect};
 ghost use Rattle.token_model.specs.declared.kind.Dialect.TheVariants.{First, Second};
@@ -9,7 +9,8 @@ ghost use Rattle.grammar_model.specs.Spanned.{SpannedSequence, SpannedMethod};
 ghost use Rattle.grammar_model.specs.Whole.{IsDoIt, IsMethod, Form, DoIt, Method, IsText};
 ghost use Rattle.grammar_model.specs.Checks.{Fault};
 ghost use Rattle.grammar_model.specs.Spelling.{SpellsDoIt, SpellsMethod, HasStop, HasFirstFault};
-ghost use Rattle.grammar_model.specs.Examples.{AllJudged, doits, methods, kernel_methods};
+ghost use Rattle.grammar_model.specs.Examples.{AllJudged, doits, methods, kernel_methods, a_text, its_tokens, its_lexemes};
+ghost use Rattle.grammar_model.specs.Lexemes.{lexemes_of};
 
 /// Tokens have at most one tree, with one place for each of its parts.
 pub fn has_at_most_one_tree()
@@ -55,9 +56,11 @@ pub fn spells_the_same_with_braces()
     ensures method { (kernel : Bool) (text : Text) (tree : MethodOf Text) → SpellsMethod First kernel text tree → SpellsMethod Second kernel text tree }
 {}
 
-/// The texts of the examples are texts, or have the fault that stands beside them.
+/// The tokens of the examples are texts, or have the fault that stands beside them, and the grammar
+/// sees the tokens of a text as the last example says.
 pub fn judges_examples()
     ensures doits { AllJudged doits }
     ensures methods { AllJudged methods }
     ensures kernel_methods { AllJudged kernel_methods }
+    ensures lexemes { lexemes_of a_text [] its_tokens ≡ its_lexemes }
 {}

@@ -1,4 +1,4 @@
-use Rattle.grammar_model.proofs.ExamplesJudged.{judges_doits, judges_methods, judges_kernel_methods}
+use Rattle.grammar_model.proofs.ExamplesJudged.{judges_doits, judges_methods, judges_kernel_methods, sees_lexemes}
 use Rattle.grammar_model.proofs.laws.judges_examples.Goals as goal
 
 pub returns-clause-doits : goal.returns-clause-doits
@@ -9,3 +9,6 @@ returns-clause-methods c = judges_methods
 
 pub returns-clause-kernel_methods : goal.returns-clause-kernel_methods
 returns-clause-kernel_methods c = judges_kernel_methods
+
+pub returns-clause-lexemes : goal.returns-clause-lexemes
+returns-clause-lexemes c = sees_lexemes
