@@ -16,10 +16,12 @@ record Accepts (ss : Stack) (ks : List Terminal) : Type 0 where
   to : Stack
   read : feeds ss ks ≡ Some to
 
+-- one token more
 accept_step : (o : Option Stack) (ts : List Lexeme) (x : Wrong) → ((s : Stack) → run s ts ≡ None → Accepts s (kinds ts)) → option_map_or (λ s. run s ts) o (Some x) ≡ None → (to : Stack) × (option_map_or (λ s. feeds s (kinds ts)) o None ≡ Some to)
 accept_step None ts x later h = cc
 accept_step (Some s) ts x later h = let a = later s h in (a.to, a.read)
 
+-- what is read to its end as tokens is read as their kinds
 accepts : (ts : List Lexeme) (ss : Stack) → run ss ts ≡ None → Accepts ss (kinds ts)
 accepts [] ss h = record { to = ss; read = refl }
 accepts (lex c f e k ∷ ts) ss h = let a = accept_step (step ss k) ts _ (accepts ts) h in record { to = a.0; read = a.1 }
@@ -29,20 +31,24 @@ bare : List Terminal → List Lexeme
 bare [] = []
 bare (k ∷ ks) = lex [] 0 0 k ∷ bare ks
 
+-- their kinds are those
 kinds-bare : (ks : List Terminal) → kinds (bare ks) ≡ ks
 unfolding bare
 kinds-bare [] = refl
 kinds-bare (k ∷ ks) = ap (λ x. k ∷ x) (kinds-bare ks)
 
+-- one token more
 run_step : (o : Option Stack) (ks : List Terminal) (to : Stack) (w : Wrong) → ((s : Stack) → feeds s ks ≡ Some to → run s (bare ks) ≡ None) → option_map_or (λ s. feeds s ks) o None ≡ Some to → option_map_or (λ s. run s (bare ks)) o (Some w) ≡ None
 run_step None ks to w later h = cc
 run_step (Some s) ks to w later h = later s h
 
+-- what is read as kinds is read as such tokens
 runs : (ks : List Terminal) (ss : Stack) → feeds ss ks ≡ Some [] → run ss (bare ks) ≡ None
 unfolding bare
 runs [] ss h = let same : ss ≡ [] = cc in ap ended same
 runs (k ∷ ks) ss h = run_step (step ss k) ks [] _ (λ s. runs ks s) h
 
+-- one token more
 both_step : (o : Option Stack) (p q : List Terminal) (to : Stack) → ((s : Stack) → feeds s p ≡ Some to → feeds s (p ++ q) ≡ feeds to q) → option_map_or (λ s. feeds s p) o None ≡ Some to → option_map_or (λ s. feeds s (p ++ q)) o None ≡ feeds to q
 both_step None p q to later h = cc
 both_step (Some s) p q to later h = later s h
@@ -52,10 +58,12 @@ pub feeds-append : (p q : List Terminal) (ss to : Stack) → feeds ss p ≡ Some
 feeds-append [] q ss to h = let same : ss ≡ to = cc in ap (λ s. feeds s q) same
 feeds-append (k ∷ p) q ss to h = both_step (step ss k) p q to (λ s. feeds-append p q s to) h
 
+-- one token more
 front_step : (o : Option Stack) (p q : List Terminal) (to : Stack) → ((s : Stack) → feeds s (p ++ q) ≡ Some to → (m : Stack) × (feeds s p ≡ Some m)) → option_map_or (λ s. feeds s (p ++ q)) o None ≡ Some to → (m : Stack) × (option_map_or (λ s. feeds s p) o None ≡ Some m)
 front_step None p q to later h = cc
 front_step (Some s) p q to later h = later s h
 
+-- what is read has beginnings that are read
 feeds_front : (p q : List Terminal) (ss to : Stack) → feeds ss (p ++ q) ≡ Some to → (m : Stack) × (feeds ss p ≡ Some m)
 feeds_front [] q ss to h = (ss, refl)
 feeds_front (k ∷ p) q ss to h = front_step (step ss k) p q to (λ s. feeds_front p q s to) h
@@ -84,6 +92,7 @@ is_read form p c =
 pub goes_further : (form : Form) (p more : List Terminal) (ss to : Stack) → IsBehind form p ss → feeds ss more ≡ Some to → IsGood to → Continues form (p ++ more)
 goes_further form p more ss to h m good = goes_on form (p ++ more) to (feeds-append p more (start form) ss h ∙ m) good
 
+-- no text goes on behind p with more
 pub stops_further : (form : Form) (p more : List Terminal) (ss : Stack) → IsBehind form p ss → feeds ss more ≡ None → ¬ Continues form (p ++ more)
 stops_further form p more ss h m c =
     let r = is_read form (p ++ more) c in
@@ -108,6 +117,7 @@ can_stand : (form : Form) (p : List Terminal) (ss : Stack) (k : Terminal) (o : O
 can_stand form p ss k None h e g s = cc
 can_stand form p ss k (Some to) h e g s = goes_further form p (k ∷ []) ss to h (feeds_one ss k (Some to) e) g
 
+-- a token that no step reads can not stand
 can_not_stand : (form : Form) (p : List Terminal) (ss : Stack) (k : Terminal) (o : Option Stack) → IsBehind form p ss → step ss k ≡ o → is_some o ≡ false → ¬ Continues form (p ++ k ∷ [])
 can_not_stand form p ss k None h e s = stops_further form p (k ∷ []) ss h (feeds_one ss k None e)
 can_not_stand form p ss k (Some to) h e s = cc
@@ -116,5 +126,6 @@ can_not_stand form p ss k (Some to) h e s = cc
 pub starts_statement : (form : Form) (p : List Terminal) (ss : Stack) → IsBehind form p ss → IsGood ss → may_start ss ≡ true → Continues form (p ++ Caret ∷ [])
 starts_statement form p ss h good s = can_stand form p ss Caret (step ss Caret) h refl (good_step ss Caret good) s
 
+-- no statement could begin where the machine says so
 pub starts_no_statement : (form : Form) (p : List Terminal) (ss : Stack) → IsBehind form p ss → may_start ss ≡ false → ¬ Continues form (p ++ Caret ∷ [])
 starts_no_statement form p ss h s = can_not_stand form p ss Caret (step ss Caret) h refl s

@@ -17,14 +17,17 @@ use Rattle.grammar_model.proofs.Steps.{good_step, EmptyIfSome, good_end}
 use Rattle.grammar_model.proofs.WholeTexts.{gets_text}
 use Rattle.grammar_model.proofs.Stops.{good_start, first_fault}
 
+-- an empty stack wants no more
 nil_not_missing : (ss : Stack) → IsNil ss → run ss [] ≡ Some Missing → ⊥
 nil_not_missing [] n r = cc
 nil_not_missing (p ∷ ss) n r = n
 
+-- the end of the text is read or wrong
 end_step : (o : Option Stack) (w : Wrong) (left : List Lexeme) (wanted : Wanted) (b : Bool) → w ≡ At left wanted b → EmptyIfSome o → option_map_or (λ s. run s []) o (Some w) ≡ Some Missing → ⊥
 end_step None w left wanted b e n r = cc
 end_step (Some s) w left wanted b e n r = nil_not_missing s n r
 
+-- one token more
 more_step : (o : Option Stack) (ts : List Lexeme) (w : Wrong) (left : List Lexeme) (wanted : Wanted) (b : Bool) → w ≡ At left wanted b → ((s : Stack) → o ≡ Some s → run s ts ≡ Some Missing → ⊥) → option_map_or (λ s. run s ts) o (Some w) ≡ Some Missing → ⊥
 more_step None ts w left wanted b e later r = cc
 more_step (Some s) ts w left wanted b e later r = later s refl r
@@ -46,6 +49,7 @@ text_or_stop form ts ended = decide (run (start form) ts) refl
     decide (Some Missing) e = absurd (not_missing ts (start form) (good_start form) ended e)
     decide (Some (At left w b)) e = inr (fault_at form left w b, first_fault form ts left w b e)
 
+-- the kinds of joined tokens
 kinds-append : (ts us : List Lexeme) → kinds (ts ++ us) ≡ kinds ts ++ kinds us
 kinds-append [] us = refl
 kinds-append (lex c f e k ∷ ts) us = ap (λ x. k ∷ x) (kinds-append ts us)
@@ -54,6 +58,7 @@ kinds-append (lex c f e k ∷ ts) us = ap (λ x. k ∷ x) (kinds-append ts us)
 continues_front : (form : Form) (p q : List Terminal) → Continues form (p ++ q) → Continues form p
 continues_front form p q c = record { tokens = c.tokens; behind = q ++ c.behind; same = c.same ∙ append_assoc p q c.behind; text = c.text }
 
+-- a text has no token at which no text goes on
 not_stop : (form : Form) (ts : List Lexeme) (before : List Terminal) (at : ℕ) (wrong : Terminal) (rest : List Lexeme) → IsText form ts → IsStop form ts before at wrong rest → ⊥
 not_stop form ts before at wrong rest text s =
     let same : kinds ts ≡ before ++ (wrong ∷ kinds rest) = ap kinds s.split ∙ kinds-append s.front (lex s.notes at s.to wrong ∷ rest) ∙ ap (λ b. b ++ (wrong ∷ kinds rest)) s.before_is in
@@ -66,15 +71,20 @@ not_both form ts fault text (Primitive s u) = not_stop form ts _ _ _ _ text s
 
 -- two places in one list: the same, or one before the other
 data Places (p q : List Lexeme) (a b : Lexeme) (s t : List Lexeme) : Type 0 where
+  -- the same place
   Same : p ≡ q → a ≡ b → s ≡ t → Places p q a b s t
+  -- the first place is before the second
   Earlier : (m : List Lexeme) → q ≡ p ++ (a ∷ m) → Places p q a b s t
+  -- the second place is before the first
   Later : (m : List Lexeme) → p ≡ q ++ (b ∷ m) → Places p q a b s t
 
+-- one token more in front of both
 further : (x y : Lexeme) (p q : List Lexeme) (a b : Lexeme) (s t : List Lexeme) → Places p q a b s t → x ≡ y → Places (x ∷ p) (y ∷ q) a b s t
 further x y p q a b s t (Same e f g) h = Same (λ v. h v ∷ e v) f g
 further x y p q a b s t (Earlier m e) h = Earlier m (λ v. sym h v ∷ e v)
 further x y p q a b s t (Later m e) h = Later m (λ v. h v ∷ e v)
 
+-- two places in one list
 places : (p q : List Lexeme) (a b : Lexeme) (s t : List Lexeme) → p ++ (a ∷ s) ≡ q ++ (b ∷ t) → Places p q a b s t
 places [] [] a b s t e = let heads : a ≡ b = cc in let tails : s ≡ t = cc in Same refl heads tails
 places [] (x ∷ q) a b s t e = let same : a ≡ x = cc in Earlier q (ap (λ y. y ∷ q) (sym same))
@@ -98,6 +108,7 @@ record SameStop (b b' : List Terminal) (at at' : ℕ) (w w' : Terminal) (r r' : 
   wrong : w ≡ w'
   rest : r ≡ r'
 
+-- tokens have one place at which no text goes on
 one_stop : (form : Form) (ts : List Lexeme) (b b' : List Terminal) (at at' : ℕ) (w w' : Terminal) (r r' : List Lexeme) → IsStop form ts b at w r → IsStop form ts b' at' w' r' → SameStop b b' at at' w w' r r'
 one_stop form ts b b' at at' w w' r r' s s' =
     same (places s.front s'.front (lex s.notes at s.to w) (lex s'.notes at' s'.to w') r r' (sym s.split ∙ s'.split))
@@ -131,6 +142,7 @@ same_primitive : (form : Form) (b b' : List Terminal) (at at' : ℕ) (w w' : Ter
 same_primitive form b b' at at' w w' r r' s p =
     record { user = p.user; bracket = subst IsLess s.wrong p.bracket; keyword = subst (λ r. IsPrimitiveKeyword (first_kind r)) s.rest p.keyword; statement = subst (λ b. Continues form (b ++ Caret ∷ [])) s.before p.statement }
 
+-- the same the other way round
 flipped : {b b' : List Terminal} {at at' : ℕ} {w w' : Terminal} {r r' : List Lexeme} → SameStop b b' at at' w w' r r' → SameStop b' b at' at w' w r' r
 flipped s = record { before = sym s.before; place = sym s.place; wrong = sym s.wrong; rest = sym s.rest }
 

@@ -15,11 +15,13 @@ data Verdict : Type 0 where
   TooFew : Verdict
   Judged : Option Fault → Verdict
 
+-- what it says by where it stops
 abbrev verdict : Form → Option Wrong → Verdict
 verdict form None = Judged None
 verdict form (Some Missing) = TooFew
 verdict form (Some (At left w b)) = Judged (Some (fault_at form left w b))
 
+-- what it says is right
 judged : (form : Form) (ts : List Lexeme) (fault : Option Fault) (o : Option Wrong) → run (start form) ts ≡ o → verdict form o ≡ Judged fault → Judges form ts fault
 judged form ts None None r e = gets_text form ts r
 judged form ts (Some fault) None r e = cc
@@ -27,6 +29,7 @@ judged form ts fault (Some Missing) r e = cc
 judged form ts None (Some (At left w b)) r e = cc
 judged form ts (Some fault) (Some (At left w b)) r e = let same : fault_at form left w b ≡ fault = cc in subst (HasStop form ts) same (first_fault form ts left w b r)
 
+-- what it says of all rows is right
 all_judged : (rs : List Row) → map (λ (r : Row). verdict r.form (run (start r.form) (lexemes 0 r.tokens))) rs ≡ map (λ (r : Row). Judged r.fault) rs → AllJudged rs
 all_judged [] e = tt
 all_judged (r ∷ rs) e =
@@ -34,14 +37,18 @@ all_judged (r ∷ rs) e =
     let others : map (λ (r : Row). verdict r.form (run (start r.form) (lexemes 0 r.tokens))) rs ≡ map (λ (r : Row). Judged r.fault) rs = cc in
     (judged r.form (lexemes 0 r.tokens) r.fault (run (start r.form) (lexemes 0 r.tokens)) refl first, all_judged rs others)
 
+-- the examples of do-its
 pub judges_doits : AllJudged doits
 judges_doits = all_judged doits refl
 
+-- the examples of methods of users
 pub judges_methods : AllJudged methods
 judges_methods = all_judged methods refl
 
+-- the examples of methods of the kernel
 pub judges_kernel_methods : AllJudged kernel_methods
 judges_kernel_methods = all_judged kernel_methods refl
 
+-- the example of a text
 pub sees_lexemes : lexemes_of a_text [] its_tokens ≡ its_lexemes
 sees_lexemes = refl

@@ -27,6 +27,7 @@ one_KeywordRow (JoinedKeyword {c} {k} e g d) (JoinedKeyword {c = c'} {k = k'} e'
     let p = one_KeywordRow d d' (ap next s) in
     ((λ v. keys v ++ p.0 v), p.1)
 
+-- no token is digits alone and is not
 both_digits : (k : Terminal) → IsDigits k → NoDigits k → ⊥
 both_digits (Numeral SmallDigits t) d n = n
 both_digits (Numeral LargeDigits t) d n = n
@@ -56,6 +57,7 @@ literal_rule (Constant l) = 2
 literal_rule (Opens ArrayStart) = 3
 literal_rule k = 4
 
+-- the rule that spells a literal
 abbrev rule_of_LiteralAt : {i j : Input} {l : LiteralOf Text} → LiteralAt Longest i l j → ℕ
 rule_of_LiteralAt (Unsigned e) = 0
 rule_of_LiteralAt (Negative e f) = 1
@@ -63,6 +65,7 @@ rule_of_LiteralAt (Fixed e) = 2
 rule_of_LiteralAt (Array e a c) = 3
 rule_of_LiteralAt (ByteArray e a c) = 4
 
+-- it is the rule of the first token
 literal_rule-LiteralAt : {i j : Input} {l : LiteralOf Text} (d : LiteralAt Longest i l j) → literal_rule (kind_of i) ≡ rule_of_LiteralAt d
 literal_rule-LiteralAt (Unsigned e) = ap literal_rule e
 literal_rule-LiteralAt (Negative e f) = ap literal_rule e
@@ -80,6 +83,7 @@ element_rule (Binary Sign s) = 0
 element_rule (Binary c s) = 5
 element_rule k = 0
 
+-- the rule that spells an element
 abbrev rule_of_Element : {i j : Input} {l : LiteralOf Text} → Element Longest i l j → ℕ
 rule_of_Element (LiteralElement d) = 0
 rule_of_Element (InnerArray e a c) = 1
@@ -88,6 +92,7 @@ rule_of_Element (NameElement e) = 3
 rule_of_Element (KeywordElement d) = 4
 rule_of_Element (BinaryElement e h) = 5
 
+-- a literal begins as literals do
 element_rule-LiteralAt : {i j : Input} {l : LiteralOf Text} → LiteralAt Longest i l j → element_rule (kind_of i) ≡ 0
 element_rule-LiteralAt (Unsigned e) = ap element_rule e
 element_rule-LiteralAt (Negative e f) = ap element_rule e
@@ -95,14 +100,17 @@ element_rule-LiteralAt (Fixed e) = ap element_rule e
 element_rule-LiteralAt (Array e a c) = ap element_rule e
 element_rule-LiteralAt (ByteArray e a c) = ap element_rule e
 
+-- a row of keywords begins with a keyword
 element_rule-KeywordRow : {i j : Input} {k : Text} → KeywordRow i k j → element_rule (kind_of i) ≡ 4
 element_rule-KeywordRow (LastKeyword e n) = ap element_rule e
 element_rule-KeywordRow (JoinedKeyword e g d) = ap element_rule e
 
+-- a binary selector that is no sign
 element_rule-binary : (c : BinaryKind) (s : Text) → NoSign c → element_rule (Binary c s) ≡ 5
 element_rule-binary Sign s h = absurd h
 element_rule-binary c s h = refl
 
+-- the rule of an element is that of its first token
 element_rule-Element : {i j : Input} {l : LiteralOf Text} (d : Element Longest i l j) → element_rule (kind_of i) ≡ rule_of_Element d
 element_rule-Element (LiteralElement d) = element_rule-LiteralAt d
 element_rule-Element (InnerArray e a c) = ap element_rule e
@@ -115,6 +123,7 @@ element_rule-Element (BinaryElement {c} {s} e h) = ap element_rule e ∙ element
 abbrev IsElementStart : Terminal → Type 0
 IsElementStart k = NoElement k → ⊥
 
+-- a literal begins as elements do
 starts_LiteralAt : {i j : Input} {l : LiteralOf Text} → LiteralAt Longest i l j → IsElementStart (kind_of i)
 starts_LiteralAt (Unsigned e) = subst IsElementStart (sym e) (λ h. h)
 starts_LiteralAt (Negative e f) = subst IsElementStart (sym e) (λ h. h)
@@ -122,6 +131,7 @@ starts_LiteralAt (Fixed e) = subst IsElementStart (sym e) (λ h. h)
 starts_LiteralAt (Array e a c) = subst IsElementStart (sym e) (λ h. h)
 starts_LiteralAt (ByteArray e a c) = subst IsElementStart (sym e) (λ h. h)
 
+-- an element begins as elements do
 starts_Element : {i j : Input} {l : LiteralOf Text} → Element Longest i l j → IsElementStart (kind_of i)
 starts_Element (LiteralElement d) = starts_LiteralAt d
 starts_Element (InnerArray e a c) = subst IsElementStart (sym e) (λ h. h)

@@ -19,6 +19,7 @@ operand_rule (Opens BlockStart) = 4
 operand_rule (Opens BraceStart) = 5
 operand_rule k = 2
 
+-- the rule that spells an operand
 abbrev rule_of_Operand : {i j : Input} {r : Chain} → Operand Longest i r j → ℕ
 rule_of_Operand (Variable e) = 0
 rule_of_Operand (SuperName e) = 1
@@ -27,6 +28,7 @@ rule_of_Operand (Grouped e d c) = 3
 rule_of_Operand (BlockOperand e d c) = 4
 rule_of_Operand (BraceOperand e d c) = 5
 
+-- it is the rule of the first token
 operand_rule-Operand : {i j : Input} {r : Chain} (d : Operand Longest i r j) → operand_rule (kind_of i) ≡ rule_of_Operand d
 operand_rule-Operand (Variable e) = ap operand_rule e
 operand_rule-Operand (SuperName e) = ap operand_rule e
@@ -85,18 +87,22 @@ NoStatement-NoOperand Semicolon h = tt
 NoStatement-NoOperand Period h = tt
 NoStatement-NoOperand Caret h = tt
 
+-- no expression begins where no operand can
 starts_here : {i i' j : Input} {t : SpannedTree} → i ≡ i' → Expression Longest i' t j → NoOperand (kind_of i) → ⊥
 starts_here s d n = start_clash _ (starts_Expression d) (subst (λ i. NoOperand (kind_of i)) s n)
 
+-- no assignment begins where none can
 assignment_clash : (i : Input) (c : NameKind) (n : Text) → kind_of i ≡ Name c n → kind_of (next i) ≡ Assignment → NoAssignment (kind_of i) (kind_of (next i)) → ⊥
 assignment_clash i c n e f h = subst (NoAssignment (Name c n)) f (subst (λ k. NoAssignment k (kind_of (next i))) e h)
 
+-- periods: the tokens determine it
 one_Periods : {i j : Input} → Periods Longest i j → {i' j' : Input} → Periods Longest i' j' → i ≡ i' → j ≡ j'
 one_Periods (OnePeriod e d) (OnePeriod e' d') s = one_Periods d d' (ap next s)
 one_Periods (OnePeriod e d) (NoPeriods h) s = absurd (kind_at NoPeriod s e h)
 one_Periods (NoPeriods h) (OnePeriod e' d') s = absurd (kind_at NoPeriod (sym s) e' h)
 one_Periods (NoPeriods h) (NoPeriods h') s = s
 
+-- declared names: the tokens determine it
 pub one_Names : {i j : Input} {ds : List Declared} → Names Longest i ds j → {i' j' : Input} {ds' : List Declared} → Names Longest i' ds' j' → i ≡ i' → (ds ≡ ds') × (j ≡ j')
 one_Names (OneName {c} {n} e d) (OneName {c = c'} {n = n'} e' d') s =
     let p = one_Names d d' (ap next s) in
@@ -107,6 +113,7 @@ one_Names (OneName e d) (NoNames h) s = absurd (kind_at NoName s e h)
 one_Names (NoNames h) (OneName e' d') s = absurd (kind_at NoName (sym s) e' h)
 one_Names (NoNames h) (NoNames h') s = (refl, s)
 
+-- the parameters of a block: the tokens determine it
 one_Parameters : {i j : Input} {ds : List Declared} → Parameters Longest i ds j → {i' j' : Input} {ds' : List Declared} → Parameters Longest i' ds' j' → i ≡ i' → (ds ≡ ds') × (j ≡ j')
 one_Parameters (OneParameter {c} {n} e f d) (OneParameter {c = c'} {n = n'} e' f' d') s =
     let p = one_Parameters d d' (ap (λ i. next (next i)) s) in
@@ -117,6 +124,7 @@ one_Parameters (OneParameter e f d) (NoParameters h) s = absurd (kind_at NoColon
 one_Parameters (NoParameters h) (OneParameter e' f' d') s = absurd (kind_at NoColon (sym s) e' h)
 one_Parameters (NoParameters h) (NoParameters h') s = (refl, s)
 
+-- temporaries or none: the tokens determine it
 one_Temporaries : {i j : Input} {ds : List Declared} → Temporaries Longest i ds j → {i' j' : Input} {ds' : List Declared} → Temporaries Longest i' ds' j' → i ≡ i' → (ds ≡ ds') × (j ≡ j')
 one_Temporaries (Declares e d f) (Declares e' d' f') s = let p = one_Names d d' (ap next s) in (p.0, ap next p.1)
 one_Temporaries (Declares e d f) (DeclaresNone h) s = absurd (kind_at NoBar s e h)
@@ -134,11 +142,13 @@ message_rule (Name c n) = 0
 message_rule (Binary c s) = 1
 message_rule k = 2
 
+-- the rule that spells a message
 abbrev rule_of_Message : {i j : Input} {s : Text} {xs : SpannedTrees} → Message Longest i s xs j → ℕ
 rule_of_Message (UnaryMessage e) = 0
 rule_of_Message (BinaryMessage e x) = 1
 rule_of_Message (KeywordMessage d) = 2
 
+-- it is the rule of the first token
 message_rule-Message : {i j : Input} {s : Text} {xs : SpannedTrees} (d : Message Longest i s xs j) → message_rule (kind_of i) ≡ rule_of_Message d
 message_rule-Message (UnaryMessage e) = ap message_rule e
 message_rule-Message (BinaryMessage e x) = ap message_rule e
@@ -162,6 +172,7 @@ mutual
       let x = one_Keywords k k' (ap from_of s) r.0 r.1 in
       one_Cascaded w w' x.0 x.1
 
+  -- an operand: the tokens determine it
   pub one_Operand : {i j : Input} {r : Chain} → Operand Longest i r j → {i' j' : Input} {r' : Chain} → Operand Longest i' r' j' → i ≡ i' → (r ≡ r') × (j ≡ j')
   one_Operand (Variable {n} e) (Variable {n = n'} e') s =
       let k : Name Ordinary n ≡ Name Ordinary n' = same_kind s e e' in
@@ -183,6 +194,7 @@ mutual
       ((λ v. Alone (Brace (from_of (s v)) (next (p.1 v)).last (p.0 v))), ap next p.1)
   one_Operand d d' s = let e = same_rule operand_rule s (operand_rule-Operand d) (operand_rule-Operand d') in absurd (omega arith)
 
+  -- unary messages: the tokens determine it
   pub one_Unaries : {f : ℕ} {i j : Input} {r u : Chain} → Unaries Longest f r i u j → {f' : ℕ} {i' j' : Input} {r' u' : Chain} → Unaries Longest f' r' i' u' j' → f ≡ f' → r ≡ r' → i ≡ i' → (u ≡ u') × (j ≡ j')
   one_Unaries (OneUnary {c} {n} e u) (OneUnary {c = c'} {n = n'} e' u') g q s =
       let k : Name c n ≡ Name c' n' = same_kind s e e' in
@@ -192,6 +204,7 @@ mutual
   one_Unaries (NoUnaries h) (OneUnary e u) g q s = absurd (kind_at NoName (sym s) e h)
   one_Unaries (NoUnaries h) (NoUnaries h') g q s = (q, s)
 
+  -- binary messages: the tokens determine it
   pub one_Binaries : {f : ℕ} {i j : Input} {r u : Chain} → Binaries Longest f r i u j → {f' : ℕ} {i' j' : Input} {r' u' : Chain} → Binaries Longest f' r' i' u' j' → f ≡ f' → r ≡ r' → i ≡ i' → (u ≡ u') × (j ≡ j')
   one_Binaries (OneBinary {c} {s = b} e x u) (OneBinary {c = c'} {s = b'} e' x' u') g q s =
       let k : Binary c b ≡ Binary c' b' = same_kind s e e' in
@@ -202,6 +215,7 @@ mutual
   one_Binaries (NoBinaries h) (OneBinary e x u) g q s = absurd (kind_at NoBinary (sym s) e h)
   one_Binaries (NoBinaries h) (NoBinaries h') g q s = (q, s)
 
+  -- a keyword message or none: the tokens determine it
   pub one_Keywords : {f : ℕ} {i j : Input} {r u : Chain} → Keywords Longest f r i u j → {f' : ℕ} {i' j' : Input} {r' u' : Chain} → Keywords Longest f' r' i' u' j' → f ≡ f' → r ≡ r' → i ≡ i' → (u ≡ u') × (j ≡ j')
   one_Keywords (OneKeywords d) (OneKeywords d') g q s =
       let p = one_Parts d d' s in
@@ -210,6 +224,7 @@ mutual
   one_Keywords (NoKeywords h) (OneKeywords d) g q s = absurd (starts_Parts d (subst (λ i. NoKeyword (kind_of i)) s h))
   one_Keywords (NoKeywords h) (NoKeywords h') g q s = (q, s)
 
+  -- keywords with their arguments: the tokens determine it
   pub one_Parts : {i j : Input} {k : Text} {xs : SpannedTrees} → Parts Longest i k xs j → {i' j' : Input} {k' : Text} {xs' : SpannedTrees} → Parts Longest i' k' xs' j' → i ≡ i' → (k ≡ k') × (xs ≡ xs') × (j ≡ j')
   one_Parts (LastPart {c} {k} e x h) (LastPart {c = c'} {k = k'} e' x' h') s =
       let names : Keyword c k ≡ Keyword c' k' = same_kind s e e' in
@@ -225,12 +240,14 @@ mutual
   one_Parts (LastPart e x h) (FurtherPart e' x' d) s = let p = one_KeywordArgument x x' (ap next s) in absurd (starts_Parts d (subst (λ i. NoKeyword (kind_of i)) p.1 h))
   one_Parts (FurtherPart e x d) (LastPart e' x' h) s = let p = one_KeywordArgument x x' (ap next s) in absurd (starts_Parts d (subst (λ i. NoKeyword (kind_of i)) (sym p.1) h))
 
+  -- the argument of a binary message: the tokens determine it
   pub one_Argument : {i j : Input} {t : SpannedTree} → Argument Longest i t j → {i' j' : Input} {t' : SpannedTree} → Argument Longest i' t' j' → i ≡ i' → (t ≡ t') × (j ≡ j')
   one_Argument (BinaryArgument o u w) (BinaryArgument o' u' w') s =
       let p = one_Operand o o' s in
       let q = one_Unaries u u' (ap from_of s) p.0 p.1 in
       (ap whole q.0, q.1)
 
+  -- the argument of a keyword: the tokens determine it
   pub one_KeywordArgument : {i j : Input} {t : SpannedTree} → KeywordArgument Longest i t j → {i' j' : Input} {t' : SpannedTree} → KeywordArgument Longest i' t' j' → i ≡ i' → (t ≡ t') × (j ≡ j')
   one_KeywordArgument (ArgumentOfKeyword o u b w) (ArgumentOfKeyword o' u' b' w') s =
       let p = one_Operand o o' s in
@@ -238,6 +255,7 @@ mutual
       let r = one_Binaries b b' (ap from_of s) q.0 q.1 in
       (ap whole r.0, r.1)
 
+  -- a cascade or none: the tokens determine it
   pub one_Cascaded : {r : Chain} {i j : Input} {t : SpannedTree} → Cascaded Longest r i t j → {r' : Chain} {i' j' : Input} {t' : SpannedTree} → Cascaded Longest r' i' t' j' → r ≡ r' → i ≡ i' → (t ≡ t') × (j ≡ j')
   one_Cascaded (NoCascade w h) (NoCascade w' h') q s = (ap whole q, s)
   one_Cascaded (NoCascade w h) (OneCascade e d) q s = absurd (kind_at NoSemicolon (sym s) e h)
@@ -250,6 +268,7 @@ mutual
       let arguments : xs ≡ xs' = cc in
       ((λ v. Cascade (froms v) (p.1 v).last (receivers v) (MoreMessages (selectors v) (arguments v) (p.0 v))), p.1)
 
+  -- the messages of a cascade: the tokens determine it
   pub one_Messages : {i j : Input} {ms : SpannedMessages} → Messages Longest i ms j → {i' j' : Input} {ms' : SpannedMessages} → Messages Longest i' ms' j' → i ≡ i' → (ms ≡ ms') × (j ≡ j')
   one_Messages (OneMessage e m d) (OneMessage e' m' d') s =
       let p = one_Message m m' (ap next s) in
@@ -259,6 +278,7 @@ mutual
   one_Messages (LastMessage h) (OneMessage e m d) s = absurd (kind_at NoSemicolon (sym s) e h)
   one_Messages (LastMessage h) (LastMessage h') s = (refl, s)
 
+  -- one message of a cascade: the tokens determine it
   pub one_Message : {i j : Input} {k : Text} {xs : SpannedTrees} → Message Longest i k xs j → {i' j' : Input} {k' : Text} {xs' : SpannedTrees} → Message Longest i' k' xs' j' → i ≡ i' → (k ≡ k') × (xs ≡ xs') × (j ≡ j')
   one_Message (UnaryMessage {c} {n} e) (UnaryMessage {c = c'} {n = n'} e') s =
       let k : Name c n ≡ Name c' n' = same_kind s e e' in
@@ -271,6 +291,7 @@ mutual
   one_Message (KeywordMessage d) (KeywordMessage d') s = one_Parts d d' s
   one_Message d d' s = let e = same_rule message_rule s (message_rule-Message d) (message_rule-Message d') in absurd (omega arith)
 
+  -- the items of a brace array: the tokens determine it
   pub one_Items : {i j : Input} {ts : SpannedTrees} → Items Longest i ts j → {i' j' : Input} {ts' : SpannedTrees} → Items Longest i' ts' j' → i ≡ i' → (ts ≡ ts') × (j ≡ j')
   one_Items (NoItems h) (NoItems h') s = (refl, s)
   one_Items (NoItems h) (OneItem d r) s = absurd (starts_here s d h)
@@ -280,12 +301,14 @@ mutual
       let q = one_FurtherItems r r' p.1 in
       ((λ v. MoreTrees (p.0 v) (q.0 v)), q.1)
 
+  -- what stands behind an item: the tokens determine it
   pub one_FurtherItems : {i j : Input} {ts : SpannedTrees} → FurtherItems Longest i ts j → {i' j' : Input} {ts' : SpannedTrees} → FurtherItems Longest i' ts' j' → i ≡ i' → (ts ≡ ts') × (j ≡ j')
   one_FurtherItems (NextItem e d) (NextItem e' d') s = one_Items d d' (ap next s)
   one_FurtherItems (NextItem e d) (LastItem h) s = absurd (kind_at NoPeriod s e h)
   one_FurtherItems (LastItem h) (NextItem e d) s = absurd (kind_at NoPeriod (sym s) e h)
   one_FurtherItems (LastItem h) (LastItem h') s = (refl, s)
 
+  -- what stands between the brackets of a block: the tokens determine it
   pub one_BlockBody : {i j : Input} {ps ds : List Declared} {ss : SpannedStatements} → BlockBody Longest i ps ds ss j → {i' j' : Input} {ps' ds' : List Declared} {ss' : SpannedStatements} → BlockBody Longest i' ps' ds' ss' j' → i ≡ i' → (ps ≡ ps') × (ds ≡ ds') × (ss ≡ ss') × (j ≡ j')
   one_BlockBody (WithoutParameters h b) (WithoutParameters h' b') s = let p = one_Sequence b b' s in (refl, p.0, p.1, p.2)
   one_BlockBody (ParametersAlone e p c) (ParametersAlone e' p' c') s = let q = one_Parameters p p' s in (q.0, refl, refl, q.1)
@@ -332,12 +355,14 @@ mutual
   one_Statements (NoMore h) (OneStatement d a) s = absurd (starts_here s d (NoStatement-NoOperand _ h))
   one_Statements (OneStatement d a) (NoMore h) s = absurd (starts_here (sym s) d (NoStatement-NoOperand _ h))
 
+  -- what stands behind a statement: the tokens determine it
   pub one_After : {i j : Input} {c : Notes} {ss : SpannedStatements} → After Longest i c ss j → {i' j' : Input} {c' : Notes} {ss' : SpannedStatements} → After Longest i' c' ss' j' → i ≡ i' → (c ≡ c') × (ss ≡ ss') × (j ≡ j')
   one_After (Ended e b) (Ended e' b') s = let p = one_Statements b b' (ap (λ i. clear (next i)) s) in (ap (λ i. (next i).held) s, p.0, p.1)
   one_After (Ended e b) (Unended h) s = absurd (kind_at NoPeriod s e h)
   one_After (Unended h) (Ended e b) s = absurd (kind_at NoPeriod (sym s) e h)
   one_After (Unended h) (Unended h') s = (ap (λ (i : Input). i.held) s, refl, ap clear s)
 
+  -- what stands behind a return: the tokens determine it
   pub one_Finish : {i j : Input} {c : Notes} → Finish Longest i c j → {i' j' : Input} {c' : Notes} → Finish Longest i' c' j' → i ≡ i' → (c ≡ c') × (j ≡ j')
   one_Finish (EndedReturn e p) (EndedReturn e' p') s = (ap (λ i. (next i).held) s, one_Periods p p' (ap (λ i. clear (next i)) s))
   one_Finish (EndedReturn e p) (UnendedReturn h) s = absurd (kind_at NoPeriod s e h)

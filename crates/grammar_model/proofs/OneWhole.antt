@@ -25,6 +25,7 @@ one_IsDoIt v w a b =
     let tails : v.tail ≡ w.tail = one_IsOver p.2 a.over b.over in
     λ k. record { temporaries = p.0 k; statements = p.1 k; tail = tails k }
 
+-- the keywords of a pattern begin with a keyword
 starts_PatternParts : {i j : Input} {s : Text} {ds : List Declared} → PatternParts Longest i s ds j → NoKeyword (kind_of i) → ⊥
 starts_PatternParts (LastPatternPart e f n) h = subst NoKeyword e h
 starts_PatternParts (FurtherPatternPart e f d) h = subst NoKeyword e h
@@ -36,6 +37,7 @@ same_declared {c} {c'} {n} {n'} s e e' =
     let same : n ≡ n' = cc in
     λ v. record { name = same v; from = from_of (s v) }
 
+-- the keywords of a pattern: the tokens determine it
 one_PatternParts : {i j : Input} {k : Text} {ds : List Declared} → PatternParts Longest i k ds j → {i' j' : Input} {k' : Text} {ds' : List Declared} → PatternParts Longest i' k' ds' j' → i ≡ i' → (k ≡ k') × (ds ≡ ds') × (j ≡ j')
 one_PatternParts (LastPatternPart {c} {k} e f h) (LastPatternPart {c = c'} {k = k'} e' f' h') s =
     let names : Keyword c k ≡ Keyword c' k' = same_kind s e e' in
@@ -56,17 +58,20 @@ pattern_rule (Name c n) = 0
 pattern_rule (Binary c s) = 1
 pattern_rule k = 2
 
+-- the rule that spells a pattern
 abbrev rule_of_Pattern : {i j : Input} {s : Text} {ds : List Declared} → Pattern Longest i s ds j → ℕ
 rule_of_Pattern (UnaryPattern e) = 0
 rule_of_Pattern (BinaryPattern e f) = 1
 rule_of_Pattern (KeywordPattern d) = 2
 
+-- it is the rule of the first token
 pattern_rule-Pattern : {i j : Input} {s : Text} {ds : List Declared} (d : Pattern Longest i s ds j) → pattern_rule (kind_of i) ≡ rule_of_Pattern d
 pattern_rule-Pattern (UnaryPattern e) = ap pattern_rule e
 pattern_rule-Pattern (BinaryPattern e f) = ap pattern_rule e
 pattern_rule-Pattern (KeywordPattern (LastPatternPart e f h)) = ap pattern_rule e
 pattern_rule-Pattern (KeywordPattern (FurtherPatternPart e f r)) = ap pattern_rule e
 
+-- a pattern: the tokens determine it
 one_Pattern : {i j : Input} {k : Text} {ds : List Declared} → Pattern Longest i k ds j → {i' j' : Input} {k' : Text} {ds' : List Declared} → Pattern Longest i' k' ds' j' → i ≡ i' → (k ≡ k') × (ds ≡ ds') × (j ≡ j')
 one_Pattern (UnaryPattern {c} {n} e) (UnaryPattern {c = c'} {n = n'} e') s =
     let k : Name c n ≡ Name c' n' = same_kind s e e' in
@@ -78,6 +83,7 @@ one_Pattern (BinaryPattern {c} {s = b} e f) (BinaryPattern {c = c'} {s = b'} e' 
 one_Pattern (KeywordPattern d) (KeywordPattern d') s = one_PatternParts d d' s
 one_Pattern d d' s = let e = same_rule pattern_rule s (pattern_rule-Pattern d) (pattern_rule-Pattern d') in absurd (omega arith)
 
+-- the body of a method: the tokens determine it
 one_MethodBody : {i j : Input} {c : Notes} {ds : List Declared} {ss : SpannedStatements} → MethodBody Longest i c ds ss j → {i' j' : Input} {c' : Notes} {ds' : List Declared} {ss' : SpannedStatements} → MethodBody Longest i' c' ds' ss' j' → i ≡ i' → (c ≡ c') × (ds ≡ ds') × (ss ≡ ss') × (j ≡ j')
 one_MethodBody (WithBars e d f b) (WithBars e' d' f' b') s =
     let p = one_Names d d' (ap (λ i. clear (next i)) s) in
@@ -87,6 +93,7 @@ one_MethodBody (WithoutBars h b) (WithoutBars h' b') s = let q = one_Statements 
 one_MethodBody (WithBars e d f b) (WithoutBars h b') s = absurd (kind_at NoBar s e h)
 one_MethodBody (WithoutBars h b') (WithBars e d f b) s = absurd (kind_at NoBar (sym s) e h)
 
+-- a primitive: the tokens determine it
 one_Primitive : {i j : Input} {n : ℕ} → Primitive i n j → {i' j' : Input} {n' : ℕ} → Primitive i' n' j' → i ≡ i' → (n ≡ n') × (j ≡ j')
 one_Primitive (OnePrimitive {t} a b c d) (OnePrimitive {t = t'} a' b' c' d') s =
     let k : Numeral SmallDigits t ≡ Numeral SmallDigits t' = same_kind (ap (λ i. next (next i)) s) c c' in
@@ -100,6 +107,7 @@ closing_bracket e (NoMore h) o = let k = sym e ∙ ap first_kind o.over in cc
 closing_bracket e (Returned f d b) o = let k = sym e ∙ f in cc
 closing_bracket e (OneStatement d a) o = subst IsOperandStart e (starts_Expression d)
 
+-- a body is no primitive
 no_primitive : {i j k : Input} {c t : Notes} {n : ℕ} {ds : List Declared} {ss : SpannedStatements} → MethodBody Longest i c ds ss j → IsOver j t → {i' : Input} → i ≡ i' → Primitive i' n k → ⊥
 no_primitive (WithBars e d f b) o s (OnePrimitive a r x y) = let k = same_kind s e a in cc
 no_primitive (WithoutBars h b) o s (OnePrimitive a r x y) = closing_bracket (ap kind_of s ∙ a) b o

@@ -147,6 +147,7 @@ unary_end-argument [] (Told a b r s xs) ss h = refl
 unary_end-argument (lex c f e (Name k n) ∷ ts) (Told a b r s xs) ss h = absurd h
 unary_end-argument (lex c f e k ∷ ts) (Told a b r s xs) ss h = refl
 
+-- the same in an expression
 pub unary_end-expression : (ts : List Lexeme) (u : Chain) (ss : Stack) → NoName (first_kind ts) → run (unary_part InExpression u ∷ ss) ts ≡ run (binary_part u ∷ ss) ts
 unary_end-expression ts (Waiting f e n) ss h = refl
 unary_end-expression [] (Alone t) ss h = refl
@@ -156,6 +157,7 @@ unary_end-expression [] (Told a b r s xs) ss h = refl
 unary_end-expression (lex c f e (Name k n) ∷ ts) (Told a b r s xs) ss h = absurd h
 unary_end-expression (lex c f e k ∷ ts) (Told a b r s xs) ss h = refl
 
+-- the same in a binary message's argument
 pub unary_end-binary : (ts : List Lexeme) (u : Chain) (ss : Stack) → IsWhole u → NoName (first_kind ts) → run (unary_part InBinary u ∷ ss) ts ≡ run ss ts
 unary_end-binary ts (Waiting f e n) ss w h = absurd w
 unary_end-binary [] (Alone t) ss w h = refl
@@ -217,11 +219,13 @@ statement_end [] ss h = refl
 statement_end (lex c f e Period ∷ ts) ss h = absurd h
 statement_end (lex c f e k ∷ ts) ss h = refl
 
+-- behind a return
 pub return_end : (ts : List Lexeme) (ss : Stack) → NoPeriod (first_kind ts) → run (BehindReturn ∷ ss) ts ≡ run ss ts
 return_end [] ss h = refl
 return_end (lex c f e Period ∷ ts) ss h = absurd h
 return_end (lex c f e k ∷ ts) ss h = refl
 
+-- behind an item of a brace array
 pub item_end : (ts : List Lexeme) (ss : Stack) → NoPeriod (first_kind ts) → run (FurtherItem ∷ ss) ts ≡ run ss ts
 item_end [] ss h = refl
 item_end (lex c f e Period ∷ ts) ss h = absurd h
@@ -239,12 +243,14 @@ elements_end (lex c f e (Opens BraceStart) ∷ ts) ss h t = either_way _ _ _ _ _
 elements_end (lex c f e (Opens o) ∷ ts) ss h t = absurd h
 elements_end (lex c f e k ∷ ts) ss h t = either_way _ _ _ _ _ t.steps
 
+-- behind the numerals of a byte array
 pub bytes_end : (ts : List Lexeme) (ss : Stack) → NoDigits (first_kind ts) → Takes ss (first_kind ts) → run (TheBytes ∷ ss) ts ≡ run ss ts
 bytes_end [] ss h t = refl
 bytes_end (lex c f e (Numeral SmallDigits n) ∷ ts) ss h t = absurd h
 bytes_end (lex c f e (Numeral LargeDigits n) ∷ ts) ss h t = absurd h
 bytes_end (lex c f e k ∷ ts) ss h t = either_way _ _ _ _ _ t.steps
 
+-- behind the items of a brace array
 pub items_end : (ts : List Lexeme) (ss : Stack) → NoOperand (first_kind ts) → Takes ss (first_kind ts) → run (TheItems ∷ ss) ts ≡ run ss ts
 items_end [] ss h t = refl
 items_end (lex c f e (Name k n) ∷ ts) ss h t = absurd h
@@ -254,6 +260,7 @@ items_end (lex c f e (Constant l) ∷ ts) ss h t = absurd h
 items_end (lex c f e (Opens o) ∷ ts) ss h t = absurd h
 items_end (lex c f e k ∷ ts) ss h t = either_way _ _ _ _ _ t.steps
 
+-- behind statements
 pub statements_end : (ts : List Lexeme) (ss : Stack) → NoStatement (first_kind ts) → Takes ss (first_kind ts) → run (TheStatements ∷ ss) ts ≡ run ss ts
 statements_end [] ss h t = refl
 statements_end (lex c f e (Name k n) ∷ ts) ss h t = absurd h
@@ -282,11 +289,13 @@ abbrev pub MayBeOperand : Position → List Lexeme → Type 0
 MayBeOperand InExpression ts = NoAssignment (first_kind ts) (first_kind (others ts))
 MayBeOperand p ts = Unit {0}
 
+-- a name that is an operand is read
 pub reads_name : (p : Position) (ts : List Lexeme) (n : Text) (t : SpannedTree) (ss : Stack) → MayBeOperand p ts → first_kind ts ≡ Name Ordinary n → run (operand_part p ∷ ss) ts ≡ run (unary_part p (Alone t) ∷ ss) (others ts)
 reads_name InExpression ts n t ss h e = reads _ _ ts (Name Ordinary n) e tt refl ∙ behind_name (others ts) n ss (subst (λ k. NoAssignment k (first_kind (others ts))) e h)
 reads_name InKeyword ts n t ss h e = reads _ _ ts (Name Ordinary n) e tt refl
 reads_name InBinary ts n t ss h e = reads _ _ ts (Name Ordinary n) e tt refl
 
+-- super is read
 pub reads_super : (p : Position) (ts : List Lexeme) (f e : ℕ) (n : Text) (ss : Stack) → MayBeOperand p ts → first_kind ts ≡ Name Super n → run (operand_part p ∷ ss) ts ≡ run (unary_part p (Waiting f e n) ∷ ss) (others ts)
 reads_super InExpression ts f e n ss m h = reads _ _ ts (Name Super n) h tt refl ∙ behind_super (others ts) n ss (subst (λ k. NoAssignment k (first_kind (others ts))) h m)
 reads_super InKeyword ts f e n ss m h = reads _ _ ts (Name Super n) h tt refl

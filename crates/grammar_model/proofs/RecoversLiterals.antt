@@ -29,16 +29,19 @@ pub record Shut (k : Terminal) (ts : List Lexeme) (ss : Stack) : Type 0 where
   pub shorter : suc (length (others ts)) ≡ length ts
   pub goes_on : run ss (others ts) ≡ None
 
+-- a closing parenthesis stands first
 pub closed : (ts : List Lexeme) (ss : Stack) → run (Awaits GroupEnd ∷ ss) ts ≡ None → Shut (Closes GroupEnd) ts ss
 closed [] ss h = cc
 closed (lex c f e (Closes GroupEnd) ∷ ts) ss h = record { is = refl; shorter = refl; goes_on = h }
 closed (lex c f e k ∷ ts) ss h = cc
 
+-- a closing bracket stands first
 pub block_closed : (ts : List Lexeme) (ss : Stack) → run (Awaits BlockEnd ∷ ss) ts ≡ None → Shut (Closes BlockEnd) ts ss
 block_closed [] ss h = cc
 block_closed (lex c f e (Closes BlockEnd) ∷ ts) ss h = record { is = refl; shorter = refl; goes_on = h }
 block_closed (lex c f e k ∷ ts) ss h = cc
 
+-- a closing brace stands first
 pub brace_closed : (ts : List Lexeme) (ss : Stack) → run (Awaits BraceEnd ∷ ss) ts ≡ None → Shut (Closes BraceEnd) ts ss
 brace_closed [] ss h = cc
 brace_closed (lex c f e (Closes BraceEnd) ∷ ts) ss h = record { is = refl; shorter = refl; goes_on = h }

@@ -25,6 +25,7 @@ AllLow (Awaits BraceEnd ∷ ss) = AllLow ss
 AllLow (Awaits TextEnd ∷ []) = Unit {0}
 AllLow ss = ⊥
 
+-- nothing is left
 abbrev pub IsNil : Stack → Type 0
 IsNil [] = Unit {0}
 IsNil (p ∷ ss) = ⊥
@@ -35,6 +36,7 @@ IsGood [] = Unit {0}
 IsGood (Awaits TextEnd ∷ ss) = IsNil ss
 IsGood (p ∷ ss) = AllLow ss
 
+-- low stacks are good
 pub low_good : (ss : Stack) → AllLow ss → IsGood ss
 low_good [] h = absurd h
 low_good (UnaryOfBinary ∷ ss) h = h
@@ -61,10 +63,12 @@ closing [] = []
 closing (Awaits c ∷ ss) = Closes c ∷ closing ss
 closing (p ∷ ss) = closing ss
 
+-- a closing mark stands first
 abbrev pub BeginsClosing : List Terminal → Type 0
 BeginsClosing (Closes c ∷ ts) = Unit {0}
 BeginsClosing ts = ⊥
 
+-- a low stack awaits a closing mark
 pub closing_begins : (ss : Stack) → AllLow ss → BeginsClosing (closing ss)
 closing_begins [] h = absurd h
 closing_begins (UnaryOfBinary ∷ ss) h = closing_begins ss h
@@ -103,6 +107,7 @@ IsPassing PrimitiveEnd = ⊥
 IsPassing (Awaits c) = ⊥
 IsPassing p = Unit {0}
 
+-- a closing mark passes
 pub step-passing : (p : Part) (c : Closing) (ss : Stack) → IsPassing p → step (p ∷ ss) (Closes c) ≡ step ss (Closes c)
 step-passing TheExpression c ss h = absurd h
 step-passing TheArgument c ss h = absurd h
@@ -126,10 +131,12 @@ step-passing (PatternRest false) c ss h = refl
 step-passing (PatternRest true) c ss h = refl
 step-passing p c ss h = refl
 
+-- tokens that begin with a closing mark pass
 passes : (ks : List Terminal) (p : Part) (ss : Stack) → IsPassing p → BeginsClosing ks → feeds (p ∷ ss) ks ≡ feeds ss ks
 passes (Closes c ∷ ks) p ss h b = let f : Option Stack → Option Stack = λ o. option_map_or (λ s. feeds s ks) o None in λ v. f (step-passing p c ss h v)
 passes ks p ss h b = absurd b
 
+-- the marks that close a low stack are read
 pub low_closes : (ss : Stack) → AllLow ss → feeds ss (closing ss) ≡ Some []
 low_closes [] h = absurd h
 low_closes (UnaryOfBinary ∷ ss) h = passes (closing ss) UnaryOfBinary ss tt (closing_begins ss h) ∙ low_closes ss h
@@ -150,9 +157,11 @@ low_closes (Awaits TextEnd ∷ []) h = refl
 low_closes (Awaits TextEnd ∷ p ∷ ss) h = absurd h
 low_closes (p ∷ ss) h = absurd h
 
+-- they are read through a part that lets them pass
 passing_closes : (p : Part) (ss : Stack) → IsPassing p → AllLow ss → feeds (p ∷ ss) (closing ss) ≡ Some []
 passing_closes p ss h l = passes (closing ss) p ss h (closing_begins ss l) ∙ low_closes ss l
 
+-- they are read through a method's body
 body_closes : (kernel : Bool) (ss : Stack) → AllLow ss → feeds (body_part kernel ∷ ss) (closing ss) ≡ Some []
 body_closes false ss h = passing_closes TheSequence ss tt h
 body_closes true ss h = passing_closes KernelBody ss tt h
@@ -170,6 +179,7 @@ abbrev pub BeginsOther : List Terminal → Type 0
 BeginsOther [] = ⊥
 BeginsOther (k ∷ ks) = NoName k
 
+-- a closing mark is no identifier
 closing_other : (ks : List Terminal) → BeginsClosing ks → BeginsOther ks
 closing_other [] h = absurd h
 closing_other (Closes c ∷ ks) h = tt
@@ -187,6 +197,7 @@ pub record CompletesOther (ss : Stack) : Type 0 where
   pub others : List Terminal
   pub read : feeds ss (first ∷ others) ≡ Some []
 
+-- a part that lets closing marks pass has such an end
 passing_completes : (p : Part) (ss : Stack) → IsPassing p → AllLow ss → CompletesOther (p ∷ ss)
 passing_completes p ss h l = other (closing ss) (closing_other (closing ss) (closing_begins ss l)) (passing_closes p ss h l)
   where
@@ -229,6 +240,7 @@ completes_other (Awaits TextEnd ∷ []) h n e = record { first = Closes TextEnd;
 completes_other (Awaits TextEnd ∷ p ∷ ss) h n e = absurd h
 completes_other (p ∷ ss) h n e = passing_completes p ss tt h
 
+-- such an end is an end
 other_completes : (ss : Stack) → CompletesOther ss → Completes ss
 other_completes ss c = record { tokens = c.first ∷ c.others; read = c.read }
 

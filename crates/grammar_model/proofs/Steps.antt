@@ -5,6 +5,7 @@ use Rattle.grammar_model.specs.Terminal.{Ordinary, Super, PrimitiveKeyword, Comm
 use Rattle.grammar_model.specs.Machine.{Stack, TheExpression, TheArgument, TheKeywordArgument, BehindName, BehindFirstSuper, BehindSuper, BehindSuperOfKeyword, BehindSuperOfBinary, UnaryOfBinary, UnaryOfKeyword, BinaryOfKeyword, UnaryMessages, BinaryMessages, KeywordMessages, TheMessage, TheCascade, TheNumeral, TheElements, TheBytes, TheItems, FurtherItem, TheBlock, TheParameter, TheParameters, TheSequence, TheNames, TheStatements, BehindStatement, BehindReturn, ThePattern, BinaryName, KeywordName, PatternRest, KernelBody, ThePrimitive, PrimitiveNumber, PrimitiveEnd, Awaits, begin_operand, begin_expression, begin_statement, begin_sequence, begin_body, begin_cascade, body_part, step}
 use Rattle.grammar_model.proofs.Stacks.{AllLow, IsNil, IsGood, low_good, GoodIfSome}
 
+-- behind the first token of an operand
 good_operand : (k : Terminal) (ss : Stack) (o : Option Stack) → AllLow ss → GoodIfSome o → GoodIfSome (begin_operand k ss o)
 good_operand (Binary Sign s) ss o h g = h
 good_operand (Numeral c t) ss o h g = low_good ss h
@@ -16,33 +17,40 @@ good_operand (Opens ArrayStart) ss o h g = h
 good_operand (Opens BytesStart) ss o h g = h
 good_operand k ss o h g = g
 
+-- behind the first token of an expression
 good_expression : (k : Terminal) (ss : Stack) (o : Option Stack) → AllLow ss → GoodIfSome o → GoodIfSome (begin_expression k ss o)
 good_expression (Name Ordinary n) ss o h g = h
 good_expression (Name Super n) ss o h g = h
 good_expression k ss o h g = good_operand k (UnaryMessages false ∷ ss) o h g
 
+-- behind the first token of a statement
 good_statement : (k : Terminal) (ss : Stack) (o : Option Stack) → AllLow ss → GoodIfSome o → GoodIfSome (begin_statement k ss o)
 good_statement Period ss o h g = h
 good_statement Caret ss o h g = h
 good_statement k ss o h g = good_expression k (BehindStatement ∷ ss) o h g
 
+-- behind the first token of a sequence
 good_sequence : (k : Terminal) (ss : Stack) (o : Option Stack) → AllLow ss → GoodIfSome o → GoodIfSome (begin_sequence k ss o)
 good_sequence (Binary Bar s) ss o h g = h
 good_sequence k ss o h g = good_statement k ss o h g
 
+-- behind the first token of a method's body
 good_body : (kernel : Bool) (k : Terminal) (ss : Stack) (o : Option Stack) → AllLow ss → GoodIfSome o → GoodIfSome (begin_body kernel k ss o)
 good_body false k ss o h g = good_sequence k ss o h g
 good_body true (Binary Less s) ss o h g = h
 good_body true k ss o h g = good_sequence k ss o h g
 
+-- before a method's body
 good_body_part : (kernel : Bool) (ss : Stack) → AllLow ss → IsGood (body_part kernel ∷ ss)
 good_body_part false ss h = h
 good_body_part true ss h = h
 
+-- behind a semicolon
 good_cascade : (told : Bool) (ss : Stack) → AllLow ss → GoodIfSome (begin_cascade told ss)
 good_cascade true ss h = h
 good_cascade false ss h = tt
 
+-- a low stack stays good
 low_step : (ss : Stack) (k : Terminal) → AllLow ss → GoodIfSome (step ss k)
 low_step [] k h = tt
 low_step (UnaryOfBinary ∷ ss) (Name c n) h = h
@@ -98,16 +106,19 @@ low_step (Awaits TextEnd ∷ []) k h = tt
 low_step (Awaits TextEnd ∷ p ∷ ss) k h = absurd h
 low_step (p ∷ ss) k h = absurd h
 
+-- the argument of a binary message
 step_argument : (k : Terminal) (ss : Stack) → AllLow ss → GoodIfSome (step (TheArgument ∷ ss) k)
 step_argument (Name Ordinary n) ss h = h
 step_argument (Name Super n) ss h = h
 step_argument k ss h = good_operand k (UnaryOfBinary ∷ ss) None h tt
 
+-- the argument of a keyword
 step_keyword_argument : (k : Terminal) (ss : Stack) → AllLow ss → GoodIfSome (step (TheKeywordArgument ∷ ss) k)
 step_keyword_argument (Name Ordinary n) ss h = h
 step_keyword_argument (Name Super n) ss h = h
 step_keyword_argument k ss h = good_operand k (UnaryOfKeyword ∷ ss) None h tt
 
+-- behind super
 step_super : (k : Terminal) (ss : Stack) → AllLow ss → GoodIfSome (step (BehindFirstSuper ∷ ss) k)
 step_super Assignment ss h = h
 step_super (Name c n) ss h = h
@@ -115,6 +126,7 @@ step_super (Binary c n) ss h = h
 step_super (Keyword c n) ss h = h
 step_super k ss h = tt
 
+-- behind a name
 step_name : (k : Terminal) (ss : Stack) → AllLow ss → GoodIfSome (step (BehindName ∷ ss) k)
 step_name Assignment ss h = h
 step_name (Name c n) ss h = h
@@ -123,20 +135,24 @@ step_name (Keyword c n) ss h = h
 step_name Semicolon ss h = tt
 step_name k ss h = low_step ss k h
 
+-- in a byte array
 step_bytes : (k : Terminal) (ss : Stack) → AllLow ss → GoodIfSome (step (TheBytes ∷ ss) k)
 step_bytes (Numeral SmallDigits n) ss h = h
 step_bytes (Numeral LargeDigits n) ss h = h
 step_bytes k ss h = low_step ss k h
 
+-- behind parameters
 step_parameters : (k : Terminal) (ss : Stack) → AllLow ss → GoodIfSome (step (TheParameters ∷ ss) k)
 step_parameters Colon ss h = h
 step_parameters (Binary Bar s) ss h = h
 step_parameters k ss h = low_step ss k h
 
+-- in a block
 step_block : (k : Terminal) (ss : Stack) → AllLow ss → GoodIfSome (step (TheBlock ∷ ss) k)
 step_block Colon ss h = h
 step_block k ss h = good_sequence k ss (step ss k) h (low_step ss k h)
 
+-- in a pattern
 step_rest : (kernel : Bool) (k : Terminal) (ss : Stack) → AllLow ss → GoodIfSome (step (PatternRest kernel ∷ ss) k)
 step_rest kernel (Keyword c n) ss h = h
 step_rest kernel k ss h = good_body kernel k ss (step ss k) h (low_step ss k h)
@@ -203,6 +219,7 @@ abbrev pub EmptyIfSome : Option Stack → Type 0
 EmptyIfSome None = Unit {0}
 EmptyIfSome (Some ss) = IsNil ss
 
+-- at the end of the text nothing is left of a low stack that reads it
 low_end : (ss : Stack) → AllLow ss → EmptyIfSome (step ss (Closes TextEnd))
 low_end [] h = absurd h
 low_end (UnaryOfBinary ∷ ss) h = low_end ss h

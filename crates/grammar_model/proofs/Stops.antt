@@ -33,6 +33,7 @@ record Stopped (ss : Stack) (ts left : List Lexeme) (w : Wanted) (b : Bool) : Ty
   wish_is : wish to ≡ w
   start_is : may_start to ≡ b
 
+-- tokens that end early are not wrong at a token
 never : (ss : Stack) (left : List Lexeme) (w : Wanted) (b : Bool) → ended ss ≡ Some (At left w b) → ⊥
 never [] l w b h = cc
 never (BehindName ∷ ss) l w b h = never ss l w b h
@@ -57,6 +58,7 @@ never (PatternRest kernel ∷ ss) l w b h = never ss l w b h
 never (KernelBody ∷ ss) l w b h = never ss l w b h
 never (p ∷ ss) l w b h = cc
 
+-- one token more
 stop_step : (c : Notes) (g e : ℕ) (k : Terminal) (ts : List Lexeme) (ss : Stack) (o : Option Stack) (left : List Lexeme) (w : Wanted) (b : Bool) → IsGood ss → o ≡ step ss k →
     option_map_or (λ s. run s ts) o (Some (At (lex c g e k ∷ ts) (wish ss) (may_start ss))) ≡ Some (At left w b) → ((s : Stack) → o ≡ Some s → run s ts ≡ Some (At left w b) → Stopped s ts left w b) → Stopped ss (lex c g e k ∷ ts) left w b
 stop_step c g e k ts ss None left w b h is r later =
@@ -81,6 +83,7 @@ stop_step c g e k ts ss (Some s) left w b h is r later =
       start_is = l.start_is;
     }
 
+-- the machine stops at a token
 stops_at : (ts : List Lexeme) (ss : Stack) (left : List Lexeme) (w : Wanted) (b : Bool) → IsGood ss → run ss ts ≡ Some (At left w b) → Stopped ss ts left w b
 stops_at [] ss left w b h r = absurd (never ss left w b r)
 stops_at (lex c g e k ∷ ts) ss left w b h r = stop_step c g e k ts ss (step ss k) left w b h refl r (λ s is. stops_at ts s left w b (subst GoodIfSome is (good_step ss k h)))
@@ -96,10 +99,12 @@ decides_user DoIt b e = (λ u. sym e, λ t. tt)
 decides_user (Method true) b e = (λ u. absurd u, λ t. let k : false ≡ true = e ∙ t in cc)
 decides_user (Method false) b e = (λ u. sym e, λ t. tt)
 
+-- the test for a primitive is right
 primitive_parts : (k l : Terminal) → is_primitive k l ≡ true → IsLess k × IsPrimitiveKeyword l
 primitive_parts (Binary Less s) (Keyword PrimitiveKeyword t) e = (tt, tt)
 primitive_parts k l e = cc
 
+-- the test finds each primitive
 parts_primitive : (k l : Terminal) → IsLess k → IsPrimitiveKeyword l → is_primitive k l ≡ true
 parts_primitive (Binary Less s) (Keyword PrimitiveKeyword t) a b = refl
 parts_primitive (Binary Less s) (Keyword AnyKeyword t) a b = absurd b

@@ -26,10 +26,12 @@ ended_more : (c : Notes) (f e : ℕ) (k : Terminal) (ts : List Lexeme) → IsEnd
 ended_more c f e k [] h = absurd h
 ended_more c f e k (t ∷ ts) h = h
 
+-- one token more or a comment
 ended_option : (o : Option Terminal) (c : Notes) (f e : ℕ) (ts us : List Lexeme) → IsEnded ts → IsEnded us → IsEnded (option_map_or (λ k. lex c f e k ∷ ts) o us)
 ended_option None c f e ts us h g = g
 ended_option (Some k) c f e ts us h g = ended_more c f e k ts h
 
+-- the last token is the end
 ended_last : (k : TokenKind) (c : Notes) (f e : ℕ) (s : Text) (b : Bool) → k ≡ token.End → IsEnded (option_map_or (λ k. lex c f e k ∷ []) (terminal_of k s b) [])
 ended_last k c f e s b h = subst (λ k. IsEnded (option_map_or (λ k. lex c f e k ∷ []) (terminal_of k s b) [])) (sym h) refl
 
@@ -41,6 +43,7 @@ ended_tokens d t at ps fault held (Further here p qs f n e r) none =
     ended_option (terminal_of p.kind (slice_range t p.from p.to) (begins_numeral p.to qs)) held p.from p.to (lexemes_of t [] qs) (lexemes_of t (held ++ slice_range t p.from p.to ∷ []) qs)
     (ended_tokens d t p.to qs f [] r none) (ended_tokens d t p.to qs f (held ++ slice_range t p.from p.to ∷ []) r none)
 
+-- the tokens of a text end with its end
 pub IsLexed-ended : (d : Dialect) (t : Text) (ts : List Lexeme) → IsLexed d t ts → IsEnded ts
 IsLexed-ended d t ts l = subst IsEnded (sym l.same) (ended_tokens d t 0 l.pieces None [] l.read refl)
 
@@ -48,6 +51,7 @@ IsLexed-ended d t ts l = subst IsEnded (sym l.same) (ended_tokens d t 0 l.pieces
 pub IsLexed-same : (d : Dialect) (t : Text) (ts us : List Lexeme) → IsLexed d t ts → IsLexed d t us → ts ≡ us
 IsLexed-same d t ts us a b = a.same ∙ ap (lexemes_of t []) (HasTokens-same d t 0 a.pieces b.pieces None None a.read b.read).0 ∙ sym b.same
 
+-- a text has tokens or a lexical fault
 lexed_or_fault : (d : Dialect) (t : Text) (ps : List Piece) (fault : LexFault) (ts : List Lexeme) → HasTokens d t 0 ps (Some fault) → IsLexed d t ts → ⊥
 lexed_or_fault d t ps fault ts h l = let e = (HasTokens-same d t 0 ps l.pieces (Some fault) None h l.read).1 in cc
 
@@ -55,12 +59,15 @@ lexed_or_fault d t ps fault ts h l = let e = (HasTokens-same d t 0 ps l.pieces (
 pub one_SpellsDoItAt : (d : Dialect) (t : Text) (v w : SpannedSequence) → SpellsDoItAt d t v → SpellsDoItAt d t w → v ≡ w
 one_SpellsDoItAt d t v w a b = one_IsDoIt v w (subst (λ ts. IsDoIt Longest ts v) (IsLexed-same d t a.tokens b.tokens a.lexed b.lexed) a.grammar) b.grammar
 
+-- the same for methods
 pub one_SpellsMethodAt : (d : Dialect) (kernel : Bool) (t : Text) (v w : SpannedMethod) → SpellsMethodAt d kernel t v → SpellsMethodAt d kernel t w → v ≡ w
 one_SpellsMethodAt d kernel t v w a b = one_IsMethod v w (subst (λ ts. IsMethod Longest kernel ts v) (IsLexed-same d t a.tokens b.tokens a.lexed b.lexed) a.grammar) b.grammar
 
+-- the same without places
 pub one_SpellsDoIt : (d : Dialect) (t : Text) (v w : SequenceOf Text) → SpellsDoIt d t v → SpellsDoIt d t w → v ≡ w
 one_SpellsDoIt d t v w a b = a.same ∙ ap plain_sequence (one_SpellsDoItAt d t a.spanned b.spanned a.spells b.spells) ∙ sym b.same
 
+-- the same for methods without places
 pub one_SpellsMethod : (d : Dialect) (kernel : Bool) (t : Text) (v w : MethodOf Text) → SpellsMethod d kernel t v → SpellsMethod d kernel t w → v ≡ w
 one_SpellsMethod d kernel t v w a b = a.same ∙ ap plain_method (one_SpellsMethodAt d kernel t a.spanned b.spanned a.spells b.spells) ∙ sym b.same
 
@@ -82,10 +89,12 @@ of_tree d (Method kernel) t ts l deep (m, g) = decide (method_fault m) refl
     decide None e = inl (m, record { tokens = ts; lexed = l; shallow = deep; grammar = g; sound = e })
     decide (Some fault) e = inr (fault, InTree l deep (InMethod g e))
 
+-- tokens that are a text or stop
 of_tokens : (d : Dialect) (form : Form) (t : Text) (ts : List Lexeme) → IsLexed d t ts → first_deep 0 ts ≡ None → IsText form ts ⊎ ((fault : Fault) × HasStop form ts fault) → SpellsSome d form t ⊎ ((fault : Fault) × HasFirstFault d form t fault)
 of_tokens d form t ts l deep (inl g) = of_tree d form t ts l deep g
 of_tokens d form t ts l deep (inr (fault, h)) = inr (fault, InGrammar l deep h)
 
+-- a text without a lexical fault
 of_lexed : (d : Dialect) (form : Form) (t : Text) (ts : List Lexeme) → IsLexed d t ts → SpellsSome d form t ⊎ ((fault : Fault) × HasFirstFault d form t fault)
 of_lexed d form t ts l = decide (first_deep 0 ts) refl
   where
@@ -106,6 +115,7 @@ one_HasTreeFault : (ts : List Lexeme) (form : Form) (v w : Fault) → HasTreeFau
 one_HasTreeFault ts form v w (InDoIt {s} g e) (InDoIt {s = s'} g' e') = let same = one_IsDoIt s s' g g' in let k : Some v ≡ Some w = sym e ∙ ap doit_fault same ∙ e' in cc
 one_HasTreeFault ts form v w (InMethod {m} g e) (InMethod {m = m'} g' e') = let same = one_IsMethod m m' g g' in let k : Some v ≡ Some w = sym e ∙ ap method_fault same ∙ e' in cc
 
+-- a tree with a fault is a text of the grammar
 tree_text : (ts : List Lexeme) (form : Form) (v : Fault) → HasTreeFault ts form v → IsText form ts
 tree_text ts form v (InDoIt {s} g e) = (s, g)
 tree_text ts form v (InMethod {m} g e) = (m, g)
@@ -134,18 +144,21 @@ sound_doit : (ts : List Lexeme) (s : SpannedSequence) (form : Form) (v : Fault) 
 sound_doit ts s form v f g e (InDoIt {s = s'} g' e') = let k : Some v ≡ None = sym e' ∙ ap doit_fault (one_IsDoIt s' s g' g) ∙ e in cc
 sound_doit ts s form v f g e (InMethod {kernel} g' e') = let k : Method kernel ≡ DoIt = f in cc
 
+-- the same for methods
 sound_method : (kernel : Bool) (ts : List Lexeme) (m : SpannedMethod) (form : Form) (v : Fault) → form ≡ Method kernel → IsMethod Longest kernel ts m → method_fault m ≡ None → HasTreeFault ts form v → ⊥
 sound_method kernel ts m form v f g e (InDoIt g' e') = let k : DoIt ≡ Method kernel = f in cc
 sound_method kernel ts m form v f g e (InMethod {kernel = other} {m = m'} g' e') =
     let same : other ≡ kernel = cc in
     let k : Some v ≡ None = sym e' ∙ ap method_fault (one_IsMethod m' m (subst (λ b. IsMethod Longest b ts m') same g') g) ∙ e in cc
 
+-- a do-it without any fault has no first fault
 pub no_fault_DoIt : (d : Dialect) (t : Text) (s : SequenceOf Text) (v : Fault) → SpellsDoIt d t s → ¬ HasFirstFault d DoIt t v
 no_fault_DoIt d t s v a (InTokens h) = lexed_or_fault d t _ _ _ h a.spells.lexed
 no_fault_DoIt d t s v a (InBrackets {at} l e) = let k : Some at ≡ None = sym e ∙ ap (first_deep 0) (IsLexed-same d t _ _ l a.spells.lexed) ∙ a.spells.shallow in cc
 no_fault_DoIt d t s v a (InGrammar {ts} l e g) = not_both DoIt ts v (a.spanned, subst (λ ts. IsDoIt Longest ts a.spanned) (IsLexed-same d t a.spells.tokens ts a.spells.lexed l) a.spells.grammar) g
 no_fault_DoIt d t s v a (InTree {ts} l e g) = sound_doit ts a.spanned DoIt v refl (subst (λ ts. IsDoIt Longest ts a.spanned) (IsLexed-same d t a.spells.tokens ts a.spells.lexed l) a.spells.grammar) a.spells.sound g
 
+-- the same for methods
 pub no_fault_Method : (d : Dialect) (kernel : Bool) (t : Text) (m : MethodOf Text) (v : Fault) → SpellsMethod d kernel t m → ¬ HasFirstFault d (Method kernel) t v
 no_fault_Method d kernel t m v a (InTokens h) = lexed_or_fault d t _ _ _ h a.spells.lexed
 no_fault_Method d kernel t m v a (InBrackets {at} l e) = let k : Some at ≡ None = sym e ∙ ap (first_deep 0) (IsLexed-same d t _ _ l a.spells.lexed) ∙ a.spells.shallow in cc
@@ -160,6 +173,7 @@ doit_or_fault d t = decide (spells_or_fault d DoIt t)
     decide (inl (s, h)) = inl (plain_sequence s, record { spanned = s; spells = h; same = refl })
     decide (inr f) = inr f
 
+-- each text spells a method or has a fault
 pub method_or_fault : (d : Dialect) (kernel : Bool) (t : Text) → ((m : MethodOf Text) × SpellsMethod d kernel t m) ⊎ ((fault : Fault) × HasFirstFault d (Method kernel) t fault)
 method_or_fault d kernel t = decide (spells_or_fault d (Method kernel) t)
   where

@@ -39,6 +39,7 @@ passing_facts p ss block number same f = record {
   ];
 }
 
+-- low stacks have the facts
 low_facts : (ss : Stack) → AllLow ss → LowFacts ss
 low_facts [] h = absurd h
 low_facts (UnaryOfBinary ∷ ss) h = passing_facts UnaryOfBinary ss refl refl refl (low_facts ss h)
@@ -59,6 +60,7 @@ low_facts (Awaits TextEnd ∷ []) h = record { operand = refl; numbers = inr (re
 low_facts (Awaits TextEnd ∷ p ∷ ss) h = absurd h
 low_facts (p ∷ ss) h = absurd h
 
+-- no operand can begin
 no_operand : (form : Form) (p : List Terminal) (ss : Stack) → IsBehind form p ss → NoBlock ss → ¬ MayOperand form p
 no_operand form p ss b n = stops_further form p (Opens BlockStart ∷ Colon ∷ []) ss b n
 
@@ -66,9 +68,11 @@ no_operand form p ss b n = stops_further form p (Opens BlockStart ∷ Colon ∷ 
 not_only_name : (form : Form) (p : List Terminal) (ss : Stack) → IsBehind form p ss → CompletesOther ss → ¬ OnlyName form p
 not_only_name form p ss b z only = only.1 z.first z.no_name (goes_first form p ss z.first z.others b z.read)
 
+-- two numerals
 feeds_two : (ss one : Stack) (o : Option Stack) → step ss digit ≡ Some one → step one digit ≡ o → feeds ss (digit ∷ digit ∷ []) ≡ o
 feeds_two ss one o e f = ap (λ x. option_map_or (λ s. feeds s (digit ∷ [])) x None) e ∙ feeds_one one digit o f
 
+-- not even one numeral
 feeds_none : (ss : Stack) → step ss digit ≡ None → feeds ss (digit ∷ digit ∷ []) ≡ None
 feeds_none ss e = ap (λ x. option_map_or (λ s. feeds s (digit ∷ [])) x None) e
 
@@ -100,6 +104,7 @@ sign_facts ss h f = elim f.numbers [
         after : (o : Stack) → step ss digit ≡ Some o → IsGood o
         after o e = subst GoodIfSome e (good_step ss digit (low_good ss h))
 
+-- what is wanted behind a sign
 wants_behind_sign : (form : Form) (p : List Terminal) (ss : Stack) → AllLow ss → IsBehind form p (TheNumeral ∷ ss) → CompletesOther (TheNumeral ∷ ss) → IsWanted form p (wish ss)
 wants_behind_sign form p ss h b z = elim (sign_facts ss h (low_facts ss h)) [
   | inl e ↦ subst (IsWanted form p) (sym e.0) (wants_element form p (TheNumeral ∷ ss) b z refl e.1)
@@ -119,6 +124,7 @@ only_names (KeywordName kernel ∷ ss) (Name c m) h n = absurd n
 only_names (KeywordName kernel ∷ ss) k h n = refl
 only_names (p ∷ ss) k h n = absurd h
 
+-- an identifier is wanted
 wants_name : (form : Form) (p : List Terminal) (ss to : Stack) → IsNaming ss → IsBehind form p ss → NoBlock ss → step ss (Name Ordinary []) ≡ Some to → IsGood to → IsWanted form p wanted.Identifier
 wants_name form p ss to h b block e good = (
   no_operand form p ss b block,
@@ -132,6 +138,7 @@ wants_name form p ss to h b block e good = (
 wants_operand : (form : Form) (p : List Terminal) (ss to : Stack) → IsBehind form p ss → feeds ss (Opens BlockStart ∷ Colon ∷ []) ≡ Some to → IsGood to → IsWanted form p wanted.Operand
 wants_operand form p ss to b e good = goes_further form p (Opens BlockStart ∷ Colon ∷ []) ss to b e good
 
+-- before a method's body
 good_body_part : (kernel : Bool) (ss : Stack) → AllLow ss → IsGood (body_part kernel ∷ ss)
 good_body_part false ss h = h
 good_body_part true ss h = h

@@ -40,6 +40,7 @@ first_repeat seen (d ∷ ds) = if list_any (λ n. bytes_eq d.name n) seen then S
 
 -- the first declaration, in text order, of a name that its list declared before
 abbrev mutual
+  -- in a tree
   pub duplicate_in : SpannedTree → Option ℕ
   duplicate_in (Var f e n) = None
   duplicate_in (Literal f e l) = None
@@ -50,14 +51,17 @@ abbrev mutual
   duplicate_in (Brace f e ts) = duplicate_in_trees ts
   duplicate_in (Return f e t) = duplicate_in t
 
+  -- in trees
   pub duplicate_in_trees : SpannedTrees → Option ℕ
   duplicate_in_trees NoTrees = None
   duplicate_in_trees (MoreTrees t ts) = option_or (duplicate_in t) (duplicate_in_trees ts)
 
+  -- in messages
   pub duplicate_in_messages : SpannedMessages → Option ℕ
   duplicate_in_messages NoMessages = None
   duplicate_in_messages (MoreMessages s xs ms) = option_or (duplicate_in_trees xs) (duplicate_in_messages ms)
 
+  -- in statements
   pub duplicate_in_statements : SpannedStatements → Option ℕ
   duplicate_in_statements NoStatements = None
   duplicate_in_statements (MoreStatements c f t ss) = option_or (duplicate_in t) (duplicate_in_statements ss)
@@ -79,6 +83,7 @@ is_fixed (k ∷ ks) n = if bytes_eq n k.name then k.fixed else is_fixed ks n
 
 -- the first assignment, in text order, to a name that can not be assigned; the known names begin with the innermost ones
 abbrev mutual
+  -- in a tree
   pub fixed_in : List Known → SpannedTree → Option ℕ
   fixed_in ks (Var f e n) = None
   fixed_in ks (Literal f e l) = None
@@ -89,14 +94,17 @@ abbrev mutual
   fixed_in ks (Brace f e ts) = fixed_in_trees ks ts
   fixed_in ks (Return f e t) = fixed_in ks t
 
+  -- in trees
   pub fixed_in_trees : List Known → SpannedTrees → Option ℕ
   fixed_in_trees ks NoTrees = None
   fixed_in_trees ks (MoreTrees t ts) = option_or (fixed_in ks t) (fixed_in_trees ks ts)
 
+  -- in messages
   pub fixed_in_messages : List Known → SpannedMessages → Option ℕ
   fixed_in_messages ks NoMessages = None
   fixed_in_messages ks (MoreMessages s xs ms) = option_or (fixed_in_trees ks xs) (fixed_in_messages ks ms)
 
+  -- in statements
   pub fixed_in_statements : List Known → SpannedStatements → Option ℕ
   fixed_in_statements ks NoStatements = None
   fixed_in_statements ks (MoreStatements c f t ss) = option_or (fixed_in ks t) (fixed_in_statements ks ss)

@@ -20,24 +20,31 @@ lexemes n (k ∷ ks) = lex [] n (n + 1) k ∷ lexemes (n + 1) ks
 abbrev pub name : Terminal
 name = Name Ordinary []
 
+-- super
 abbrev pub super : Terminal
 super = Name Super []
 
+-- a numeral of digits
 abbrev pub digits : Terminal
 digits = Numeral SmallDigits []
 
+-- a numeral with a point
 abbrev pub fraction : Terminal
 fraction = Numeral OtherNumeral []
 
+-- a keyword
 abbrev pub keyword : Terminal
 keyword = Keyword AnyKeyword []
 
+-- a binary selector
 abbrev pub plus : Terminal
 plus = Binary Common []
 
+-- a sign
 abbrev pub minus : Terminal
 minus = Binary Sign []
 
+-- a bar
 abbrev pub bar : Terminal
 bar = Binary Bar []
 
@@ -47,6 +54,7 @@ pub record Row : Type 0 where
   pub tokens : List Terminal
   pub fault : Option Fault
 
+-- a row of a table
 abbrev pub row : Form → List Terminal → Option Fault → Row
 row form ks o = record { form = form; tokens = ks; fault = o }
 
@@ -243,9 +251,11 @@ kernel_methods =
 abbrev pub a_text : Text
 a_text = codes "\"a\" x\"b\" -3 - 3 #(foo:bar: baz) 'it''s' #at:put: #'a b' #+ $' super primitive: 65535 65536 1.5 <> < > | := #[1] \"c\""
 
+-- a token of a kind between two places
 abbrev pub piece : TokenKind → ℕ → ℕ → Piece
 piece k f e = record { kind = k; from = f; to = e }
 
+-- its tokens
 abbrev pub its_tokens : List Piece
 its_tokens =
     piece token.Comment 0 3 ∷
@@ -282,6 +292,7 @@ its_tokens =
     piece token.End 115 115 ∷
     []
 
+-- what the grammar sees of them
 abbrev pub its_lexemes : List Lexeme
 its_lexemes =
     lex (codes "\"a\"" ∷ []) 4 5 (Name Ordinary (codes "x")) ∷

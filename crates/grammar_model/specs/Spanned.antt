@@ -60,6 +60,7 @@ names_of ds = map (λ (d : Declared). d.name) ds
 
 -- the tree without places
 abbrev mutual
+  -- a tree
   pub plain_tree : SpannedTree → TreeOf Text
   plain_tree (Var f e n) = var n
   plain_tree (Literal f e l) = literal l
@@ -70,14 +71,17 @@ abbrev mutual
   plain_tree (Brace f e ts) = brace (plain_trees ts)
   plain_tree (Return f e t) = return (plain_tree t)
 
+  -- trees
   pub plain_trees : SpannedTrees → TreesOf Text
   plain_trees NoTrees = no_trees
   plain_trees (MoreTrees t ts) = more_trees (plain_tree t) (plain_trees ts)
 
+  -- messages
   pub plain_messages : SpannedMessages → MessagesOf Text
   plain_messages NoMessages = no_messages
   plain_messages (MoreMessages s xs ms) = more_messages s (plain_trees xs) (plain_messages ms)
 
+  -- statements
   pub plain_statements : SpannedStatements → StatementsOf Text
   plain_statements NoStatements = no_statements
   plain_statements (MoreStatements c f t ss) = more_statements c (plain_tree t) (plain_statements ss)
