@@ -18,3 +18,4 @@ pub mod Rows
 pub mod ExamplesJudged
 pub mod Forgets
 pub mod Dialects
+pub mod Spans

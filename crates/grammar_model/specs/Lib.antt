@@ -13,3 +13,4 @@ pub mod Checks
 pub mod Spelling
 pub mod Machine
 pub mod Examples
+pub mod Spans
