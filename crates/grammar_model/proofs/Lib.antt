@@ -19,3 +19,5 @@ pub mod ExamplesJudged
 pub mod Forgets
 pub mod Dialects
 pub mod Spans
+pub mod Placing
+pub mod Places

@@ -36,10 +36,12 @@ record Nth (ts : SpannedTrees) (low high bottom top : ℕ) (d : SpannedTree) : T
   to : end_of d ≤ high
   narrow : (bottom < begin_of d) ⊎ (end_of d < top)
 
+-- trees in order stand between places in order
 between_le : (ts : SpannedTrees) (low high : ℕ) → AreBetween low high ts → low ≤ high
 between_le NoTrees low high b = b
 between_le (MoreTrees t ts) low high b = omega (arith, between_le ts (end_of t) high b.2)
 
+-- a tree of a number is well placed
 nth_placed : (ts : SpannedTrees) (k low high bottom top : ℕ) (d : SpannedTree) → AreBetween low high ts → AreNarrower bottom top ts → AllPlaced ts → spanned_nth ts k ≡ Some d → Nth ts low high bottom top d
 nth_placed NoTrees k low high bottom top d b n a e = cc
 nth_placed (MoreTrees t ts) zero low high bottom top d b n (MorePlaced p q) e =
@@ -68,6 +70,7 @@ record Step (ts : SpannedTrees) (k : ℕ) (ks : List ℕ) (d : SpannedTree) : Ty
   is : spanned_nth ts k ≡ Some child
   leads : spanned_part child ks ≡ Some d
 
+-- such a path has a first step
 step_of : (ts : SpannedTrees) (k : ℕ) (ks : List ℕ) (d : SpannedTree) → spanned_among ts (k ∷ ks) ≡ Some d → Step ts k ks d
 step_of ts k ks d e = go (spanned_nth ts k) refl e
   where
@@ -81,6 +84,7 @@ record Inside (t d : SpannedTree) : Type 0 where
   from : begin_of t ≤ begin_of d
   to : end_of d ≤ end_of t
 
+-- a node below a node stands inside it
 part_inside : (ks : List ℕ) (t d : SpannedTree) → IsPlaced t → spanned_part t ks ≡ Some d → Inside t d
 part_inside [] t d p e = let same : t ≡ d = cc in subst (Inside t) same (record { placed = p; from = omega arith; to = omega arith })
 part_inside (k ∷ ks) t d (Placed s b n a) e =

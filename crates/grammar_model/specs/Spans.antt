@@ -1,5 +1,5 @@
 -- Where the nodes of a tree stand in its text.
-use Rattle.std.specs.Prelude.{ℕ, zero, suc, List, [], ◌∷◌, Option, Some, None, option_and_then, option_map}
+use Rattle.std.specs.Prelude.{◌≡◌, ℕ, zero, suc, ◌+◌, ◌-◌, ◌≤◌, List, [], ◌∷◌, Option, Some, None, option_and_then, option_map}
 use Rattle.grammar_model.specs.Spanned.{SpannedTree, Var, Literal, Send, Cascade, Assign, Block, Brace, Return, SpannedTrees, NoTrees, MoreTrees, one_tree, SpannedMessages, NoMessages, MoreMessages, SpannedStatements, NoStatements, MoreStatements, SpannedSequence}
 
 -- the first byte of a node
@@ -82,3 +82,24 @@ span_of t = record { from = begin_of t; to = end_of t }
 -- where the node stands to which a path into a sequence leads
 abbrev pub span_at : SpannedSequence → List ℕ → Option Span
 span_at s path = option_map span_of (spanned_in s path)
+
+-- the nodes of a block's statements
+abbrev pub statements_of : SpannedTree → Option SpannedTrees
+statements_of (Block f e ps ds ss c) = Some (spanned_statements ss)
+statements_of t = None
+
+-- the nodes of the statements of the block to which a path leads; the empty path leads to the whole sequence
+abbrev pub statements_at : SpannedSequence → List ℕ → Option SpannedTrees
+statements_at s [] = Some (spanned_statements s.statements)
+statements_at s (k ∷ ks) = option_and_then statements_of (spanned_in s (k ∷ ks))
+
+-- Neighbouring statements stand there, two or more: from the first byte of the first one up to the place behind the last.
+pub record IsRunAt (s : SpannedSequence) (path : List ℕ) (first count : ℕ) (span : Span) : Type 0 where
+  pub statements : SpannedTrees
+  pub head : SpannedTree
+  pub last : SpannedTree
+  pub many : 2 ≤ count
+  pub of_path : statements_at s path ≡ Some statements
+  pub at_first : spanned_nth statements first ≡ Some head
+  pub at_last : spanned_nth statements (first + count - 1) ≡ Some last
+  pub is : span ≡ record { from = begin_of head; to = end_of last }

@@ -1,14 +1,16 @@
-ghost use Rattle.std.specs.Prelude.{◌≡◌, ◌⊎◌, ◌↔◌, Bool, List, [], Option, Some, None};
+ghost use Rattle.std.specs.Prelude.{◌≡◌, ◌⊎◌, ◌↔◌, ℕ, Bool, List, [], Option, Some, None, option_map};
 ghost use Rattle.tree_model.specs.Tree.{SequenceOf, MethodOf};
+ghost use Rattle.tree_model.specs.Path.{part_in};
 ghost use Rattle.token_model.specs.declared.kind.Dialect.{Dialect};
 ghost use Rattle.token_model.specs.declared.kind.Dialect.TheVariants.{First, Second};
 ghost use Rattle.grammar_model.specs.Terminal.{Text};
 ghost use Rattle.grammar_model.specs.Input.{Lexeme, IsEnded};
 ghost use Rattle.grammar_model.specs.Ahead.{Longest, Any};
-ghost use Rattle.grammar_model.specs.Spanned.{SpannedSequence, SpannedMethod};
+ghost use Rattle.grammar_model.specs.Spanned.{SpannedSequence, SpannedMethod, plain_tree, plain_sequence, plain_method};
+ghost use Rattle.grammar_model.specs.Spans.{Span, spanned_in, span_at};
 ghost use Rattle.grammar_model.specs.Whole.{IsDoIt, IsMethod, Form, DoIt, Method, IsText};
 ghost use Rattle.grammar_model.specs.Checks.{Fault};
-ghost use Rattle.grammar_model.specs.Spelling.{SpellsDoIt, SpellsMethod, HasStop, HasFirstFault};
+ghost use Rattle.grammar_model.specs.Spelling.{SpellsDoIt, SpellsMethod, SpellsDoItAt, SpellsMethodAt, HasStop, HasFirstFault};
 ghost use Rattle.grammar_model.specs.Examples.{AllJudged, doits, methods, kernel_methods, a_text, its_tokens, its_lexemes};
 ghost use Rattle.grammar_model.specs.Lexemes.{lexemes_of};
 
@@ -54,6 +56,18 @@ pub fn needs_no_looking_ahead()
 pub fn spells_the_same_with_braces()
     ensures doit { (text : Text) (tree : SequenceOf Text) → SpellsDoIt First text tree → SpellsDoIt Second text tree }
     ensures method { (kernel : Bool) (text : Text) (tree : MethodOf Text) → SpellsMethod First kernel text tree → SpellsMethod Second kernel text tree }
+{}
+
+/// A text has at most one node from one place up to another: no two paths lead to nodes of one span.
+pub fn has_one_node_at_a_place()
+    ensures doit { (dialect : Dialect) (text : Text) (tree : SpannedSequence) (path other : List ℕ) (span : Span) → SpellsDoItAt dialect text tree → span_at tree path ≡ Some span → span_at tree other ≡ Some span → path ≡ other }
+    ensures method { (dialect : Dialect) (kernel : Bool) (text : Text) (tree : SpannedMethod) (path other : List ℕ) (span : Span) → SpellsMethodAt dialect kernel text tree → span_at tree.body path ≡ Some span → span_at tree.body other ≡ Some span → path ≡ other }
+{}
+
+/// A path leads to the same node in the tree with places and in the tree without them.
+pub fn leads_to_the_same_node()
+    ensures doit { (tree : SpannedSequence) (path : List ℕ) → option_map plain_tree (spanned_in tree path) ≡ part_in (plain_sequence tree) path }
+    ensures method { (tree : SpannedMethod) (path : List ℕ) → option_map plain_tree (spanned_in tree.body path) ≡ part_in (plain_method tree).body path }
 {}
 
 /// The tokens of the examples are texts, or have the fault that stands beside them, and the grammar
