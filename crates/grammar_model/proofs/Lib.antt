@@ -21,3 +21,4 @@ pub mod Dialects
 pub mod Spans
 pub mod Placing
 pub mod Places
+pub mod Limits
