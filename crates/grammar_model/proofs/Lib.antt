@@ -22,3 +22,5 @@ pub mod Spans
 pub mod Placing
 pub mod Places
 pub mod Limits
+pub mod Runs
+pub mod RunPlaces

@@ -83,13 +83,13 @@ stands_Behind {i} (Primitively (OnePrimitive {s = a} {k} {t} {u} e f g h)) s =
     none_stand (and_closing (Binary Greater u) (and_closing (Numeral SmallDigits t) (and_closing (Keyword PrimitiveKeyword k) (one_moves i (Binary Less a) e tt s) f tt) g tt) h tt)
 
 -- a span is that of a node
-record At (ts : SpannedTrees) (path : List ℕ) (s : Span) : Type 0 where
-  node : SpannedTree
-  leads : spanned_among ts path ≡ Some node
-  is : span_of node ≡ s
+pub record At (ts : SpannedTrees) (path : List ℕ) (s : Span) : Type 0 where
+  pub node : SpannedTree
+  pub leads : spanned_among ts path ≡ Some node
+  pub is : span_of node ≡ s
 
 -- such a node is there
-at_node : (ts : SpannedTrees) (path : List ℕ) (s : Span) → option_map span_of (spanned_among ts path) ≡ Some s → At ts path s
+pub at_node : (ts : SpannedTrees) (path : List ℕ) (s : Span) → option_map span_of (spanned_among ts path) ≡ Some s → At ts path s
 at_node ts path s e = go (spanned_among ts path) refl e
   where
     go : (o : Option SpannedTree) → spanned_among ts path ≡ o → option_map span_of o ≡ Some s → At ts path s
@@ -104,16 +104,21 @@ one_place i j ts path other s t e f =
     let same = a.is ∙ sym b.is in
     one_path_among path other ts i.last j.last a.node b.node t.between t.placed a.leads b.leads (ap (λ (s : Span). s.from) same) (ap (λ (s : Span). s.to) same)
 
+-- the statements of a do-it are well placed
+pub trees_of_DoIt : (d : Dialect) (t : Text) (s : SpannedSequence) (h : SpellsDoItAt d t s) → TreesStand (beginning h.tokens) (spanned_statements s.statements) h.grammar.stop
+trees_of_DoIt d t s h = stands_Sequence h.grammar.sequence (lexed_sorted d t h.tokens h.lexed)
+
+-- so are those of a method
+pub trees_of_Method : (d : Dialect) (kernel : Bool) (t : Text) (m : SpannedMethod) (h : SpellsMethodAt d kernel t m) → TreesStand h.grammar.begin (spanned_statements m.body.statements) h.grammar.stop
+trees_of_Method d kernel t m h = let p = moves_Pattern h.grammar.pattern (lexed_sorted d t h.tokens h.lexed) in stands_Behind h.grammar.behind p.sorted
+
 -- a do-it has one node at a place
 pub one_place_DoIt : (d : Dialect) (t : Text) (s : SpannedSequence) (path other : List ℕ) (span : Span) → SpellsDoItAt d t s → span_at s path ≡ Some span → span_at s other ≡ Some span → path ≡ other
-one_place_DoIt d t s path other span h e f =
-    one_place (beginning h.tokens) h.grammar.stop (spanned_statements s.statements) path other span (stands_Sequence h.grammar.sequence (lexed_sorted d t h.tokens h.lexed)) e f
+one_place_DoIt d t s path other span h e f = one_place (beginning h.tokens) h.grammar.stop (spanned_statements s.statements) path other span (trees_of_DoIt d t s h) e f
 
 -- so has a method
 pub one_place_Method : (d : Dialect) (kernel : Bool) (t : Text) (m : SpannedMethod) (path other : List ℕ) (span : Span) → SpellsMethodAt d kernel t m → span_at m.body path ≡ Some span → span_at m.body other ≡ Some span → path ≡ other
-one_place_Method d kernel t m path other span h e f =
-    let p = moves_Pattern h.grammar.pattern (lexed_sorted d t h.tokens h.lexed) in
-    one_place h.grammar.begin h.grammar.stop (spanned_statements m.body.statements) path other span (stands_Behind h.grammar.behind p.sorted) e f
+one_place_Method d kernel t m path other span h e f = one_place h.grammar.begin h.grammar.stop (spanned_statements m.body.statements) path other span (trees_of_Method d kernel t m h) e f
 
 -- the trees without places of joined lists
 plain-append : (ts us : SpannedTrees) → plain_trees (spanned_append ts us) ≡ append (plain_trees ts) (plain_trees us)

@@ -1,5 +1,5 @@
 -- The trees that the grammar spells of tokens in order are well placed.
-use Rattle.std.proofs.Common.{◌≡◌, ℕ, ◌<◌, ◌≤◌, arith, List, [], ◌∷◌, refl, sym, subst, inl, inr, le_refl}
+use Rattle.std.proofs.Common.{◌≡◌, ℕ, suc, ◌<◌, ◌≤◌, arith, List, [], ◌∷◌, refl, sym, subst, inl, inr, le_refl}
 use Rattle.tree_model.specs.Tree.{Notes, LiteralOf, LiteralsOf}
 use Rattle.grammar_model.specs.Terminal.{Text, Name, Keyword, Binary, Numeral, Constant, Opens, Closes, Assignment, Colon, Semicolon, Period, Caret, Ordinary, Super, Sign, Bar, Group, BlockStart, BraceStart, ArrayStart, BytesStart, GroupEnd, BlockEnd, BraceEnd, Terminal}
 use Rattle.grammar_model.specs.Input.{Lexeme, lex, Input, kind_of, from_of, next, clear}
@@ -10,7 +10,7 @@ use Rattle.grammar_model.specs.Ahead.{Longest, NoSemicolon}
 use Rattle.grammar_model.specs.Literals.{KeywordRow, LastKeyword, JoinedKeyword, ByteElements, OneByte, NoBytes, LiteralAt, Unsigned, Negative, Fixed, Array, ByteArray, Element, LiteralElement, InnerArray, InnerBytes, NameElement, KeywordElement, BinaryElement, Elements, OneElement, NoElements}
 use Rattle.grammar_model.specs.Grammar.{Periods, OnePeriod, NoPeriods, Names, OneName, NoNames, Parameters, OneParameter, NoParameters, Temporaries, Declares, DeclaresNone, Expression, Assigned, Simple, Operand, Variable, SuperName, LiteralOperand, Grouped, BlockOperand, BraceOperand, Unaries, OneUnary, NoUnaries, Binaries, OneBinary, NoBinaries, Keywords, OneKeywords, NoKeywords, Parts, LastPart, FurtherPart, Argument, BinaryArgument, KeywordArgument, ArgumentOfKeyword, Cascaded, NoCascade, OneCascade, Messages, OneMessage, LastMessage, Message, UnaryMessage, BinaryMessage, KeywordMessage, Items, NoItems, OneItem, FurtherItems, NextItem, LastItem, BlockBody, WithoutParameters, ParametersAlone, WithParameters, Sequence, Sequenced, Statements, BlankPeriod, NoMore, Returned, OneStatement, After, Ended, Unended, Finish, EndedReturn, UnendedReturn}
 use Rattle.grammar_model.proofs.Reading.{IsReal}
-use Rattle.grammar_model.proofs.Spans.{AreBetween, AreNarrower, IsPlaced, Placed, AllPlaced, NonePlaced, MorePlaced, placed_some}
+use Rattle.grammar_model.proofs.Spans.{AreBetween, AreNarrower, IsPlaced, Placed, IsOpened, AllPlaced, NonePlaced, MorePlaced, placed_some}
 
 -- tokens in order from a place on, each but the end with a byte
 abbrev pub AreSorted : ℕ → List Lexeme → Type 0
@@ -133,12 +133,12 @@ moves_Finish {i} (EndedReturn e d) s = let p = passed i Period e tt s in let m =
 moves_Finish (UnendedReturn n) s = record { onward = le_refl _; sorted = s }
 
 -- trees in order also stand between wider places
-wider : (ts : SpannedTrees) (low low' high : ℕ) → low' ≤ low → AreBetween low high ts → AreBetween low' high ts
+pub wider : (ts : SpannedTrees) (low low' high : ℕ) → low' ≤ low → AreBetween low high ts → AreBetween low' high ts
 wider NoTrees low low' high l b = omega arith
 wider (MoreTrees t ts) low low' high l b = (omega (arith, b.0), b.1, b.2)
 
 -- trees in order also end below a higher place
-higher : (ts : SpannedTrees) (low high high' : ℕ) → high ≤ high' → AreBetween low high ts → AreBetween low high' ts
+pub higher : (ts : SpannedTrees) (low high high' : ℕ) → high ≤ high' → AreBetween low high ts → AreBetween low high' ts
 higher NoTrees low high high' l b = omega arith
 higher (MoreTrees t ts) low high high' l b = (b.0, b.1, higher ts (end_of t) high high' l b.2)
 
@@ -166,13 +166,13 @@ placed_append (MoreTrees t ts) us (MorePlaced p a) b = MorePlaced p (placed_appe
 placed_send : (f e : ℕ) (r : SpannedTree) (s : Text) (xs : SpannedTrees) → f ≤ begin_of r → IsPlaced r → end_of r < e → AreBetween (end_of r) e xs → AllPlaced xs → IsPlaced (Send f e r s xs)
 placed_send f e r s xs l p h b a =
     let some = placed_some p in
-    Placed (omega (arith, some)) (l, some, b) (inr h, later xs f (end_of r) e e (omega (arith, some)) b) (MorePlaced p a)
+    Placed (omega (arith, some)) (l, some, b) (inr h, later xs f (end_of r) e e (omega (arith, some)) b) (MorePlaced p a) tt
 
 -- so is a cascade
 placed_cascade : (f e : ℕ) (r : SpannedTree) (ms : SpannedMessages) → f ≤ begin_of r → IsPlaced r → end_of r < e → AreBetween (end_of r) e (spanned_arguments ms) → AllPlaced (spanned_arguments ms) → IsPlaced (Cascade f e r ms)
 placed_cascade f e r ms l p h b a =
     let some = placed_some p in
-    Placed (omega (arith, some)) (l, some, b) (inr h, later (spanned_arguments ms) f (end_of r) e e (omega (arith, some)) b) (MorePlaced p a)
+    Placed (omega (arith, some)) (l, some, b) (inr h, later (spanned_arguments ms) f (end_of r) e e (omega (arith, some)) b) (MorePlaced p a) tt
 
 -- what is known of a tree that is spelled
 record Stands (i : Input) (t : SpannedTree) (j : Input) : Type 0 where
@@ -247,20 +247,20 @@ further_row {i} {m} {j} {x} {xs} p a r = record {
 }
 
 -- a tree between brackets, or behind a mark, is narrower than all
-placed_one : (t whole_tree : SpannedTree) → spanned_children whole_tree ≡ one_tree t → begin_of whole_tree < begin_of t → IsPlaced t → end_of t ≤ end_of whole_tree → IsPlaced whole_tree
-placed_one t w e l p h =
+placed_one : (t whole_tree : SpannedTree) → spanned_children whole_tree ≡ one_tree t → begin_of whole_tree < begin_of t → IsPlaced t → end_of t ≤ end_of whole_tree → IsOpened whole_tree → IsPlaced whole_tree
+placed_one t w e l p h o =
     let some = placed_some p in
-    Placed (omega (arith, some)) (subst (AreBetween (begin_of w) (end_of w)) (sym e) (omega (arith, l), some, h)) (subst (AreNarrower (begin_of w) (end_of w)) (sym e) (inl l, tt)) (subst AllPlaced (sym e) (MorePlaced p NonePlaced))
+    Placed (omega (arith, some)) (subst (AreBetween (begin_of w) (end_of w)) (sym e) (omega (arith, l), some, h)) (subst (AreNarrower (begin_of w) (end_of w)) (sym e) (inl l, tt)) (subst AllPlaced (sym e) (MorePlaced p NonePlaced)) o
 
 -- a block or a brace array
-placed_all : (w : SpannedTree) (low high : ℕ) → begin_of w < low → high ≤ end_of w → AreBetween low high (spanned_children w) → AllPlaced (spanned_children w) → IsPlaced w
-placed_all w low high l h b a =
+placed_all : (w : SpannedTree) (low high : ℕ) → begin_of w < low → high ≤ end_of w → AreBetween low high (spanned_children w) → AllPlaced (spanned_children w) → IsOpened w → IsPlaced w
+placed_all w low high l h b a o =
     let c = higher (spanned_children w) low high (end_of w) h b in
-    Placed (omega (arith, between_end (spanned_children w) low high b)) (wider (spanned_children w) low (begin_of w) (end_of w) (omega arith) c) (later (spanned_children w) (begin_of w) low (end_of w) (end_of w) l c) a
+    Placed (omega (arith, between_end (spanned_children w) low high b)) (wider (spanned_children w) low (begin_of w) (end_of w) (omega arith) c) (later (spanned_children w) (begin_of w) low (end_of w) (end_of w) l c) a o
 
 -- a leaf
-placed_leaf : (w : SpannedTree) → spanned_children w ≡ NoTrees → begin_of w < end_of w → IsPlaced w
-placed_leaf w e l = Placed l (subst (AreBetween (begin_of w) (end_of w)) (sym e) (omega arith)) (subst (AreNarrower (begin_of w) (end_of w)) (sym e) tt) (subst AllPlaced (sym e) NonePlaced)
+placed_leaf : (w : SpannedTree) → spanned_children w ≡ NoTrees → begin_of w < end_of w → IsOpened w → IsPlaced w
+placed_leaf w e l o = Placed l (subst (AreBetween (begin_of w) (end_of w)) (sym e) (omega arith)) (subst (AreNarrower (begin_of w) (end_of w)) (sym e) tt) (subst AllPlaced (sym e) NonePlaced) o
 
 -- an operand, with the place before it
 record OperandStands (i : Input) (r : Chain) (j : Input) : Type 0 where
@@ -268,10 +268,10 @@ record OperandStands (i : Input) (r : Chain) (j : Input) : Type 0 where
   chain : ChainStands (from_of i) r j
 
 -- an operand without nodes below it
-leaf_stands : {i j : Input} (r : Chain) → begin_of (whole r) ≡ from_of i → end_of (whole r) ≡ j.last → spanned_children (whole r) ≡ NoTrees → Over i j → OperandStands i r j
-leaf_stands {i} {j} r f e c o =
+leaf_stands : {i j : Input} (r : Chain) → begin_of (whole r) ≡ from_of i → end_of (whole r) ≡ j.last → spanned_children (whole r) ≡ NoTrees → IsOpened (whole r) → Over i j → OperandStands i r j
+leaf_stands {i} {j} r f e c q o =
     let some : begin_of (whole r) < end_of (whole r) = omega (arith, o.some, f, e) in
-    record { before = o.before; chain = record { from = omega (arith, f); some = some; to = omega (arith, e); placed = placed_leaf (whole r) c some; sorted = o.sorted } }
+    record { before = o.before; chain = record { from = omega (arith, f); some = some; to = omega (arith, e); placed = placed_leaf (whole r) c some q; sorted = o.sorted } }
 
 -- what stands in parentheses
 group_stands : {i m : Input} {t : SpannedTree} → Passed i → Stands (next i) t m → kind_of m ≡ Closes GroupEnd → OperandStands i (Alone t) (next m)
@@ -280,10 +280,10 @@ group_stands {i} {m} p t c =
     record { before = p.before; chain = record { from = omega (arith, p.some, t.before, t.from); some = t.some; to = omega (arith, t.to, q.before, q.some); placed = t.placed; sorted = q.sorted } }
 
 -- what stands in brackets or braces
-bracket_stands : {i m : Input} {ts : SpannedTrees} (k : Terminal) (w : SpannedTree) → spanned_children w ≡ ts → begin_of w ≡ from_of i → end_of w ≡ (next m).last → Passed i → TreesStand (next i) ts m → kind_of m ≡ k → IsReal k → OperandStands i (Alone w) (next m)
-bracket_stands {i} {m} {ts} k w e f g p r c real =
+bracket_stands : {i m : Input} {ts : SpannedTrees} (k : Terminal) (w : SpannedTree) → spanned_children w ≡ ts → begin_of w ≡ from_of i → end_of w ≡ (next m).last → Passed i → TreesStand (next i) ts m → kind_of m ≡ k → IsReal k → ((high : ℕ) → AreBetween (next i).last high ts → high ≤ end_of w → IsOpened w) → OperandStands i (Alone w) (next m)
+bracket_stands {i} {m} {ts} k w e f g p r c real opened =
     let q = passed m k c real r.sorted in
-    let placed : IsPlaced w = placed_all w (next i).last m.last (omega (arith, p.some, f)) (omega (arith, q.before, q.some, g)) (subst (AreBetween (next i).last m.last) (sym e) r.between) (subst AllPlaced (sym e) r.placed) in
+    let placed : IsPlaced w = placed_all w (next i).last m.last (omega (arith, p.some, f)) (omega (arith, q.before, q.some, g)) (subst (AreBetween (next i).last m.last) (sym e) r.between) (subst AllPlaced (sym e) r.placed) (opened m.last r.between (omega (arith, q.before, q.some, g))) in
     record { before = p.before; chain = record { from = omega (arith, f); some = placed_some placed; to = omega (arith, g); placed = placed; sorted = q.sorted } }
 
 -- a tree with all its messages
@@ -325,7 +325,7 @@ record SomeStand (i : Input) (ts : SpannedTrees) (j : Input) : Type 0 where
 
 -- a cascade behind a message
 cascade_placed : {i j : Input} (g h : ℕ) (r : SpannedTree) (s : Text) (xs : SpannedTrees) (ms : SpannedMessages) → IsPlaced (Send g h r s xs) → h ≤ i.last → i.last < j.last → TreesStand i (spanned_arguments ms) j → IsPlaced (Cascade g j.last r (MoreMessages s xs ms))
-cascade_placed {i} {j} g h r s xs ms (Placed some b n (MorePlaced p a)) to more m =
+cascade_placed {i} {j} g h r s xs ms (Placed some b n (MorePlaced p a) o) to more m =
     placed_cascade g j.last r (MoreMessages s xs ms) b.0 p (omega (arith, between_end xs (end_of r) h b.2)) (between_append xs (spanned_arguments ms) (end_of r) i.last j.last (higher xs (end_of r) h i.last to b.2) m.between) (placed_append xs (spanned_arguments ms) a m.placed)
 
 mutual
@@ -336,24 +336,24 @@ mutual
       let q = passed (next i) Assignment f tt p.sorted in
       let x = stands_Expression d q.sorted in
       let long : from_of i < j.last = omega (arith, p.some, q.before, q.some, x.before, x.from, x.some, x.to) in
-      record { before = p.before; from = le_refl _; some = long; to = le_refl _; placed = placed_one v (Assign (from_of i) j.last n v) refl (omega (arith, p.some, q.before, q.some, x.before, x.from)) x.placed x.to; sorted = x.sorted }
+      record { before = p.before; from = le_refl _; some = long; to = le_refl _; placed = placed_one v (Assign (from_of i) j.last n v) refl (omega (arith, p.some, q.before, q.some, x.before, x.from)) x.placed x.to tt; sorted = x.sorted }
   stands_Expression {i} (Simple plain o u b k c) s =
       let a = stands_Operand o s in
       stands_chain a (stands_Cascaded c (stands_Keywords k (stands_Binaries b (stands_Unaries u a.chain))))
 
   -- an operand, well placed
   stands_Operand : {i j : Input} {r : Chain} → Operand Longest i r j → IsSorted i → OperandStands i r j
-  stands_Operand {i} (Variable {n} e) s = leaf_stands (Alone (Var (from_of i) (next i).last n)) refl refl refl (one_over i (Name Ordinary n) e tt s)
-  stands_Operand {i} (SuperName {n} e) s = leaf_stands (Waiting (from_of i) (next i).last n) refl refl refl (one_over i (Name Super n) e tt s)
-  stands_Operand {i} {j} (LiteralOperand {l} d) s = leaf_stands (Alone (Literal (from_of i) j.last l)) refl refl refl (moves_LiteralAt d s)
+  stands_Operand {i} (Variable {n} e) s = leaf_stands (Alone (Var (from_of i) (next i).last n)) refl refl refl tt (one_over i (Name Ordinary n) e tt s)
+  stands_Operand {i} (SuperName {n} e) s = leaf_stands (Waiting (from_of i) (next i).last n) refl refl refl tt (one_over i (Name Super n) e tt s)
+  stands_Operand {i} {j} (LiteralOperand {l} d) s = leaf_stands (Alone (Literal (from_of i) j.last l)) refl refl refl tt (moves_LiteralAt d s)
   stands_Operand {i} (Grouped e d c) s = let p = passed i (Opens Group) e tt s in group_stands p (stands_Expression d p.sorted) c
   stands_Operand {i} (BlockOperand {m} {ps} {ds} {ss} e b c) s =
       let p = passed i (Opens BlockStart) e tt s in
-      let r = bracket_stands (Closes BlockEnd) (Block (from_of i) (next m).last ps ds ss (next m).held) refl refl refl p (cleared (stands_BlockBody b p.sorted)) c tt in
+      let r = bracket_stands (Closes BlockEnd) (Block (from_of i) (next m).last ps ds ss (next m).held) refl refl refl p (cleared (stands_BlockBody b p.sorted)) c tt (λ high between h. higher (spanned_statements ss) (suc (from_of i)) high (next m).last h (wider (spanned_statements ss) (next i).last (suc (from_of i)) high (omega (arith, p.some)) between)) in
       record { before = r.before; chain = record { from = r.chain.from; some = r.chain.some; to = r.chain.to; placed = r.chain.placed; sorted = r.chain.sorted } }
   stands_Operand {i} (BraceOperand {m} {ts} e d c) s =
       let p = passed i (Opens BraceStart) e tt s in
-      bracket_stands (Closes BraceEnd) (Brace (from_of i) (next m).last ts) refl refl refl p (stands_Items d p.sorted) c tt
+      bracket_stands (Closes BraceEnd) (Brace (from_of i) (next m).last ts) refl refl refl p (stands_Items d p.sorted) c tt (λ high between h. tt)
 
   -- unary messages, well placed
   stands_Unaries : {f : ℕ} {i j : Input} {r u : Chain} → Unaries Longest f r i u j → ChainStands f r i → ChainStands f u j
@@ -441,7 +441,7 @@ mutual
   stands_Statements {i} {j} (Returned {m} {t} e d f) s =
       let p = passed i Caret e tt s in
       let x = stands_Expression d p.sorted in
-      let w : IsPlaced (Return (from_of i) m.last t) = placed_one t (Return (from_of i) m.last t) refl (omega (arith, p.some, x.before, x.from)) x.placed x.to in
+      let w : IsPlaced (Return (from_of i) m.last t) = placed_one t (Return (from_of i) m.last t) refl (omega (arith, p.some, x.before, x.from)) x.placed x.to tt in
       let r = moves_Finish f x.sorted in
       record { between = (p.before, placed_some w, r.onward); placed = MorePlaced w NonePlaced; sorted = r.sorted }
   stands_Statements (OneStatement d a) s = let x = stands_Expression d s in more_stand x (stands_After a x.sorted)

@@ -3,8 +3,8 @@ use Rattle.std.proofs.Common.{◌≡◌, ℕ, zero, suc, ◌<◌, ◌≤◌, ari
 use Rattle.std.specs.Prelude.{option_and_then}
 use Rattle.std.proofs.Math.Decide.{ℕ_discrete}
 use Rattle.std.proofs.lemmas.Bool.{cases_lt}
-use Rattle.grammar_model.specs.Spanned.{SpannedTree, SpannedTrees, NoTrees, MoreTrees}
-use Rattle.grammar_model.specs.Spans.{begin_of, end_of, spanned_children, spanned_nth, spanned_part, spanned_among}
+use Rattle.grammar_model.specs.Spanned.{SpannedTree, Block, SpannedTrees, NoTrees, MoreTrees}
+use Rattle.grammar_model.specs.Spans.{begin_of, end_of, spanned_statements, spanned_children, spanned_nth, spanned_part, spanned_among}
 
 -- the trees stand in order between two places
 abbrev pub AreBetween : ℕ → ℕ → SpannedTrees → Type 0
@@ -16,10 +16,15 @@ abbrev pub AreNarrower : ℕ → ℕ → SpannedTrees → Type 0
 AreNarrower low high NoTrees = Unit {0}
 AreNarrower low high (MoreTrees t ts) = ((low < begin_of t) ⊎ (end_of t < high)) × AreNarrower low high ts
 
+-- the statements of a block stand behind its first byte
+abbrev pub IsOpened : SpannedTree → Type 0
+IsOpened (Block f e ps ds ss c) = AreBetween (suc f) e (spanned_statements ss)
+IsOpened t = Unit {0}
+
 -- In a well placed tree the nodes below a node stand in order inside it, and each is narrower than it.
 mutual
   pub data IsPlaced : SpannedTree → Type 0 where
-    Placed : {t : SpannedTree} → begin_of t < end_of t → AreBetween (begin_of t) (end_of t) (spanned_children t) → AreNarrower (begin_of t) (end_of t) (spanned_children t) → AllPlaced (spanned_children t) → IsPlaced t
+    Placed : {t : SpannedTree} → begin_of t < end_of t → AreBetween (begin_of t) (end_of t) (spanned_children t) → AreNarrower (begin_of t) (end_of t) (spanned_children t) → AllPlaced (spanned_children t) → IsOpened t → IsPlaced t
 
   pub data AllPlaced : SpannedTrees → Type 0 where
     NonePlaced : AllPlaced NoTrees
@@ -27,22 +32,22 @@ mutual
 
 -- a well placed tree has a byte
 pub placed_some : {t : SpannedTree} → IsPlaced t → begin_of t < end_of t
-placed_some (Placed s b n a) = s
+placed_some (Placed s b n a o) = s
 
 -- one of some trees, by its number
-record Nth (ts : SpannedTrees) (low high bottom top : ℕ) (d : SpannedTree) : Type 0 where
-  placed : IsPlaced d
-  from : low ≤ begin_of d
-  to : end_of d ≤ high
-  narrow : (bottom < begin_of d) ⊎ (end_of d < top)
+pub record Nth (ts : SpannedTrees) (low high bottom top : ℕ) (d : SpannedTree) : Type 0 where
+  pub placed : IsPlaced d
+  pub from : low ≤ begin_of d
+  pub to : end_of d ≤ high
+  pub narrow : (bottom < begin_of d) ⊎ (end_of d < top)
 
 -- trees in order stand between places in order
-between_le : (ts : SpannedTrees) (low high : ℕ) → AreBetween low high ts → low ≤ high
+pub between_le : (ts : SpannedTrees) (low high : ℕ) → AreBetween low high ts → low ≤ high
 between_le NoTrees low high b = b
 between_le (MoreTrees t ts) low high b = omega (arith, between_le ts (end_of t) high b.2)
 
 -- a tree of a number is well placed
-nth_placed : (ts : SpannedTrees) (k low high bottom top : ℕ) (d : SpannedTree) → AreBetween low high ts → AreNarrower bottom top ts → AllPlaced ts → spanned_nth ts k ≡ Some d → Nth ts low high bottom top d
+pub nth_placed : (ts : SpannedTrees) (k low high bottom top : ℕ) (d : SpannedTree) → AreBetween low high ts → AreNarrower bottom top ts → AllPlaced ts → spanned_nth ts k ≡ Some d → Nth ts low high bottom top d
 nth_placed NoTrees k low high bottom top d b n a e = cc
 nth_placed (MoreTrees t ts) zero low high bottom top d b n (MorePlaced p q) e =
     let same : t ≡ d = cc in
@@ -52,7 +57,7 @@ nth_placed (MoreTrees t ts) (suc k) low high bottom top d b n (MorePlaced p q) e
     record { placed = r.placed; from = omega (arith, r.from, b.0, b.1); to = r.to; narrow = r.narrow }
 
 -- a tree of a lower number ends before one of a higher number begins
-nth_order : (ts : SpannedTrees) (k m low high : ℕ) (c d : SpannedTree) → AreBetween low high ts → k < m → spanned_nth ts k ≡ Some c → spanned_nth ts m ≡ Some d → end_of c ≤ begin_of d
+pub nth_order : (ts : SpannedTrees) (k m low high : ℕ) (c d : SpannedTree) → AreBetween low high ts → k < m → spanned_nth ts k ≡ Some c → spanned_nth ts m ≡ Some d → end_of c ≤ begin_of d
 nth_order NoTrees k m low high c d b l e f = cc
 nth_order (MoreTrees t ts) zero zero low high c d b l e f = absurd (omega arith)
 nth_order (MoreTrees t ts) zero (suc m) low high c d b l e f = let same : t ≡ c = cc in subst (λ c. end_of c ≤ begin_of d) same (nth_from ts m (end_of t) high d b.2 f)
@@ -65,13 +70,13 @@ nth_order (MoreTrees t ts) (suc k) zero low high c d b l e f = absurd (omega ari
 nth_order (MoreTrees t ts) (suc k) (suc m) low high c d b l e f = nth_order ts k m (end_of t) high c d b.2 (omega arith) e f
 
 -- the first step of a path that leads somewhere
-record Step (ts : SpannedTrees) (k : ℕ) (ks : List ℕ) (d : SpannedTree) : Type 0 where
-  child : SpannedTree
-  is : spanned_nth ts k ≡ Some child
-  leads : spanned_part child ks ≡ Some d
+pub record Step (ts : SpannedTrees) (k : ℕ) (ks : List ℕ) (d : SpannedTree) : Type 0 where
+  pub child : SpannedTree
+  pub is : spanned_nth ts k ≡ Some child
+  pub leads : spanned_part child ks ≡ Some d
 
 -- such a path has a first step
-step_of : (ts : SpannedTrees) (k : ℕ) (ks : List ℕ) (d : SpannedTree) → spanned_among ts (k ∷ ks) ≡ Some d → Step ts k ks d
+pub step_of : (ts : SpannedTrees) (k : ℕ) (ks : List ℕ) (d : SpannedTree) → spanned_among ts (k ∷ ks) ≡ Some d → Step ts k ks d
 step_of ts k ks d e = go (spanned_nth ts k) refl e
   where
     go : (o : Option SpannedTree) → spanned_nth ts k ≡ o → option_and_then (λ c. spanned_part c ks) o ≡ Some d → Step ts k ks d
@@ -79,15 +84,15 @@ step_of ts k ks d e = go (spanned_nth ts k) refl e
     go (Some c) i e = record { child = c; is = i; leads = e }
 
 -- a node below a node stands inside it
-record Inside (t d : SpannedTree) : Type 0 where
-  placed : IsPlaced d
-  from : begin_of t ≤ begin_of d
-  to : end_of d ≤ end_of t
+pub record Inside (t d : SpannedTree) : Type 0 where
+  pub placed : IsPlaced d
+  pub from : begin_of t ≤ begin_of d
+  pub to : end_of d ≤ end_of t
 
 -- a node below a node stands inside it
-part_inside : (ks : List ℕ) (t d : SpannedTree) → IsPlaced t → spanned_part t ks ≡ Some d → Inside t d
+pub part_inside : (ks : List ℕ) (t d : SpannedTree) → IsPlaced t → spanned_part t ks ≡ Some d → Inside t d
 part_inside [] t d p e = let same : t ≡ d = cc in subst (Inside t) same (record { placed = p; from = omega arith; to = omega arith })
-part_inside (k ∷ ks) t d (Placed s b n a) e =
+part_inside (k ∷ ks) t d (Placed s b n a o) e =
     let step = step_of (spanned_children t) k ks d e in
     let c = nth_placed (spanned_children t) k (begin_of t) (end_of t) (begin_of t) (end_of t) step.child b n a step.is in
     let r = part_inside ks step.child d c.placed step.leads in
@@ -95,7 +100,7 @@ part_inside (k ∷ ks) t d (Placed s b n a) e =
 
 -- and narrower than it
 part_narrower : (k : ℕ) (ks : List ℕ) (t d : SpannedTree) → IsPlaced t → spanned_part t (k ∷ ks) ≡ Some d → begin_of t ≡ begin_of d → end_of t ≡ end_of d → ⊥
-part_narrower k ks t d (Placed s b n a) e f g =
+part_narrower k ks t d (Placed s b n a o) e f g =
     let step = step_of (spanned_children t) k ks d e in
     let c = nth_placed (spanned_children t) k (begin_of t) (end_of t) (begin_of t) (end_of t) step.child b n a step.is in
     let r = part_inside ks step.child d c.placed step.leads in
@@ -133,10 +138,10 @@ one_path : (ks ms : List ℕ) (t c d : SpannedTree) → IsPlaced t → spanned_p
 one_path [] [] t c d p e f g h = refl
 one_path [] (m ∷ ms) t c d p e f g h = let same : t ≡ c = cc in absurd (part_narrower m ms t d p f (ap begin_of same ∙ g) (ap end_of same ∙ h))
 one_path (k ∷ ks) [] t c d p e f g h = let same : t ≡ d = cc in absurd (part_narrower k ks t c p e (ap begin_of same ∙ sym g) (ap end_of same ∙ sym h))
-one_path (k ∷ ks) (m ∷ ms) t c d (Placed s b n a) e f g h = same_paths (spanned_children t) k m ks ms (begin_of t) (end_of t) (begin_of t) (end_of t) c d b n a e f g (λ x p u v. one_path ks ms x c d p u v g h)
+one_path (k ∷ ks) (m ∷ ms) t c d (Placed s b n a o) e f g h = same_paths (spanned_children t) k m ks ms (begin_of t) (end_of t) (begin_of t) (end_of t) c d b n a e f g (λ x p u v. one_path ks ms x c d p u v g h)
 
 -- trees between two places are narrower than one place more
-narrow : (ts : SpannedTrees) (low high : ℕ) → AreBetween low high ts → AreNarrower low (suc high) ts
+pub narrow : (ts : SpannedTrees) (low high : ℕ) → AreBetween low high ts → AreNarrower low (suc high) ts
 narrow NoTrees low high b = tt
 narrow (MoreTrees t ts) low high b = (inr (omega (arith, between_le ts (end_of t) high b.2)), wider ts (narrow ts (end_of t) high b.2))
   where

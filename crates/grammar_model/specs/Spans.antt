@@ -88,10 +88,14 @@ abbrev pub statements_of : SpannedTree → Option SpannedTrees
 statements_of (Block f e ps ds ss c) = Some (spanned_statements ss)
 statements_of t = None
 
--- the nodes of the statements of the block to which a path leads; the empty path leads to the whole sequence
+-- the nodes of the statements of the block to which a path into a list of trees leads; the empty path leads to the list itself
+abbrev pub statements_among : SpannedTrees → List ℕ → Option SpannedTrees
+statements_among ts [] = Some ts
+statements_among ts (k ∷ ks) = option_and_then statements_of (spanned_among ts (k ∷ ks))
+
+-- the nodes of the statements of a block in a sequence, or of the sequence itself
 abbrev pub statements_at : SpannedSequence → List ℕ → Option SpannedTrees
-statements_at s [] = Some (spanned_statements s.statements)
-statements_at s (k ∷ ks) = option_and_then statements_of (spanned_in s (k ∷ ks))
+statements_at s path = statements_among (spanned_statements s.statements) path
 
 -- Neighbouring statements stand there, two or more: from the first byte of the first one up to the place behind the last.
 pub record IsRunAt (s : SpannedSequence) (path : List ℕ) (first count : ℕ) (span : Span) : Type 0 where

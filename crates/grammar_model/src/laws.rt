@@ -8,7 +8,7 @@ ghost use Rattle.grammar_model.specs.Terminal.{Text};
 ghost use Rattle.grammar_model.specs.Input.{Lexeme, IsEnded};
 ghost use Rattle.grammar_model.specs.Ahead.{Longest, Any};
 ghost use Rattle.grammar_model.specs.Spanned.{SpannedSequence, SpannedMethod, plain_tree, plain_sequence, plain_method};
-ghost use Rattle.grammar_model.specs.Spans.{Span, spanned_in, span_at};
+ghost use Rattle.grammar_model.specs.Spans.{Span, spanned_in, span_at, IsRunAt};
 ghost use Rattle.grammar_model.specs.Whole.{IsDoIt, IsMethod, Form, DoIt, Method, IsText};
 ghost use Rattle.grammar_model.specs.Checks.{Fault};
 ghost use Rattle.grammar_model.specs.Spelling.{SpellsDoIt, SpellsMethod, SpellsDoItAt, SpellsMethodAt, HasStop, HasFirstFault};
@@ -63,6 +63,15 @@ pub fn spells_the_same_with_braces()
 pub fn has_one_node_at_a_place()
     ensures doit { (dialect : Dialect) (text : Text) (tree : SpannedSequence) (path other : List ℕ) (span : Span) → SpellsDoItAt dialect text tree → span_at tree path ≡ Some span → span_at tree other ≡ Some span → path ≡ other }
     ensures method { (dialect : Dialect) (kernel : Bool) (text : Text) (tree : SpannedMethod) (path other : List ℕ) (span : Span) → SpellsMethodAt dialect kernel text tree → span_at tree.body path ≡ Some span → span_at tree.body other ≡ Some span → path ≡ other }
+{}
+
+/// Two or more neighbouring statements stand where no node stands, and where no other such statements
+/// stand.
+pub fn has_one_run_at_a_place()
+    ensures doit_node { (dialect : Dialect) (text : Text) (tree : SpannedSequence) (path other : List ℕ) (first count : ℕ) (span : Span) → SpellsDoItAt dialect text tree → IsRunAt tree path first count span → ¬ (span_at tree other ≡ Some span) }
+    ensures doit_run { (dialect : Dialect) (text : Text) (tree : SpannedSequence) (path other : List ℕ) (first second count number : ℕ) (span : Span) → SpellsDoItAt dialect text tree → IsRunAt tree path first count span → IsRunAt tree other second number span → (path ≡ other) × (first ≡ second) × (count ≡ number) }
+    ensures method_node { (dialect : Dialect) (kernel : Bool) (text : Text) (tree : SpannedMethod) (path other : List ℕ) (first count : ℕ) (span : Span) → SpellsMethodAt dialect kernel text tree → IsRunAt tree.body path first count span → ¬ (span_at tree.body other ≡ Some span) }
+    ensures method_run { (dialect : Dialect) (kernel : Bool) (text : Text) (tree : SpannedMethod) (path other : List ℕ) (first second count number : ℕ) (span : Span) → SpellsMethodAt dialect kernel text tree → IsRunAt tree.body path first count span → IsRunAt tree.body other second number span → (path ≡ other) × (first ≡ second) × (count ≡ number) }
 {}
 
 /// A path leads to the same node in the tree with places and in the tree without them.
