@@ -4,7 +4,8 @@ use Rattle.std.specs.Prelude.{if◌then◌else◌, nat_lt, option_map}
 use Rattle.std.specs.Option.{option_or}
 use Rattle.token_model.specs.declared.kind.Dialect.{Dialect}
 use Rattle.tree_model.specs.Tree.{Notes, StatementsOf, no_statements, more_statements, SequenceOf, MethodOf}
-use Rattle.tree_model.specs.Normal.{normal_by, without_leading_of}
+use Rattle.tree_model.specs.Normal.{normal_by, without_leading_of, IsNormal}
+use Rattle.tree_model.proofs.NormalLemmas.{IsNormal-normal}
 use Rattle.tree_model.specs.Measure.{height, statements_height, sequence_height}
 use Rattle.grammar_model.specs.Terminal.{Text}
 use Rattle.grammar_model.specs.Ahead.{Longest}
@@ -77,3 +78,10 @@ user_Method d t m h =
     let w = h.spanned in
     let p : MethodOf Text = record { selector = w.selector; arguments = names_of w.arguments; head = w.opening; primitive = w.primitive; body = plain_sequence w.body } in
     ap (λ (m : MethodOf Text). m.primitive) h.same ∙ normal_primitive (names_of w.body.temporaries) p ∙ behind_user h.spells.grammar.behind refl
+
+-- a method's comments are in normal form
+pub normal_Method : (d : Dialect) (kernel : Bool) (t : Text) (m : MethodOf Text) → SpellsMethod d kernel t m → IsNormal m
+normal_Method d kernel t m h =
+    let w = h.spanned in
+    let p : MethodOf Text = record { selector = w.selector; arguments = names_of w.arguments; head = w.opening; primitive = w.primitive; body = plain_sequence w.body } in
+    subst IsNormal (sym h.same) (IsNormal-normal p)

@@ -66,6 +66,7 @@ record BlockBelow (ts : SpannedTrees) (k : ℕ) (ks : List ℕ) (nodes : Spanned
   is : spanned_nth ts k ≡ Some tree
   leads : statements_in tree ks ≡ Some nodes
 
+-- such a path has a first step
 block_below : (ts : SpannedTrees) (k : ℕ) (ks : List ℕ) (nodes : SpannedTrees) → statements_among ts (k ∷ ks) ≡ Some nodes → BlockBelow ts k ks nodes
 block_below ts k ks nodes e = go (spanned_nth ts k) refl e
   where
@@ -109,6 +110,7 @@ record RunStands (low high : ℕ) (head last : SpannedTree) : Type 0 where
   last_some : begin_of last < end_of last
   to : end_of last ≤ high
 
+-- their first one ends before their last one begins
 run_stands : (low high : ℕ) (nodes : SpannedTrees) (first count : ℕ) (head last : SpannedTree) → Nodes low high nodes → 2 ≤ count → spanned_nth nodes first ≡ Some head → spanned_nth nodes (first + count - 1) ≡ Some last → RunStands low high head last
 run_stands low high nodes first count head last n many a b =
     let h = node_of low high first nodes head n a in

@@ -1,6 +1,7 @@
 ghost use Rattle.std.specs.Prelude.{◌≡◌, ◌⊎◌, ◌↔◌, ◌≤◌, ℕ, Bool, false, List, [], Option, Some, None, option_map};
 ghost use Rattle.tree_model.specs.Tree.{SequenceOf, MethodOf};
 ghost use Rattle.tree_model.specs.Measure.{sequence_height};
+ghost use Rattle.tree_model.specs.Normal.{IsNormal};
 ghost use Rattle.tree_model.specs.Path.{part_in};
 ghost use Rattle.token_model.specs.declared.kind.Dialect.{Dialect};
 ghost use Rattle.token_model.specs.declared.kind.Dialect.TheVariants.{First, Second};
@@ -80,10 +81,12 @@ pub fn leads_to_the_same_node()
     ensures method { (tree : SpannedMethod) (path : List ℕ) → option_map plain_tree (spanned_in tree.body path) ≡ part_in (plain_method tree).body path }
 {}
 
-/// What a text spells is at most 200 high, and a user's method has no primitive.
+/// What a text spells is at most 200 high, a method has its comments in normal form, and a user's
+/// method has no primitive.
 pub fn keeps_the_limits()
     ensures doit { (dialect : Dialect) (text : Text) (tree : SequenceOf Text) → SpellsDoIt dialect text tree → sequence_height tree ≤ 200 }
     ensures method { (dialect : Dialect) (kernel : Bool) (text : Text) (tree : MethodOf Text) → SpellsMethod dialect kernel text tree → sequence_height tree.body ≤ 200 }
+    ensures normal { (dialect : Dialect) (kernel : Bool) (text : Text) (tree : MethodOf Text) → SpellsMethod dialect kernel text tree → IsNormal tree }
     ensures user { (dialect : Dialect) (text : Text) (tree : MethodOf Text) → SpellsMethod dialect false text tree → tree.primitive ≡ None }
 {}
 
