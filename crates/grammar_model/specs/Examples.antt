@@ -3,10 +3,11 @@ use Rattle.std.specs.Prelude.{ℕ, ◌+◌, List, [], ◌∷◌, Option, Some, N
 use Rattle.token_model.specs.TokenLists.{Piece}
 use Rattle.token_model.specs.declared.kind.TokenKind.{TokenKind}
 use Rattle.token_model.specs.declared.kind.TokenKind.TheVariants as token
-use Rattle.tree_model.specs.Tree.{str, symbol, char}
+use Rattle.tree_model.specs.Tree.{number, str, symbol, char}
 use Rattle.grammar_model.specs.declared.wanted.Wanted.TheVariants as wanted
 use Rattle.grammar_model.specs.Terminal.{Text, Ordinary, Super, PrimitiveKeyword, AnyKeyword, Common, Sign, Less, Greater, Bar, SmallDigits, LargeDigits, OtherNumeral, Group, BlockStart, BraceStart, ArrayStart, BytesStart, GroupEnd, BlockEnd, BraceEnd, TextEnd, Terminal, Name, Keyword, Binary, Numeral, Constant, Opens, Closes, Assignment, Colon, Semicolon, Period, Caret}
 use Rattle.grammar_model.specs.Input.{Lexeme, lex}
+use Rattle.grammar_model.specs.Spanned.{Var, Literal, Cascade, Assign, Block, Return, NoTrees, one_tree, NoMessages, MoreMessages, NoStatements, MoreStatements, SpannedSequence, SpannedMethod}
 use Rattle.grammar_model.specs.Whole.{Form, DoIt, IsText}
 use Rattle.grammar_model.specs.Checks.{Fault, Expected, PrimitiveInUser}
 use Rattle.grammar_model.specs.Spelling.{HasStop}
@@ -325,3 +326,67 @@ its_lexemes =
     lex [] 110 111 (Closes BlockEnd) ∷
     lex (codes "\"c\"" ∷ []) 115 115 (Closes TextEnd) ∷
     []
+
+-- foo "a" | x | "b" x := 3 "c" . "d" ^x "e"
+abbrev pub a_method : List Lexeme
+a_method =
+    lex [] 0 3 (Name Ordinary (codes "foo")) ∷
+    lex (codes "\"a\"" ∷ []) 8 9 (Binary Bar (codes "|")) ∷
+    lex [] 10 11 (Name Ordinary (codes "x")) ∷
+    lex [] 12 13 (Binary Bar (codes "|")) ∷
+    lex (codes "\"b\"" ∷ []) 18 19 (Name Ordinary (codes "x")) ∷
+    lex [] 20 22 Assignment ∷
+    lex [] 23 24 (Numeral SmallDigits (codes "3")) ∷
+    lex (codes "\"c\"" ∷ []) 29 30 Period ∷
+    lex (codes "\"d\"" ∷ []) 35 36 Caret ∷
+    lex [] 36 37 (Name Ordinary (codes "x")) ∷
+    lex (codes "\"e\"" ∷ []) 41 41 (Closes TextEnd) ∷
+    []
+
+-- a is in its head, b and c are of the assignment, d is of the return, and e is in the tail
+abbrev pub its_tree : SpannedMethod
+its_tree = record {
+  selector = codes "foo";
+  arguments = [];
+  opening = codes "\"a\"" ∷ [];
+  primitive = None;
+  body = record {
+    temporaries = record { name = codes "x"; from = 10 } ∷ [];
+    statements =
+        MoreStatements (codes "\"b\"" ∷ codes "\"c\"" ∷ []) 18 (Assign 18 24 (codes "x") (Literal 23 24 (number (codes "3"))))
+        (MoreStatements (codes "\"d\"" ∷ []) 35 (Return 35 37 (Var 36 37 (codes "x"))) NoStatements);
+    tail = codes "\"e\"" ∷ [];
+  };
+}
+
+-- (a) foo: ["p" :x | "q" x "r"]; bar "z"
+abbrev pub a_doit : List Lexeme
+a_doit =
+    lex [] 0 1 (Opens Group) ∷
+    lex [] 1 2 (Name Ordinary (codes "a")) ∷
+    lex [] 2 3 (Closes GroupEnd) ∷
+    lex [] 4 8 (Keyword AnyKeyword (codes "foo:")) ∷
+    lex [] 9 10 (Opens BlockStart) ∷
+    lex (codes "\"p\"" ∷ []) 14 15 Colon ∷
+    lex [] 15 16 (Name Ordinary (codes "x")) ∷
+    lex [] 17 18 (Binary Bar (codes "|")) ∷
+    lex (codes "\"q\"" ∷ []) 23 24 (Name Ordinary (codes "x")) ∷
+    lex (codes "\"r\"" ∷ []) 28 29 (Closes BlockEnd) ∷
+    lex [] 29 30 Semicolon ∷
+    lex [] 31 34 (Name Ordinary (codes "bar")) ∷
+    lex (codes "\"z\"" ∷ []) 38 38 (Closes TextEnd) ∷
+    []
+
+-- p and q are of the statement of the block, r is in the tail of the block, and z is in the tail of the do-it
+abbrev pub its_sequence : SpannedSequence
+its_sequence = record {
+  temporaries = [];
+  statements =
+      MoreStatements [] 0
+      (Cascade 0 34 (Var 1 2 (codes "a"))
+      (MoreMessages (codes "foo:")
+      (one_tree (Block 9 29 (record { name = codes "x"; from = 15 } ∷ []) [] (MoreStatements (codes "\"p\"" ∷ codes "\"q\"" ∷ []) 23 (Var 23 24 (codes "x")) NoStatements) (codes "\"r\"" ∷ [])))
+      (MoreMessages (codes "bar") NoTrees NoMessages)))
+      NoStatements;
+  tail = codes "\"z\"" ∷ [];
+}

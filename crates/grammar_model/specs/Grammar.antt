@@ -1,4 +1,5 @@
 -- The grammar of expressions and sequences: from one place on a tree is spelled up to another place.
+-- A brace is a token in the second dialect alone, so a text of the first has no brace array.
 use Rattle.std.specs.Prelude.{◌≡◌, ℕ, List, [], ◌∷◌, ◌++◌}
 use Rattle.tree_model.specs.Tree.{Notes, LiteralOf}
 use Rattle.grammar_model.specs.Terminal.{Text, NameKind, KeywordKind, BinaryKind, Name, Keyword, Binary, Opens, Closes, Assignment, Colon, Semicolon, Period, Caret, Ordinary, Super, Bar, Group, BlockStart, BraceStart, GroupEnd, BlockEnd, BraceEnd}

@@ -20,7 +20,7 @@ abbrev pub NoSign : BinaryKind → Type 0
 NoSign Sign = ⊥
 NoSign c = Unit {0}
 
--- the next token but one is a keyword, and no byte stands before it
+-- the token behind the next one is a keyword, and begins where the next one ends
 pub record IsJoined (i : Input) : Type 0 where
   pub keyword : IsKeyword (kind_of (next i))
   pub at : from_of (next i) ≡ (next i).last

@@ -13,7 +13,7 @@ ghost use Rattle.grammar_model.specs.Spans.{Span, spanned_in, span_at, IsRunAt};
 ghost use Rattle.grammar_model.specs.Whole.{IsDoIt, IsMethod, Form, DoIt, Method, IsText};
 ghost use Rattle.grammar_model.specs.Checks.{Fault};
 ghost use Rattle.grammar_model.specs.Spelling.{SpellsDoIt, SpellsMethod, SpellsDoItAt, SpellsMethodAt, HasStop, HasFirstFault};
-ghost use Rattle.grammar_model.specs.Examples.{AllJudged, doits, methods, kernel_methods, a_text, its_tokens, its_lexemes};
+ghost use Rattle.grammar_model.specs.Examples.{AllJudged, doits, methods, kernel_methods, a_doit, its_sequence, a_method, its_tree, a_text, its_tokens, its_lexemes};
 ghost use Rattle.grammar_model.specs.Lexemes.{lexemes_of};
 
 /// Tokens have at most one tree, with one place for each of its parts.
@@ -90,11 +90,14 @@ pub fn keeps_the_limits()
     ensures user { (dialect : Dialect) (text : Text) (tree : MethodOf Text) → SpellsMethod dialect false text tree → tree.primitive ≡ None }
 {}
 
-/// The tokens of the examples are texts, or have the fault that stands beside them, and the grammar
-/// sees the tokens of a text as the last example says.
+/// The tokens of the examples are texts, or have the fault that stands beside them. Two of them, with
+/// comments, have the trees that stand beside them, and the grammar sees the tokens of a text as the
+/// last example says.
 pub fn judges_examples()
     ensures doits { AllJudged doits }
     ensures methods { AllJudged methods }
     ensures kernel_methods { AllJudged kernel_methods }
+    ensures doit_tree { IsDoIt Longest a_doit its_sequence }
+    ensures method_tree { IsMethod Longest false a_method its_tree }
     ensures lexemes { lexemes_of a_text [] its_tokens ≡ its_lexemes }
 {}
