@@ -2,6 +2,7 @@
 use Rattle.std.proofs.Common.{◌≡◌, ℕ, Bool, true, false, List, [], ◌∷◌, Some, None, refl, ap, sym, ◌∙◌, subst}
 use Rattle.std.specs.Prelude.{Option}
 use Rattle.std.specs.Option.{option_map_or}
+use Rattle.tree_model.specs.Tree.{Notes}
 use Rattle.grammar_model.specs.Terminal.{Text, NameKind, Ordinary, Super, KeywordKind, BinaryKind, Sign, Less, Bar, SmallDigits, LargeDigits, Group, BlockStart, BraceStart, ArrayStart, BytesStart, Closing, GroupEnd, BlockEnd, BraceEnd, TextEnd, Terminal, Name, Keyword, Binary, Numeral, Constant, Opens, Closes, Assignment, Colon, Semicolon, Period, Caret}
 use Rattle.grammar_model.specs.Input.{Lexeme, lex, first_kind, others}
 use Rattle.grammar_model.specs.Spanned.{SpannedTree, SpannedTrees}
@@ -18,6 +19,10 @@ IsReal k = Unit {0}
 pub reads : (ss to : Stack) (ts : List Lexeme) (k : Terminal) → first_kind ts ≡ k → IsReal k → step ss k ≡ Some to → run ss ts ≡ run to (others ts)
 reads ss to [] k e real s = absurd (subst IsReal (sym e) real)
 reads ss to (lex c f b k' ∷ ts) k e real s = let o = ap (step ss) e ∙ s in ap (λ x. option_map_or (λ s. run s ts) x (Some (At (lex c f b k' ∷ ts) (wish ss) (may_start ss)))) o
+
+-- a token that the stack can not read is wrong
+pub wrong_at : (ss : Stack) (c : Notes) (f e : ℕ) (k : Terminal) (ts : List Lexeme) → step ss k ≡ None → run ss (lex c f e k ∷ ts) ≡ Some (At (lex c f e k ∷ ts) (wish ss) (may_start ss))
+wrong_at ss c f e k ts s = ap (λ o. option_map_or (λ s. run s ts) o (Some (At (lex c f e k ∷ ts) (wish ss) (may_start ss)))) s
 
 -- two stacks that read the next token alike
 pub reads_alike : (ss tt to : Stack) (ts : List Lexeme) (k : Terminal) → first_kind ts ≡ k → IsReal k → step ss k ≡ Some to → step tt k ≡ Some to → run ss ts ≡ run tt ts

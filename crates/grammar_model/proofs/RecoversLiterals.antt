@@ -1,14 +1,13 @@
 -- What the machine reads as a literal, the grammar spells.
-use Rattle.std.proofs.Common.{◌≡◌, ℕ, zero, suc, ◌+◌, ◌*◌, ◌≤◌, List, [], ◌∷◌, ◌++◌, length, Some, None, refl, ap, sym, ◌∙◌, arith, le_refl, subst}
-use Rattle.std.specs.Option.{option_map_or}
+use Rattle.std.proofs.Common.{◌≡◌, ℕ, zero, suc, ◌+◌, ◌*◌, ◌≤◌, List, [], ◌∷◌, ◌++◌, length, None, refl, sym, ◌∙◌, arith, le_refl, subst}
 use Rattle.std.proofs.Math.Decide.{ℕ_discrete}
 use Rattle.tree_model.specs.Tree.{Notes, LiteralOf, number, symbol, array, bytes, no_literals, more_literals}
 use Rattle.grammar_model.specs.Terminal.{Text, KeywordKind, Sign, NumeralKind, SmallDigits, LargeDigits, Group, BlockStart, ArrayStart, BytesStart, GroupEnd, BlockEnd, BraceEnd, Terminal, Name, Keyword, Binary, Numeral, Constant, Opens, Closes}
 use Rattle.grammar_model.specs.Input.{Lexeme, lex, Input, first_kind, others, kind_of, next}
 use Rattle.grammar_model.specs.Ahead.{Longest}
 use Rattle.grammar_model.specs.Literals.{word_or_symbol, KeywordRow, LastKeyword, JoinedKeyword, ByteElements, OneByte, NoBytes, LiteralAt, Unsigned, Negative, Fixed, Array, ByteArray, Element, LiteralElement, InnerArray, InnerBytes, NameElement, KeywordElement, BinaryElement, Elements, OneElement, NoElements}
-use Rattle.grammar_model.specs.Machine.{Stack, TheNumeral, TheElements, TheBytes, Awaits, step, run, wish, may_start, At}
-use Rattle.grammar_model.proofs.Reading.{reads, IsLiteralStart}
+use Rattle.grammar_model.specs.Machine.{Stack, TheNumeral, TheElements, TheBytes, Awaits, step, run}
+use Rattle.grammar_model.proofs.Reading.{reads, wrong_at, IsLiteralStart}
 use Rattle.grammar_model.proofs.Recognizes.{BeginsLiteral, elements_begin}
 
 -- From some place on X spells something, and the rest is read by what is left of the stack.
@@ -50,7 +49,7 @@ brace_closed (lex c f e k ∷ ts) ss h = cc
 -- where the stack can not read the token the tokens are wrong
 pub stuck : (ss : Stack) (c : Notes) (f e : ℕ) (k : Terminal) (ts : List Lexeme) → step ss k ≡ None → run ss (lex c f e k ∷ ts) ≡ None → ⊥
 stuck ss c f e k ts s h =
-    let r : run ss (lex c f e k ∷ ts) ≡ Some (At (lex c f e k ∷ ts) (wish ss) (may_start ss)) = ap (λ o. option_map_or (λ s. run s ts) o (Some (At (lex c f e k ∷ ts) (wish ss) (may_start ss)))) s in
+    let r = wrong_at ss c f e k ts s in
     cc
 
 -- the numerals of a byte array, and its end
