@@ -1,0 +1,16 @@
+pub mod Terminal
+pub mod Input
+pub mod Spanned
+pub mod Words
+pub mod Ahead
+pub mod Literals
+pub mod Chain
+pub mod Grammar
+pub mod Whole
+pub mod Stop
+pub mod Lexemes
+pub mod Checks
+pub mod Spelling
+pub mod Machine
+pub mod Examples
+pub mod Spans
