@@ -1,0 +1,5 @@
+pub mod SpecialNames
+pub mod Control
+pub mod Scope
+pub mod FreeNames
+pub mod Uses

@@ -1,0 +1,8 @@
+//! What a name stands for inside a method of Smalltalk-80 (Goldberg and Robson 1983): its declaration, which names are
+//! free in a part, which blocks are run in place by a control send and which assignments stand in closures. Definitions
+//! over trees with any type of names, and their laws; no program text runs here.
+#![tactic(auto)]
+
+mod local;
+
+pub use local::{ControlForm, Local};
