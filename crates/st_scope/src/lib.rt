@@ -1,0 +1,11 @@
+//! What names stand for in the program's trees: their declarations inside a method or a do-it, the free names of a part,
+//! control sends, and assignments in closures.
+#![tactic(auto)]
+
+mod control;
+mod local;
+mod special;
+
+pub use control::is_control;
+pub use local::{local_at, local_at_doit};
+pub use scope_model::Local;
