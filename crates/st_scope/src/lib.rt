@@ -2,10 +2,12 @@
 //! control sends, and assignments in closures.
 #![tactic(auto)]
 
+mod closures;
 mod control;
 mod local;
 mod special;
 
+pub use closures::{assigned_in_closure, assigned_in_closure_doit};
 pub use control::is_control;
 pub use local::{local_at, local_at_doit};
 pub use scope_model::Local;
