@@ -1,7 +1,7 @@
 -- The names in a part of a method that stand for no declaration inside the part.
-use Rattle.std.specs.Prelude.{ℕ, zero, suc, Bool, not, List, [], ◌∷◌, ◌++◌, filter}
-use Rattle.tree_model.specs.Tree.{TreeOf, var, literal, send, cascade, assign, block, brace, return, TreesOf, no_trees, more_trees, MessagesOf, no_messages, more_messages, StatementsOf, no_statements, more_statements}
-use Rattle.scope_model.specs.Scope.{declares}
+use Rattle.std.specs.Prelude.{ℕ, zero, suc, Bool, not, List, [], ◌∷◌, ◌++◌, filter, option_map, unwrap_or}
+use Rattle.tree_model.specs.Tree.{TreeOf, var, literal, send, cascade, assign, block, brace, return, TreesOf, no_trees, more_trees, MessagesOf, no_messages, more_messages, StatementsOf, no_statements, more_statements, SequenceOf}
+use Rattle.scope_model.specs.Scope.{doit_scope, scope_at, declares}
 
 -- each name once, at its first place
 abbrev pub each_once : {N : Type 0} → (N → N → Bool) → List N → List N
@@ -56,3 +56,7 @@ take_statements (suc k) (more_statements c t ss) = more_statements c t (take_sta
 -- so many neighbouring statements, from the number of the first on
 abbrev pub run_of : {N : Type 0} → StatementsOf N → ℕ → ℕ → StatementsOf N
 run_of ss first count = take_statements count (drop_statements first ss)
+
+-- the statements of the sequence where a path leads: the body's for the empty path, and else those of a block; none where there is no block
+abbrev pub statements_at : {N : Type 0} → SequenceOf N → List ℕ → StatementsOf N
+statements_at b path = unwrap_or (option_map (λ s. s.statements) (scope_at (doit_scope b) path)) no_statements

@@ -2,3 +2,4 @@ pub mod Locals
 pub mod Counts
 pub mod Weights
 pub mod Hits
+pub mod Gathering

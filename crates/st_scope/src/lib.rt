@@ -4,10 +4,13 @@
 
 mod closures;
 mod control;
+mod free;
 mod local;
+mod name_set;
 mod special;
 
 pub use closures::{assigned_in_closure, assigned_in_closure_doit};
 pub use control::is_control;
+
 pub use local::{local_at, local_at_doit};
 pub use scope_model::Local;
