@@ -1,7 +1,6 @@
 -- Names that are gathered, each once.
-use Rattle.std.proofs.Common.{◌≡◌, refl, sym, ◌∙◌, ap, ℕ, zero, suc, ◌+◌, Bool, true, false, not, cond, ◌&&◌, ◌||◌, if◌then◌else◌, List, [], ◌∷◌, ◌++◌, length, get_or, take, drop, append_assoc, add-one, drop-cons, ◌<◌}
+use Rattle.std.proofs.Common.{◌≡◌, refl, sym, ◌∙◌, ap, ℕ, suc, ◌+◌, Bool, true, false, not, cond, ◌&&◌, ◌||◌, if◌then◌else◌, List, [], ◌∷◌, ◌++◌, length, get_or, take, drop, append_assoc, add-one, drop-cons, ◌<◌}
 use Rattle.std.specs.Prelude.{filter, nat_eq}
-use Rattle.std.specs.List.{list_any}
 use Rattle.std.proofs.lemmas.Bool.{eqb-true, eqb-false, eq-eqb, ne_eqb}
 use Rattle.std.proofs.lemmas.List.Elements.{filter-append}
 use Rattle.std.proofs.lemmas.List.Folds.{list_any-append}
@@ -39,39 +38,38 @@ gathered-append bound found ks ls =
     ap (with_names found) (filter-append (λ n. not (is_among nat_eq bound n)) ks ls)
     ∙ with_names-append found (filter (λ n. not (is_among nat_eq bound n)) ks) (filter (λ n. not (is_among nat_eq bound n)) ls)
 
-pub ruleset gathering = gathered-append
-
 -- one more part of a list
 pub gather_more : (before bound bound_after found found_after whole here rest all : List ℕ)
     → (bound ≡ before) × (gathered before found whole ≡ all) → whole ≡ here ++ rest → bound_after ≡ bound → found_after ≡ gathered bound found here
     → (bound_after ≡ before) × (gathered before found_after rest ≡ all)
-gather_more before bound bound_after found found_after whole here rest all h w b f =
-    ( b ∙ h.0
-    , ap (λ (fs : List ℕ). gathered before fs rest) (f ∙ ap (λ (bs : List ℕ). gathered bs found here) h.0)
+gather_more before bound bound_after found found_after whole here rest all h w b f = (
+  b ∙ h.0,
+  ap (λ (fs : List ℕ). gathered before fs rest) (f ∙ ap (λ (bs : List ℕ). gathered bs found here) h.0)
       ∙ sym (gathered-append before found here rest)
       ∙ ap (gathered before found) (sym w)
-      ∙ h.1 )
+      ∙ h.1,
+)
 
 -- the trees from a number on
 pub free_in_trees-drop : (is_pseudo : ℕ → Bool) (ts : List (TreeOf ℕ)) (i : ℕ) (t : TreeOf ℕ) → i < length ts → t ≡ get_or ts i t
     → free_in_trees nat_eq is_pseudo (trees_of (drop i ts)) ≡ free_occurrences nat_eq is_pseudo t ++ free_in_trees nat_eq is_pseudo (trees_of (drop (i + 1) ts))
 free_in_trees-drop is_pseudo ts i t h e =
     rw add-one (ap (λ (us : List (TreeOf ℕ)). free_in_trees nat_eq is_pseudo (trees_of us)) (drop-cons ts i t h)
-      ∙ ap (λ (u : TreeOf ℕ). free_occurrences nat_eq is_pseudo u ++ free_in_trees nat_eq is_pseudo (trees_of (drop (suc i) ts))) (sym e))
+    ∙ ap (λ (u : TreeOf ℕ). free_occurrences nat_eq is_pseudo u ++ free_in_trees nat_eq is_pseudo (trees_of (drop (suc i) ts))) (sym e))
 
 -- the statements from a number on
 pub free_in_statements-drop : (is_pseudo : ℕ → Bool) (ss : List Statement) (i : ℕ) (s : Statement) → i < length ss → s ≡ get_or ss i s
     → free_in_statements nat_eq is_pseudo (statements_of (drop i ss)) ≡ free_occurrences nat_eq is_pseudo s.node ++ free_in_statements nat_eq is_pseudo (statements_of (drop (i + 1) ss))
 free_in_statements-drop is_pseudo ss i s h e =
     rw add-one (ap (λ (us : List Statement). free_in_statements nat_eq is_pseudo (statements_of us)) (drop-cons ss i s h)
-      ∙ ap (λ (u : Statement). free_occurrences nat_eq is_pseudo u.node ++ free_in_statements nat_eq is_pseudo (statements_of (drop (suc i) ss))) (sym e))
+    ∙ ap (λ (u : Statement). free_occurrences nat_eq is_pseudo u.node ++ free_in_statements nat_eq is_pseudo (statements_of (drop (suc i) ss))) (sym e))
 
 -- the messages from a number on
 pub free_in_messages-drop : (is_pseudo : ℕ → Bool) (ms : List Message) (i : ℕ) (m : Message) (args : List (TreeOf ℕ)) → i < length ms → m ≡ get_or ms i m → args ≡ m.arguments
     → free_in_messages nat_eq is_pseudo (messages_of (drop i ms)) ≡ free_in_trees nat_eq is_pseudo (trees_of args) ++ free_in_messages nat_eq is_pseudo (messages_of (drop (i + 1) ms))
 free_in_messages-drop is_pseudo ms i m args h e a =
     rw add-one (ap (λ (us : List Message). free_in_messages nat_eq is_pseudo (messages_of us)) (drop-cons ms i m h)
-      ∙ ap (λ (us : List (TreeOf ℕ)). free_in_trees nat_eq is_pseudo (trees_of us) ++ free_in_messages nat_eq is_pseudo (messages_of (drop (suc i) ms))) (ap (λ (k : Message). k.arguments) (sym e) ∙ sym a))
+    ∙ ap (λ (us : List (TreeOf ℕ)). free_in_trees nat_eq is_pseudo (trees_of us) ++ free_in_messages nat_eq is_pseudo (messages_of (drop (suc i) ms))) (ap (λ (k : Message). k.arguments) (sym e) ∙ sym a))
 
 -- a list with further names begins as before
 with_names-begins : (ns ks : List ℕ) → (rest : List ℕ) × (with_names ns ks ≡ ns ++ rest)
@@ -126,7 +124,7 @@ filter-filter first second both agree [] = refl
 filter-filter first second both agree (n ∷ ns) =
     (λ i. cond (agree n i) (n ∷ filter-filter first second both agree ns i) (filter-filter first second both agree ns i))
     ∙ (elim (first n)
-        as (λ a. cond (a && second n) (n ∷ filter second (filter first ns)) (filter second (filter first ns)) ≡ filter second (cond a (n ∷ filter first ns) (filter first ns))) [
+    as (λ a. cond (a && second n) (n ∷ filter second (filter first ns)) (filter second (filter first ns)) ≡ filter second (cond a (n ∷ filter first ns) (filter first ns))) [
       | true ↦ refl
       | false ↦ refl
     ])
@@ -134,12 +132,12 @@ filter-filter first second both agree (n ∷ ns) =
 -- what a block declares, as a change of the bound names
 bound_in_block : (is_pseudo : ℕ → Bool) (bound ps ts : List ℕ) (n : ℕ)
     → not (is_among nat_eq (with_names (with_names bound (ordinary is_pseudo ps)) (ordinary is_pseudo ts)) n)
-      ≡ (not (declares nat_eq is_pseudo ps ts n) && not (is_among nat_eq bound n))
+    ≡ (not (declares nat_eq is_pseudo ps ts n) && not (is_among nat_eq bound n))
 bound_in_block is_pseudo bound ps ts n =
     ap not
-      ( is_among-with_names (with_names bound (ordinary is_pseudo ps)) (ordinary is_pseudo ts) n
-      ∙ (λ i. is_among-with_names bound (ordinary is_pseudo ps) n i || is_among-ordinary is_pseudo ts n i)
-      ∙ ap (λ b. (is_among nat_eq bound n || b) || (not (is_pseudo n) && is_among nat_eq ts n)) (is_among-ordinary is_pseudo ps n) )
+    (is_among-with_names (with_names bound (ordinary is_pseudo ps)) (ordinary is_pseudo ts) n
+    ∙ (λ i. is_among-with_names bound (ordinary is_pseudo ps) n i || is_among-ordinary is_pseudo ts n i)
+    ∙ ap (λ b. (is_among nat_eq bound n || b) || (not (is_pseudo n) && is_among nat_eq ts n)) (is_among-ordinary is_pseudo ps n))
     ∙ by (is_among nat_eq bound n) (not (is_pseudo n)) (is_among nat_eq ps n) (is_among nat_eq ts n)
   where
     by : (b p q r : Bool) → not ((b || (p && q)) || (p && r)) ≡ (not (p && (q || r)) && not b)
@@ -152,10 +150,10 @@ bound_in_block is_pseudo bound ps ts n =
 -- what is free in a block
 pub gathered-block : (is_pseudo : ℕ → Bool) (bound found ps ts ns : List ℕ)
     → gathered (with_names (with_names bound (ordinary is_pseudo ps)) (ordinary is_pseudo ts)) found ns
-      ≡ gathered bound found (filter (λ n. not (declares nat_eq is_pseudo ps ts n)) ns)
+    ≡ gathered bound found (filter (λ n. not (declares nat_eq is_pseudo ps ts n)) ns)
 gathered-block is_pseudo bound found ps ts ns =
     ap (with_names found)
-      (filter-filter (λ n. not (declares nat_eq is_pseudo ps ts n)) (λ n. not (is_among nat_eq bound n)) _ (bound_in_block is_pseudo bound ps ts) ns)
+    (filter-filter (λ n. not (declares nat_eq is_pseudo ps ts n)) (λ n. not (is_among nat_eq bound n)) _ (bound_in_block is_pseudo bound ps ts) ns)
 
 -- what is gathered in a block, as the code does it
 pub gathers_block : (is_pseudo : ℕ → Bool) (t : TreeOf ℕ) (ps ts : List ℕ) (ss : List Statement) (tail : Notes)
@@ -168,17 +166,18 @@ pub gathers_block : (is_pseudo : ℕ → Bool) (t : TreeOf ℕ) (ps ts : List �
 gathers_block is_pseudo t ps ts ss tail own_ps own_ts these bound first second third fourth found found_after around is_block p q r len f s th fo g =
     let declared : first ≡ with_names bound (ordinary is_pseudo ps) = f ∙ ap (λ (ns : List ℕ). with_names bound (ordinary is_pseudo ns)) p in
     let inside : second ≡ with_names (with_names bound (ordinary is_pseudo ps)) (ordinary is_pseudo ts) =
-      s ∙ (λ i. with_names (declared i) (ordinary is_pseudo (q i))) in
+    s ∙ (λ i. with_names (declared i) (ordinary is_pseudo (q i))) in
     let begins = with_names-begins bound (ordinary is_pseudo ps) in
-    let more = with_names-begins (with_names bound (ordinary is_pseudo ps)) (ordinary is_pseudo ts) in
-    ( fo
-      ∙ (λ i. take (len i) ((th ∙ inside) i))
-      ∙ ap (take (length bound)) (more.1 ∙ ap (λ (ns : List ℕ). ns ++ more.0) begins.1 ∙ append_assoc bound begins.0 more.0)
-      ∙ take-append_seam bound (begins.0 ++ more.0)
-    , g
-      ∙ (λ i. gathered (inside i) found (free_in_statements nat_eq is_pseudo (statements_of (r i))))
-      ∙ gathered-block is_pseudo bound found ps ts (free_in_statements nat_eq is_pseudo (statements_of ss))
-      ∙ ap (λ (u : TreeOf ℕ). gathered bound found (free_occurrences nat_eq is_pseudo u)) (sym is_block) )
+    let more = with_names-begins (with_names bound (ordinary is_pseudo ps)) (ordinary is_pseudo ts) in (
+      fo
+          ∙ (λ i. take (len i) ((th ∙ inside) i))
+          ∙ ap (take (length bound)) (more.1 ∙ ap (λ (ns : List ℕ). ns ++ more.0) begins.1 ∙ append_assoc bound begins.0 more.0)
+          ∙ take-append_seam bound (begins.0 ++ more.0),
+      g
+          ∙ (λ i. gathered (inside i) found (free_in_statements nat_eq is_pseudo (statements_of (r i))))
+          ∙ gathered-block is_pseudo bound found ps ts (free_in_statements nat_eq is_pseudo (statements_of ss))
+          ∙ ap (λ (u : TreeOf ℕ). gathered bound found (free_occurrences nat_eq is_pseudo u)) (sym is_block),
+    )
 
 -- numbers that are equal are so in both orders
 nat_eq-symmetric : (j k : ℕ) → nat_eq j k ≡ nat_eq k j
@@ -220,18 +219,18 @@ once_more ns k ks true there rest =
     ap (λ b. with_names (if b then ns else ns ++ k ∷ []) ks) there
     ∙ rest ns
     ∙ ap (λ (ls : List ℕ). ns ++ ls)
-        (filter-filter (λ j. not (nat_eq k j)) (λ j. not (is_among nat_eq ns j)) _ (there_already ns k there) (each_once nat_eq ks)
-        ∙ sym (ap (λ b. cond (not b) (k ∷ filter (λ j. not (is_among nat_eq ns j)) (filter (λ j. not (nat_eq k j)) (each_once nat_eq ks)))
-            (filter (λ j. not (is_among nat_eq ns j)) (filter (λ j. not (nat_eq k j)) (each_once nat_eq ks)))) there))
+    (filter-filter (λ j. not (nat_eq k j)) (λ j. not (is_among nat_eq ns j)) _ (there_already ns k there) (each_once nat_eq ks)
+    ∙ sym (ap (λ b. cond (not b) (k ∷ filter (λ j. not (is_among nat_eq ns j)) (filter (λ j. not (nat_eq k j)) (each_once nat_eq ks)))
+    (filter (λ j. not (is_among nat_eq ns j)) (filter (λ j. not (nat_eq k j)) (each_once nat_eq ks)))) there))
 once_more ns k ks false there rest =
     ap (λ b. with_names (if b then ns else ns ++ k ∷ []) ks) there
     ∙ rest (ns ++ k ∷ [])
     ∙ append_assoc ns (k ∷ []) _
     ∙ ap (λ (ls : List ℕ). ns ++ k ∷ ls)
-        (filter-filter (λ j. not (nat_eq k j)) (λ j. not (is_among nat_eq ns j)) _ (not_in_longer ns k) (each_once nat_eq ks))
+    (filter-filter (λ j. not (nat_eq k j)) (λ j. not (is_among nat_eq ns j)) _ (not_in_longer ns k) (each_once nat_eq ks))
     ∙ ap (λ (ls : List ℕ). ns ++ ls)
-        (sym (ap (λ b. cond (not b) (k ∷ filter (λ j. not (is_among nat_eq ns j)) (filter (λ j. not (nat_eq k j)) (each_once nat_eq ks)))
-          (filter (λ j. not (is_among nat_eq ns j)) (filter (λ j. not (nat_eq k j)) (each_once nat_eq ks)))) there))
+    (sym (ap (λ b. cond (not b) (k ∷ filter (λ j. not (is_among nat_eq ns j)) (filter (λ j. not (nat_eq k j)) (each_once nat_eq ks)))
+    (filter (λ j. not (is_among nat_eq ns j)) (filter (λ j. not (nat_eq k j)) (each_once nat_eq ks)))) there))
 
 -- each name once, by adding one after the other
 pub with_names-each_once : (ns ks : List ℕ) → with_names ns ks ≡ ns ++ filter (λ n. not (is_among nat_eq ns n)) (each_once nat_eq ks)
@@ -243,3 +242,5 @@ with_names-each_once ns (k ∷ ks) =
 pub gathered-each_once : (ks : List ℕ) → gathered [] [] ks ≡ each_once nat_eq ks
 gathered-each_once ks =
     ap (with_names []) (filter-all ks) ∙ with_names-each_once [] ks ∙ filter-all (each_once nat_eq ks)
+
+pub ruleset gathering = (gathered-append, gathered-each_once)

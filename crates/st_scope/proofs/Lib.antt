@@ -3,3 +3,4 @@ pub mod Counts
 pub mod Weights
 pub mod Hits
 pub mod Gathering
+pub mod Runs

@@ -11,6 +11,6 @@ mod special;
 
 pub use closures::{assigned_in_closure, assigned_in_closure_doit};
 pub use control::is_control;
-
+pub use free::{free_names, free_names_doit};
 pub use local::{local_at, local_at_doit};
 pub use scope_model::Local;

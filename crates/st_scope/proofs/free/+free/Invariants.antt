@@ -23,16 +23,16 @@ abbrev pub invariant-gather_nodes-loop-node : goal.invariant-gather_nodes-loop-n
 invariant-gather_nodes-loop-node l =
     (l.bound ≡ l.initial.bound)
     × (gathered l.initial.bound l.found (free_in_trees nat_eq (is_pseudo_in l.names) (trees_of (drop l.node-index l.nodes)))
-      ≡ gathered l.initial.bound l.initial.found (free_in_trees nat_eq (is_pseudo_in l.names) (trees_of l.nodes)))
+    ≡ gathered l.initial.bound l.initial.found (free_in_trees nat_eq (is_pseudo_in l.names) (trees_of l.nodes)))
 
 abbrev pub invariant-gather_messages-loop-message : goal.invariant-gather_messages-loop-message
 invariant-gather_messages-loop-message l =
     (l.bound ≡ l.initial.bound)
     × (gathered l.initial.bound l.found (free_in_messages nat_eq (is_pseudo_in l.names) (messages_of (drop l.message-index l.messages)))
-      ≡ gathered l.initial.bound l.initial.found (free_in_messages nat_eq (is_pseudo_in l.names) (messages_of l.messages)))
+    ≡ gathered l.initial.bound l.initial.found (free_in_messages nat_eq (is_pseudo_in l.names) (messages_of l.messages)))
 
 abbrev pub invariant-gather_statements-loop-statement : goal.invariant-gather_statements-loop-statement
 invariant-gather_statements-loop-statement l =
     (l.bound ≡ l.initial.bound)
     × (gathered l.initial.bound l.found (free_in_statements nat_eq (is_pseudo_in l.names) (statements_of (drop l.statement-index l.statements)))
-      ≡ gathered l.initial.bound l.initial.found (free_in_statements nat_eq (is_pseudo_in l.names) (statements_of l.statements)))
+    ≡ gathered l.initial.bound l.initial.found (free_in_statements nat_eq (is_pseudo_in l.names) (statements_of l.statements)))
