@@ -111,7 +111,7 @@ pub(crate) const CLASSES: [ClassRow; 20] = [
     },
 ];
 
-pub(crate) const OBJECT: [&[u8]; 41] = [
+const OBJECT: [&[u8]; 41] = [
     b"= x\n\t^self == x",
     b"~= x\n\t^(self = x) not",
     b"== x\n\t<primitive: 1>",
@@ -155,13 +155,13 @@ pub(crate) const OBJECT: [&[u8]; 41] = [
     b"evaluate: a\n\t<primitive: 6>",
 ];
 
-pub(crate) const UNDEFINED_OBJECT: [&[u8]; 3] = [
+const UNDEFINED_OBJECT: [&[u8]; 3] = [
     b"isNil\n\t^true",
     b"notNil\n\t^false",
     b"printString\n\t^'nil'",
 ];
 
-pub(crate) const TRUE: [&[u8]; 10] = [
+const TRUE: [&[u8]; 10] = [
     b"not\n\t^false",
     b"& b\n\t^b",
     b"| b\n\t^true",
@@ -174,7 +174,7 @@ pub(crate) const TRUE: [&[u8]; 10] = [
     b"printString\n\t^'true'",
 ];
 
-pub(crate) const FALSE: [&[u8]; 10] = [
+const FALSE: [&[u8]; 10] = [
     b"not\n\t^true",
     b"& b\n\t^false",
     b"| b\n\t^b",
@@ -187,7 +187,7 @@ pub(crate) const FALSE: [&[u8]; 10] = [
     b"printString\n\t^'false'",
 ];
 
-pub(crate) const MAGNITUDE: [&[u8]; 6] = [
+const MAGNITUDE: [&[u8]; 6] = [
     b"> x\n\t^x < self",
     b"<= x\n\t^(x < self) not",
     b">= x\n\t^(self < x) not",
@@ -196,7 +196,7 @@ pub(crate) const MAGNITUDE: [&[u8]; 6] = [
     b"between: a and: b\n\t^a <= self and: [self <= b]",
 ];
 
-pub(crate) const CHARACTER: [&[u8]; 5] = [
+const CHARACTER: [&[u8]; 5] = [
     b"value\n\t<primitive: 41>",
     b"< x\n\t^self value < x value",
     b"asInteger\n\t^self value",
@@ -204,7 +204,7 @@ pub(crate) const CHARACTER: [&[u8]; 5] = [
     b"printString\n\t<primitive: 43>",
 ];
 
-pub(crate) const INTEGER: [&[u8]; 20] = [
+const INTEGER: [&[u8]; 20] = [
     b"+ x\n\t<primitive: 10>",
     b"- x\n\t<primitive: 11>",
     b"* x\n\t<primitive: 12>",
@@ -227,7 +227,7 @@ pub(crate) const INTEGER: [&[u8]; 20] = [
     b"to: n do: b\n\t| i |\n\ti := self.\n\t[i <= n] whileTrue: [\n\t\tb value: i.\n\t\ti := i + 1]",
 ];
 
-pub(crate) const COLLECTION: [&[u8]; 8] = [
+const COLLECTION: [&[u8]; 8] = [
     b"do: b\n\t^self subclassResponsibility",
     b"isEmpty\n\t^self size = 0",
     b"notEmpty\n\t^self isEmpty not",
@@ -238,7 +238,7 @@ pub(crate) const COLLECTION: [&[u8]; 8] = [
     b"collect: b\n\t| r |\n\tr := OrderedCollection new.\n\tself do: [:e | r add: (b value: e)].\n\t^r",
 ];
 
-pub(crate) const ARRAYED_COLLECTION: [&[u8]; 8] = [
+const ARRAYED_COLLECTION: [&[u8]; 8] = [
     b"size\n\t<primitive: 30>",
     b"at: i\n\t<primitive: 31>",
     b", x\n\t<primitive: 33>",
@@ -249,7 +249,7 @@ pub(crate) const ARRAYED_COLLECTION: [&[u8]; 8] = [
     b"last\n\t^self at: self size",
 ];
 
-pub(crate) const STRING: [&[u8]; 6] = [
+const STRING: [&[u8]; 6] = [
     b"< x\n\t<primitive: 35>",
     b"isString\n\t^true",
     b"asSymbol\n\t<primitive: 36>",
@@ -258,26 +258,26 @@ pub(crate) const STRING: [&[u8]; 6] = [
     b"displayString\n\t^self",
 ];
 
-pub(crate) const SYMBOL: [&[u8]; 4] = [
+const SYMBOL: [&[u8]; 4] = [
     b"asSymbol\n\t^self",
     b"asString\n\t<primitive: 38>",
     b"printString\n\t<primitive: 39>",
     b"displayString\n\t^self asString",
 ];
 
-pub(crate) const ARRAY: [&[u8]; 3] = [
+const ARRAY: [&[u8]; 3] = [
     b"at: i put: x\n\t<primitive: 32>",
     b"= x\n\t^(x isKindOf: Array) and: [self size = x size and: [self equalItems: x]]",
     b"equalItems: x\n\t1 to: self size do: [:i | (self at: i) = (x at: i) ifFalse: [^false]].\n\t^true",
 ];
 
-pub(crate) const ARRAY_CLASS: [&[u8]; 3] = [
+const ARRAY_CLASS: [&[u8]; 3] = [
     b"new: n\n\t<primitive: 40>",
     b"with: a\n\t^(self new: 1) at: 1 put: a; yourself",
     b"with: a with: b\n\t^(self new: 2) at: 1 put: a; at: 2 put: b; yourself",
 ];
 
-pub(crate) const ORDERED_COLLECTION: [&[u8]; 9] = [
+const ORDERED_COLLECTION: [&[u8]; 9] = [
     b"setUp\n\tarray := Array new: 4.\n\ttally := 0",
     b"size\n\t^tally",
     b"add: x\n\ttally = array size ifTrue: [array := array , (Array new: tally)].\n\ttally := tally + 1.\n\t^array at: tally put: x",
@@ -289,20 +289,18 @@ pub(crate) const ORDERED_COLLECTION: [&[u8]; 9] = [
     b"asArray\n\t^array copyFrom: 1 to: tally",
 ];
 
-pub(crate) const ORDERED_COLLECTION_CLASS: [&[u8]; 1] = [b"new\n\t^super new setUp"];
+const ORDERED_COLLECTION_CLASS: [&[u8]; 1] = [b"new\n\t^super new setUp"];
 
-pub(crate) const ASSOCIATION: [&[u8]; 4] = [
+const ASSOCIATION: [&[u8]; 4] = [
     b"setKey: k value: v\n\tkey := k.\n\tvalue := v",
     b"key\n\t^key",
     b"value\n\t^value",
     b"value: v\n\tvalue := v",
 ];
 
-pub(crate) const ASSOCIATION_CLASS: [&[u8]; 1] = [
-    b"key: k value: v\n\t^self new setKey: k value: v",
-];
+const ASSOCIATION_CLASS: [&[u8]; 1] = [b"key: k value: v\n\t^self new setKey: k value: v"];
 
-pub(crate) const DICTIONARY: [&[u8]; 7] = [
+const DICTIONARY: [&[u8]; 7] = [
     b"setUp\n\tpairs := OrderedCollection new",
     b"size\n\t^pairs size",
     b"at: k put: v\n\tpairs do: [:p |\n\t\tp key = k ifTrue: [\n\t\t\tp value: v.\n\t\t\t^v]].\n\tpairs add: k -> v.\n\t^v",
@@ -312,9 +310,9 @@ pub(crate) const DICTIONARY: [&[u8]; 7] = [
     b"keysDo: b\n\tpairs do: [:p | b value: p key]",
 ];
 
-pub(crate) const DICTIONARY_CLASS: [&[u8]; 1] = [b"new\n\t^super new setUp"];
+const DICTIONARY_CLASS: [&[u8]; 1] = [b"new\n\t^super new setUp"];
 
-pub(crate) const BLOCK: [&[u8]; 7] = [
+const BLOCK: [&[u8]; 7] = [
     b"value\n\t<primitive: 50>",
     b"value: a\n\t<primitive: 51>",
     b"value: a value: b\n\t<primitive: 52>",
@@ -324,18 +322,118 @@ pub(crate) const BLOCK: [&[u8]; 7] = [
     b"whileFalse: b\n\t[self value] whileFalse: [b value].\n\t^nil",
 ];
 
-pub(crate) const CLASS: [&[u8]; 4] = [
+const CLASS: [&[u8]; 4] = [
     b"class\n\t<primitive: 6>",
     b"new\n\t<primitive: 7>",
     b"basicNew\n\t<primitive: 7>",
     b"printString\n\t^'a class'",
 ];
 
-pub(crate) const TEXT_COLLECTOR: [&[u8]; 6] = [
+const TEXT_COLLECTOR: [&[u8]; 6] = [
     b"show: t\n\t<primitive: 60>",
     b"print: x\n\t<primitive: 61>",
     b"cr\n\t^self show: '\n'",
     b"tab\n\t^self show: '\t'",
     b"space\n\t^self show: ' '",
     b"display: x\n\t^self show: x displayString",
+];
+
+/// The methods of one class and side, in order.
+pub(crate) struct RunRow {
+    /// The class, with ` class` behind it for the class side.
+    pub(crate) class: &'static [u8],
+    /// Their texts.
+    pub(crate) sources: &'static [&'static [u8]],
+}
+
+/// The methods of all classes in order.
+pub(crate) const RUNS: [RunRow; 22] = [
+    RunRow {
+        class: b"Object",
+        sources: &OBJECT,
+    },
+    RunRow {
+        class: b"UndefinedObject",
+        sources: &UNDEFINED_OBJECT,
+    },
+    RunRow {
+        class: b"True",
+        sources: &TRUE,
+    },
+    RunRow {
+        class: b"False",
+        sources: &FALSE,
+    },
+    RunRow {
+        class: b"Magnitude",
+        sources: &MAGNITUDE,
+    },
+    RunRow {
+        class: b"Character",
+        sources: &CHARACTER,
+    },
+    RunRow {
+        class: b"Integer",
+        sources: &INTEGER,
+    },
+    RunRow {
+        class: b"Collection",
+        sources: &COLLECTION,
+    },
+    RunRow {
+        class: b"ArrayedCollection",
+        sources: &ARRAYED_COLLECTION,
+    },
+    RunRow {
+        class: b"String",
+        sources: &STRING,
+    },
+    RunRow {
+        class: b"Symbol",
+        sources: &SYMBOL,
+    },
+    RunRow {
+        class: b"Array",
+        sources: &ARRAY,
+    },
+    RunRow {
+        class: b"Array class",
+        sources: &ARRAY_CLASS,
+    },
+    RunRow {
+        class: b"OrderedCollection",
+        sources: &ORDERED_COLLECTION,
+    },
+    RunRow {
+        class: b"OrderedCollection class",
+        sources: &ORDERED_COLLECTION_CLASS,
+    },
+    RunRow {
+        class: b"Association",
+        sources: &ASSOCIATION,
+    },
+    RunRow {
+        class: b"Association class",
+        sources: &ASSOCIATION_CLASS,
+    },
+    RunRow {
+        class: b"Dictionary",
+        sources: &DICTIONARY,
+    },
+    RunRow {
+        class: b"Dictionary class",
+        sources: &DICTIONARY_CLASS,
+    },
+    RunRow {
+        class: b"Block",
+        sources: &BLOCK,
+    },
+    RunRow {
+        class: b"Class",
+        sources: &CLASS,
+    },
+    RunRow {
+        class: b"TextCollector",
+        sources: &TEXT_COLLECTOR,
+    },
 ];

@@ -1,6 +1,6 @@
 // The text of the kernel classes against tables of them, and the lists of selectors.
 use super::*;
-use crate::table::{self, CLASSES, ClassRow};
+use crate::table::{CLASSES, ClassRow, RUNS, RunRow};
 use rb_base::{Memory, Text};
 use std::test::Fail;
 
@@ -17,12 +17,12 @@ fn append_class(text: &mut Text, row: &ClassRow) -> Result<(), Memory> {
 }
 
 /// Appends the methods of one class and side as a run.
-fn append_run(text: &mut Text, class: &[u8], sources: &[&[u8]]) -> Result<(), Memory> {
+fn append_run(text: &mut Text, run: &RunRow) -> Result<(), Memory> {
     text.push_slice(b"!")?;
-    text.push_slice(class)?;
+    text.push_slice(run.class)?;
     text.push_slice(b" methodsFor: 'kernel'!\n")?;
     let mut between: &[u8] = b"";
-    for source in sources {
+    for source in run.sources {
         text.push_slice(between)?;
         text.push_slice(source)?;
         text.push_slice(b"!")?;
@@ -37,44 +37,9 @@ fn the_text_has_the_classes_and_methods_of_the_tables(rt: HostRuntime) -> Result
     for row in &CLASSES {
         append_class(&mut expected, row)?;
     }
-    append_run(&mut expected, b"Object", &table::OBJECT)?;
-    append_run(&mut expected, b"UndefinedObject", &table::UNDEFINED_OBJECT)?;
-    append_run(&mut expected, b"True", &table::TRUE)?;
-    append_run(&mut expected, b"False", &table::FALSE)?;
-    append_run(&mut expected, b"Magnitude", &table::MAGNITUDE)?;
-    append_run(&mut expected, b"Character", &table::CHARACTER)?;
-    append_run(&mut expected, b"Integer", &table::INTEGER)?;
-    append_run(&mut expected, b"Collection", &table::COLLECTION)?;
-    append_run(
-        &mut expected,
-        b"ArrayedCollection",
-        &table::ARRAYED_COLLECTION,
-    )?;
-    append_run(&mut expected, b"String", &table::STRING)?;
-    append_run(&mut expected, b"Symbol", &table::SYMBOL)?;
-    append_run(&mut expected, b"Array", &table::ARRAY)?;
-    append_run(&mut expected, b"Array class", &table::ARRAY_CLASS)?;
-    append_run(
-        &mut expected,
-        b"OrderedCollection",
-        &table::ORDERED_COLLECTION,
-    )?;
-    append_run(
-        &mut expected,
-        b"OrderedCollection class",
-        &table::ORDERED_COLLECTION_CLASS,
-    )?;
-    append_run(&mut expected, b"Association", &table::ASSOCIATION)?;
-    append_run(
-        &mut expected,
-        b"Association class",
-        &table::ASSOCIATION_CLASS,
-    )?;
-    append_run(&mut expected, b"Dictionary", &table::DICTIONARY)?;
-    append_run(&mut expected, b"Dictionary class", &table::DICTIONARY_CLASS)?;
-    append_run(&mut expected, b"Block", &table::BLOCK)?;
-    append_run(&mut expected, b"Class", &table::CLASS)?;
-    append_run(&mut expected, b"TextCollector", &table::TEXT_COLLECTOR)?;
+    for run in &RUNS {
+        append_run(&mut expected, run)?;
+    }
     assert!(rt; expected.as_slice() == prelude());
     Ok(())
 }
