@@ -98,7 +98,7 @@ fn local_in_body(
     if is_pseudo(names, name) {
         return Local::NotLocal;
     }
-    let outside = declared_or(
+    let in_body = declared_or(
         arguments,
         body.temporaries.as_slice(),
         0,
@@ -106,10 +106,10 @@ fn local_in_body(
         Local::NotLocal,
     );
     match steps.split_first() {
-        None => outside,
+        None => in_body,
         Some((step, rest)) => match statement_node(body.statements.as_slice(), *step) {
-            None => outside,
-            Some(node) => local_below(node, 1, rest, name, outside),
+            None => in_body,
+            Some(node) => local_below(node, 1, rest, name, in_body),
         },
     }
 }
