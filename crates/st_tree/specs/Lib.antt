@@ -4,3 +4,4 @@ pub mod PartCode
 pub mod ListFalls
 pub mod NodeFalls
 pub mod Replaced
+pub mod Lending

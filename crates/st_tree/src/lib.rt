@@ -3,6 +3,7 @@
 
 mod copies;
 mod laws;
+mod lending;
 mod lists;
 mod literal;
 mod measures;
@@ -23,3 +24,6 @@ pub use sameness::same;
 pub use tree::{
     Comments, Message, Messages, Method, Node, NodeKind, Nodes, Sequence, Statement, Statements,
 };
+
+#[cfg(test)]
+mod tests;

@@ -1,0 +1,81 @@
+-- Where the outside tells of the files and no read fails, words have at most one answer.
+use Rattle.std.proofs.Common.{◌≡◌, ℕ, List, ◌<◌, length, inl, inr, ap, sym, subst, ◌∙◌, arith}
+use Rattle.rb_base.specs.Outside.{Told, Untold, NoFile, File, IsNoFile, OnFile, MayGive, Rose}
+use Rattle.first_path.specs.Images.{FileImage}
+use Rattle.first_path.specs.declared.command.Command.{Command}
+use Rattle.first_path.proofs.Once.{one_text}
+use Rattle.first_path.proofs.Scripts.{one_script}
+use Rattle.browse.specs.declared.status.Status.{Status}
+use Rattle.browse.specs.Forms.{Form, Apply, NoForm, files_of, form_of}
+use Rattle.browse.specs.Loads.{World, Loads, Given, Refused, Refuses, MayFail, IsTold, IsHonest}
+use Rattle.browse.specs.Answers.{Answer, Reads, Applies, Unread, Judged, judged, AnswersForm, Answers, image_limit, script_limit}
+
+-- both answers are one
+abbrev pub SameAnswer : Status → Status → List ℕ → List ℕ → Type 0
+SameAnswer s t x y = (s ≡ t) × (x ≡ y)
+
+given_one : (t : Told) (limit : ℕ) (a b : List ℕ) → IsTold t → MayGive t limit a → MayGive t limit b → a ≡ b
+given_one Untold limit a b told p q = absurd told
+given_one NoFile limit a b told p q = absurd p.0
+given_one (File file) limit a b told p q = p.0 ∙ sym q.0
+
+given-absent : (t : Told) (limit : ℕ) (a : List ℕ) → MayGive t limit a → IsNoFile t → ⊥
+given-absent Untold limit a p absent = absent
+given-absent NoFile limit a p absent = p.0
+given-absent (File file) limit a p absent = absent
+
+given-over : (t : Told) (limit : ℕ) (a : List ℕ) → IsTold t → MayGive t limit a → OnFile t (λ file. limit < length file) → ⊥
+given-over Untold limit a told p over = told
+given-over NoFile limit a told p over = p.0
+given-over (File file) limit a told p over = let e : length a ≡ length file = ap length p.0 in omega (arith, p.1, over)
+
+absent-over : (t : Told) (P : List ℕ → Type 0) → IsNoFile t → OnFile t P → ⊥
+absent-over Untold P absent over = absent
+absent-over NoFile P absent over = over
+absent-over (File file) P absent over = absent
+
+-- A load that may fail was told of no file, where no read failed.
+absent_of : (w : World) (name : List ℕ) → ¬ Rose w.faults_before w.faults_after → MayFail w name → IsNoFile (w.told name)
+absent_of w name fine (inl absent) = absent
+absent_of w name fine (inr rose) = absurd (fine rose)
+
+refused_one : (w : World) (name : List ℕ) (limit : ℕ) (s t : Status) (x y : List ℕ) → ¬ Rose w.faults_before w.faults_after → Refuses w name limit s x → Refuses w name limit t y → SameAnswer s t x y
+refused_one w name limit s t x y fine (inl (may, is, line)) (inl (may', is', line')) = (is ∙ sym is', line ∙ sym line')
+refused_one w name limit s t x y fine (inr (large, is, line)) (inr (large', is', line')) = (is ∙ sym is', line ∙ sym line')
+refused_one w name limit s t x y fine (inl (may, is, line)) (inr (large, is', line')) = absurd (absent-over _ _ (absent_of w name fine may) large.0)
+refused_one w name limit s t x y fine (inr (large, is, line)) (inl (may, is', line')) = absurd (absent-over _ _ (absent_of w name fine may) large.0)
+
+given-refused : (w : World) (name : List ℕ) (limit : ℕ) (s : Status) (a x : List ℕ) → IsTold (w.told name) → ¬ Rose w.faults_before w.faults_after → MayGive (w.told name) limit a → Refuses w name limit s x → ⊥
+given-refused w name limit s a x told fine may (inl (absent, is, line)) = given-absent _ limit a may (absent_of w name fine absent)
+given-refused w name limit s a x told fine may (inr (large, is, line)) = given-over _ limit a told may large.0
+
+loads_one : (w : World) (name : List ℕ) (limit : ℕ) (s t : Status) (x y : List ℕ) (P Q : List ℕ → Type 0) → IsTold (w.told name) → ¬ Rose w.faults_before w.faults_after →
+    ((bytes : List ℕ) → P bytes → Q bytes → SameAnswer s t x y) → Loads w name limit s x P → Loads w name limit t y Q → SameAnswer s t x y
+loads_one w name limit s t x y P Q told fine step (Given a may p) (Given b may' q) =
+    step a p (subst Q (given_one (w.told name) limit b a told may' may) q)
+loads_one w name limit s t x y P Q told fine step (Given a may p) (Refused r) = absurd (given-refused w name limit t a y told fine may r)
+loads_one w name limit s t x y P Q told fine step (Refused r) (Given b may q) = absurd (given-refused w name limit s b x told fine may r)
+loads_one w name limit s t x y P Q told fine step (Refused r) (Refused r') = refused_one w name limit s t x y fine r r'
+
+judged_one : (image script : List ℕ) (i j : FileImage) (c d : Command) → Reads image script i c → Reads image script j d → judged i c ≡ judged j d
+judged_one image script i j c d p q =
+    let same_image : i ≡ j = one_text i j p.is_image q.is_image (sym p.image_text ∙ q.image_text) in
+    let same_command : c ≡ d = one_script script c d p.is_command q.is_command p.script_text q.script_text in
+    λ k. judged (same_image k) (same_command k)
+
+applies_one : (image script : List ℕ) (s t : Status) (x y : List ℕ) → Applies image script s x → Applies image script t y → SameAnswer s t x y
+applies_one image script s t x y (Unread none is line) (Unread none' is' line') = (is ∙ sym is', line ∙ sym line')
+applies_one image script s t x y (Unread none is line) (Judged i c reads e) = absurd (none i c reads)
+applies_one image script s t x y (Judged i c reads e) (Unread none is line) = absurd (none i c reads)
+applies_one image script s t x y (Judged i c reads e) (Judged j d reads' e') =
+    let same : ◌≡◌ {A = Answer} (s, x) (t, y) = e ∙ judged_one image script i j c d reads reads' ∙ sym e' in
+    (ap (λ (a : Answer). a.0) same, ap (λ (a : Answer). a.1) same)
+
+form_one : (w : World) (form : Form) (s t : Status) (x y : List ℕ) → IsHonest w (files_of form) → AnswersForm w form s x → AnswersForm w form t y → SameAnswer s t x y
+form_one w (Apply image script) s t x y honest p q =
+    loads_one w image image_limit s t x y _ _ honest.told.0 honest.fine
+    (λ i p' q'. loads_one w script script_limit s t x y _ _ honest.told.1.0 honest.fine (λ c. applies_one i c s t x y) p' q') p q
+form_one w NoForm s t x y honest p q = (p.0 ∙ sym q.0, p.1 ∙ sym q.1)
+
+pub answers_one : (w : World) (words : List (List ℕ)) (s t : Status) (x y : List ℕ) → IsHonest w (files_of (form_of words)) → Answers w words s x → Answers w words t y → (s ≡ t) × (x ≡ y)
+answers_one w words = form_one w (form_of words)

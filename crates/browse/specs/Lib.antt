@@ -1,0 +1,4 @@
+pub mod Statuses
+pub mod Forms
+pub mod Loads
+pub mod Answers

@@ -1,0 +1,14 @@
+//! The program: what the words of a command line and the files that they name are answered with.
+#![tactic(auto)]
+
+mod apply;
+mod load;
+mod send;
+mod status;
+#[cfg(test)]
+mod tests;
+mod top;
+mod words;
+
+pub use status::Status;
+pub use top::{browse, has_one_answer};

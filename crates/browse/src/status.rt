@@ -1,0 +1,39 @@
+// How a call of the program ends.
+ghost use Rattle.std.specs.Prelude.{◌≡◌};
+ghost use Rattle.browse.specs.Statuses.{number_of};
+
+/// How a call ended. Its number is the status with which the process ends.
+#[derive(Clone, Copy, Debug, PartialEq, Eq)]
+pub enum Status {
+    /// 0: the output of the form of the words was sent.
+    Done,
+    /// 1: a command was refused, since a condition of it is false; the line names the first one.
+    Condition,
+    /// 5: a file could not be read, or there is none of that name.
+    Read,
+    /// 6: the output failed. What was sent is a prefix of the answer.
+    Write,
+    /// 7: memory was wanting. Nothing was sent, or a prefix where the output wanted it.
+    Memory,
+    /// 8: a file is longer than its limit.
+    TooLarge,
+    /// 11: the words, or the texts of the files, are in no form that is built.
+    Unbuilt,
+}
+
+impl Status {
+    /// The number with which the process ends.
+    pub fn number(&self) -> u8
+        ensures { result ≡ number_of self.now }
+    {
+        match self {
+            Status::Done => 0,
+            Status::Condition => 1,
+            Status::Read => 5,
+            Status::Write => 6,
+            Status::Memory => 7,
+            Status::TooLarge => 8,
+            Status::Unbuilt => 11,
+        }
+    }
+}

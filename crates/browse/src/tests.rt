@@ -1,0 +1,246 @@
+// The top call over files and an output in memory: texts and answers that no clause spells out, and devices that fail.
+use super::*;
+use rb_base::{Memory, MemoryShelf, MemorySink};
+use std::alloc::Global;
+use std::process::Abort;
+use std::test::Fail;
+
+/// A definition and a method of a class, and an expression.
+fn account() -> &'static str {
+    "Object subclass: #Account\n\tinstanceVariableNames: ''\n\tclassVariableNames: ''\n\tpoolDictionaries: ''\n\tcategory: 'T'!\n\n!Account methodsFor: 'm'!\nbalance\n\t^3! !\n\nAccount new balance!\n\n"
+}
+
+/// The same with the class called `Ledger`.
+fn ledger() -> &'static str {
+    "Object subclass: #Ledger\n\tinstanceVariableNames: ''\n\tclassVariableNames: ''\n\tpoolDictionaries: ''\n\tcategory: 'T'!\n\n!Ledger methodsFor: 'm'!\nbalance\n\t^3! !\n\nLedger new balance!\n\n"
+}
+
+/// Sixteen definitions and an expression: 1,782 bytes.
+fn sixteen_classes(alloc: Global) -> Result<Vec<u8>, Memory> {
+    let mut image = Vec::new(alloc);
+    for letter in b"ABCDEFGHIJKLMNOP" {
+        image.extend_from_slice(b"Object subclass: #")?;
+        image.push(*letter)?;
+        image.extend_from_slice(
+            b"a\n\tinstanceVariableNames: ''\n\tclassVariableNames: ''\n\tpoolDictionaries: ''\n\tcategory: 'T'!\n\n",
+        )?;
+    }
+    image.extend_from_slice(b"nil!\n\n")?;
+    Ok(image)
+}
+
+/// The words as the program is given them.
+fn words_of(alloc: Global, words: &[&str]) -> Result<Vec<String>, Memory> {
+    let mut given = Vec::new(alloc);
+    for word in words {
+        given.push(String::from_str(alloc, word)?)?;
+    }
+    Ok(given)
+}
+
+/// The files `I` and `S`.
+fn files_of(alloc: Global, image: &[u8], script: &[u8]) -> Result<MemoryShelf, Memory> {
+    let mut shelf = MemoryShelf::new(alloc);
+    shelf.put_file("I", image)?;
+    shelf.put_file("S", script)?;
+    Ok(shelf)
+}
+
+/// Compares the answer to these words and files.
+fn answers(
+    rt: &impl Abort,
+    alloc: Global,
+    words: &[&str],
+    shelf: &mut MemoryShelf,
+    status: u8,
+    sent: &[u8],
+) -> Result<(), Memory> {
+    let mut sink = MemorySink::new(alloc);
+    let words = words_of(alloc, words)?;
+    let got = browse(alloc, words.as_slice(), shelf, &mut sink);
+    assert_eq!(rt; got.number(), status);
+    assert!(rt; sink.as_slice() == sent);
+    Ok(())
+}
+
+/// Compares the answer to `apply I S` with these texts.
+fn applies(
+    rt: &impl Abort,
+    alloc: Global,
+    image: &str,
+    script: &str,
+    status: u8,
+    sent: &str,
+) -> Result<(), Memory> {
+    let mut shelf = files_of(alloc, image.as_bytes(), script.as_bytes())?;
+    answers(
+        rt,
+        alloc,
+        &["apply", "I", "S"],
+        &mut shelf,
+        status,
+        sent.as_bytes(),
+    )
+}
+
+/// Compares what is sent where the put of this number fails after so many bytes.
+fn fails_in_put(
+    rt: &impl Abort,
+    alloc: Global,
+    put: u64,
+    taken: usize,
+    sent: usize,
+) -> Result<(), Memory> {
+    let image = sixteen_classes(alloc)?;
+    let mut shelf = files_of(alloc, image.as_slice(), b"renameClass Aa Ab\n")?;
+    let mut sink = MemorySink::new(alloc);
+    sink.fail_put(put, taken)?;
+    let words = words_of(alloc, &["apply", "I", "S"])?;
+    let got = browse(alloc, words.as_slice(), &mut shelf, &mut sink);
+    assert_eq!(rt; got.number(), 6);
+    assert_eq!(rt; sink.as_slice().len(), sent);
+    assert_eq!(rt; sink.calls(), put);
+    Ok(())
+}
+
+#[test]
+fn texts_are_answered(rt: HostRuntime) -> Result<(), Fail> {
+    for (script, status, sent) in [
+        ("renameClass Account Ledger\n", 0, ledger()),
+        ("renameClass Account Ledger", 0, ledger()),
+        (
+            "renameClass Nobody Ledger\n",
+            1,
+            "refused 1 C2 IsUserClass Nobody\n",
+        ),
+        (
+            "renameClass Nobody Account\n",
+            1,
+            "refused 1 C2 IsUserClass Nobody\n",
+        ),
+        (
+            "renameClass Object Ledger\n",
+            1,
+            "refused 1 C2 IsUserClass Object\n",
+        ),
+        (
+            "renameClass Account ledger\n",
+            1,
+            "refused 1 C3 GoodName ledger\n",
+        ),
+        (
+            "renameClass Account Smalltalk\n",
+            1,
+            "refused 1 C3 GoodName Smalltalk\n",
+        ),
+        (
+            "renameClass Account Account\n",
+            1,
+            "refused 1 C4 NameUnused Account\n",
+        ),
+        (
+            "renameClass Account Integer\n",
+            1,
+            "refused 1 C4 NameUnused Integer\n",
+        ),
+        ("addClass X Object", 11, "unbuilt\n"),
+        ("", 11, "unbuilt\n"),
+    ] {
+        applies(&rt, rt.alloc(), account(), script, status, sent)?;
+    }
+    Ok(())
+}
+
+#[test]
+fn texts_and_words_of_no_form_are_unbuilt(rt: HostRuntime) -> Result<(), Fail> {
+    applies(&rt, rt.alloc(), "", "renameClass A B", 11, "unbuilt\n")?;
+    let mut shelf = MemoryShelf::new(rt.alloc());
+    for words in [
+        ["apply", "I"].as_slice(),
+        &["apply", "I", "S", "S"],
+        &["run", "I", "3"],
+        &[],
+    ] {
+        answers(&rt, rt.alloc(), words, &mut shelf, 11, b"unbuilt\n")?;
+    }
+    Ok(())
+}
+
+#[test]
+fn files_that_fail_are_named(rt: HostRuntime) -> Result<(), Fail> {
+    let mut shelf = files_of(rt.alloc(), account().as_bytes(), b"")?;
+    answers(
+        &rt,
+        rt.alloc(),
+        &["apply", "J", "S"],
+        &mut shelf,
+        5,
+        b"cannot read J\n",
+    )?;
+    shelf.fail_load(2)?;
+    shelf.fail_load(4)?;
+    answers(
+        &rt,
+        rt.alloc(),
+        &["apply", "I", "S"],
+        &mut shelf,
+        5,
+        b"cannot read I\n",
+    )?;
+    answers(
+        &rt,
+        rt.alloc(),
+        &["apply", "I", "S"],
+        &mut shelf,
+        5,
+        b"cannot read S\n",
+    )?;
+    Ok(())
+}
+
+/// So many blanks.
+fn blanks(alloc: Global, count: usize) -> Result<Vec<u8>, Memory> {
+    let mut bytes = Vec::new(alloc);
+    bytes.resize(count, b' ')?;
+    Ok(bytes)
+}
+
+#[test]
+fn a_script_has_a_limit(rt: HostRuntime) -> Result<(), Fail> {
+    let most = blanks(rt.alloc(), 1048576)?;
+    let mut shelf = files_of(rt.alloc(), account().as_bytes(), most.as_slice())?;
+    answers(
+        &rt,
+        rt.alloc(),
+        &["apply", "I", "S"],
+        &mut shelf,
+        11,
+        b"unbuilt\n",
+    )?;
+    let more = blanks(rt.alloc(), 1048577)?;
+    shelf.put_file("S", more.as_slice())?;
+    answers(
+        &rt,
+        rt.alloc(),
+        &["apply", "I", "S"],
+        &mut shelf,
+        8,
+        b"too large S\n",
+    )?;
+    Ok(())
+}
+
+#[test]
+fn no_put_follows_one_that_failed(rt: HostRuntime) -> Result<(), Fail> {
+    for (put, taken, sent) in [
+        (1, 0, 0),
+        (1, 10, 10),
+        (1, 1024, 1024),
+        (2, 0, 1024),
+        (2, 10, 1034),
+        (2, 5000, 1782),
+    ] {
+        fails_in_put(&rt, rt.alloc(), put, taken, sent)?;
+    }
+    Ok(())
+}

@@ -1,0 +1,76 @@
+// The one call of the program.
+ghost use Rattle.std.specs.Prelude.{◌≡◌, ◌≢◌, ◌⊎◌, [], IfOk, List, ℕ, map, string_bytes};
+ghost use Rattle.rb_base.specs.Outside.{Rose, Sends, SendsPart};
+ghost use Rattle.browse.specs.declared.status.Status.{Status};
+ghost use Rattle.browse.specs.Forms.{form_of, files_of};
+ghost use Rattle.browse.specs.Loads.{World, world, IsHonest};
+ghost use Rattle.browse.specs.Answers.{Answers};
+
+use crate::apply::{apply, unbuilt};
+use crate::send::send;
+use crate::status::Status;
+use crate::words::{Words, words_of};
+use rb_base::{Memory, Shelf, Sink, SinkError, Text};
+use std::alloc::Global;
+
+/// Builds the whole answer.
+fn answer<F: Shelf>(
+    alloc: Global,
+    words: &[String],
+    shelf: &mut F,
+    out: &mut Text,
+) -> Result<Status, Memory>
+    requires { out.old ≡ [] }
+    ensures answered { IfOk result (λ status. Answers (world F.told F.faults F.taken shelf.old shelf.new) (map string_bytes words.now) status out.new) }
+    ensures same { F.told shelf.new ≡ F.told shelf.old }
+{
+    match words_of(words) {
+        Words::Apply { image, script } => apply(alloc, shelf, image, script, out),
+        Words::NoForm => unbuilt(out),
+    }
+}
+
+/// Does what the words say, with the files of `shelf`, and sends the answer to `out`: the whole of it is built before the first
+/// piece is sent, and no piece follows one that failed.
+pub fn browse<F: Shelf, K: Sink>(
+    alloc: Global,
+    words: &[String],
+    shelf: &mut F,
+    out: &mut K,
+) -> Status
+    // Unless memory is wanting or the output fails, the status and what is sent answer the words.
+    ensures answered { result ≢ Status.Memory → result ≢ Status.Write → (bytes : List ℕ) ×
+        Answers (world F.told F.faults F.taken shelf.old shelf.new) (map string_bytes words.now) result bytes
+        × Sends bytes (K.sent out.old) (K.sent out.new) }
+    // Where the outside tells of the files and no read fails, there is one answer, and it is that one.
+    ensures exact { IsHonest (world F.told F.faults F.taken shelf.old shelf.new) (files_of (form_of (map string_bytes words.now))) →
+        (status : Status) (bytes : List ℕ) →
+        Answers (world F.told F.faults F.taken shelf.old shelf.new) (map string_bytes words.now) status bytes →
+        result ≢ Status.Memory → result ≢ Status.Write → (result ≡ status) × Sends bytes (K.sent out.old) (K.sent out.new) }
+    // Where the output fails, a prefix of an answer was sent.
+    ensures write { result ≡ Status.Write → (status : Status) × (bytes : List ℕ) ×
+        Answers (world F.told F.faults F.taken shelf.old shelf.new) (map string_bytes words.now) status bytes
+        × SendsPart bytes (K.sent out.old) (K.sent out.new) }
+    ensures write_cause { result ≡ Status.Write → Rose (K.faults out.old) (K.faults out.new) }
+    // Where memory is wanting, nothing was sent, or a prefix of an answer.
+    ensures memory { result ≡ Status.Memory → (K.sent out.new ≡ K.sent out.old) ⊎ ((status : Status) × (bytes : List ℕ) ×
+        Answers (world F.told F.faults F.taken shelf.old shelf.new) (map string_bytes words.now) status bytes
+        × SendsPart bytes (K.sent out.old) (K.sent out.new)) }
+    ensures same { F.told shelf.new ≡ F.told shelf.old }
+{
+    let mut bytes = Text::new(alloc);
+    let Ok(status) = answer(alloc, words, shelf, &mut bytes) else {
+        return Status::Memory;
+    };
+    match send(bytes.as_slice(), out) {
+        Ok(()) => status,
+        Err(SinkError::Failed) => Status::Write,
+        Err(SinkError::Memory) => Status::Memory,
+    }
+}
+
+/// Where the outside tells of the files that the words name and no read fails, words have at most one answer.
+pub fn has_one_answer()
+    ensures { (w : World) (words : List (List ℕ)) (s t : Status) (x y : List ℕ) → IsHonest w (files_of (form_of words)) →
+        Answers w words s x → Answers w words t y → (s ≡ t) × (x ≡ y) }
+{}
