@@ -1,0 +1,6 @@
+pub mod SpecialNames
+pub mod Control
+pub mod Scope
+pub mod FreeNames
+pub mod Uses
+pub mod NameTests

@@ -1,0 +1,6 @@
+pub mod Locals
+pub mod Counts
+pub mod Weights
+pub mod Hits
+pub mod Gathering
+pub mod Runs

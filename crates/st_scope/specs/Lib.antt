@@ -1,0 +1,4 @@
+pub mod LocalFrom
+pub mod Captures
+pub mod NameLists
+pub mod Parts
