@@ -1,0 +1,3 @@
+//! Images of Smalltalk-80 (Goldberg and Robson 1983) as abstract data: classes, methods and do-its, chains of
+//! superclasses, look-up of methods, what names mean, the uses of a thing, and their laws. No program text runs here.
+#![tactic(auto)]
