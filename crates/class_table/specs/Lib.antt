@@ -1,0 +1,6 @@
+pub mod Order
+pub mod Slots
+pub mod SlotsCode
+pub mod View
+pub mod Finding
+pub mod Tables
