@@ -4,3 +4,5 @@ pub mod SlotsCode
 pub mod View
 pub mod Finding
 pub mod Tables
+pub mod Info
+pub mod Changing

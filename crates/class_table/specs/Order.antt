@@ -1,5 +1,5 @@
 -- An order of some of the numbers below a bound.
-use Rattle.std.specs.Prelude.{◌≡◌, ℕ, ◌<◌, ◌≤◌, List, [], ◌∷◌, length, Bool, true, false, Some, slice_get, nat_eq, if◌then◌else◌}
+use Rattle.std.specs.Prelude.{◌≡◌, ℕ, ◌<◌, ◌≤◌, List, [], ◌∷◌, length, insert, Bool, true, false, Option, None, Some, slice_get, nat_eq, if◌then◌else◌}
 use Rattle.std.specs.List.{list_any}
 
 -- the numbers in their order, and the bound
@@ -11,6 +11,11 @@ pub record OrderOf : Type 0 where
 abbrev pub without : ℕ → List ℕ → List ℕ
 without k [] = []
 without k (x ∷ xs) = if nat_eq k x then xs else x ∷ without k xs
+
+-- the list with k put in at a place, or as it is
+abbrev pub put_at : ℕ → Option ℕ → List ℕ → List ℕ
+put_at k None order = order
+put_at k (Some place) order = insert order place k
 
 -- no number stands twice in the list
 abbrev pub Distinct : List ℕ → Type 0

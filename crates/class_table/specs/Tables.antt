@@ -1,11 +1,12 @@
 -- The tables by which live classes and methods are found.
-use Rattle.std.specs.Prelude.{◌≡◌, ℕ, List, Bool, true, nat_eq}
+use Rattle.std.specs.Prelude.{◌≡◌, ℕ, List, length, Bool, true, nat_eq}
 use Rattle.indexmap.specs.IndexMap.{IndexMap, get}
 use Rattle.std.specs.declared.hash.FoldHasher.{FoldHasher}
 use Rattle.std.specs.declared.hash.BuildHasherDefault.{BuildHasherDefault}
 use Rattle.class_table.specs.declared.record.ClassRec.{ClassRec}
 use Rattle.class_table.specs.declared.record.MethodRec.{MethodRec}
 use Rattle.class_table.specs.declared.tables.MethodKey.{MethodKey}
+use Rattle.class_table.specs.Order.{OrderOf}
 use Rattle.class_table.specs.Finding.{named_in, same_key, method_in}
 
 -- slots of classes by name
@@ -25,7 +26,9 @@ abbrev pub IsMethodTable : MethodTable → List MethodRec → List ℕ → Type 
 IsMethodTable table methods order =
     (key : MethodKey) → get same_key table key ≡ method_in methods order key
 
--- where the tables are said to be ready they are those of the live slots
-pub record HasTables (ready : Bool) (by_name : ClassTable) (by_selector : MethodTable) (classes : List ClassRec) (class_order : List ℕ) (methods : List MethodRec) (method_order : List ℕ) : Type 0 where
-  pub names : ready ≡ true → IsClassTable by_name classes class_order
-  pub selectors : ready ≡ true → IsMethodTable by_selector methods method_order
+-- what an image keeps: each slot has a flag in its order, and where the tables are said to be ready they are those of the live slots
+pub record KeepsSlots (ready : Bool) (by_name : ClassTable) (by_key : MethodTable) (classes : List ClassRec) (class_order : OrderOf) (methods : List MethodRec) (method_order : OrderOf) : Type 0 where
+  pub class_slots : class_order.slots ≡ length classes
+  pub method_slots : method_order.slots ≡ length methods
+  pub names : ready ≡ true → IsClassTable by_name classes class_order.items
+  pub keys : ready ≡ true → IsMethodTable by_key methods method_order.items

@@ -1,7 +1,8 @@
 // The order of the live classes.
 ghost use Rattle.std.specs.Prelude.{◌≡◌, ◌<◌, ◌≤◌, ◌+◌, ℕ, List, [], ◌∷◌, ◌++◌, length, position, nat_eq, false, insert, IfOk, OnErr, OnOk};
 ghost use Rattle.std.specs.List.{list_any};
-ghost use Rattle.class_table.specs.Order.{OrderOf, IsOrderOf, without};
+ghost use Rattle.std.specs.Option.{ForSome};
+ghost use Rattle.class_table.specs.Order.{OrderOf, IsOrderOf, without, put_at};
 
 use crate::record::ClassId;
 use crate::room::{insert_in_room, push_in_room};
@@ -104,5 +105,20 @@ impl ClassOrder {
     {
         self.live[slot.0] = true;
         insert_in_room(&mut self.items, place, slot);
+    }
+
+    /// Puts a slot at a place, or in none, and answers its former place.
+    pub fn set_live(&mut self, slot: ClassId, place: Option<usize>) -> Option<usize>
+        requires there { slot < self.old.slots }
+        requires within { ForSome place (λ at. at ≤ length (without slot self.old.items)) }
+        ensures former { result ≡ position (nat_eq slot) self.old.items }
+        ensures order { self.new ≡ record self.old { items = put_at slot place (without slot self.old.items) } }
+    {
+        let _ = self.items();
+        let former = self.take_out(slot);
+        if let Some(at) = place {
+            self.put(slot, at);
+        }
+        former
     }
 }

@@ -1,12 +1,17 @@
 //! Images: the classes, methods and do-its of a Smalltalk-80 file-out, in slots that stay.
 #![tactic(auto)]
 
+mod add;
 mod class_order;
+mod find;
+mod image;
 mod method_order;
 mod record;
 mod room;
+mod swap;
 mod tables;
 
 pub use class_order::ClassOrder;
+pub use image::Image;
 pub use method_order::MethodOrder;
 pub use record::{ClassId, ClassIds, ClassRec, DoIt, MethodInfo, MethodRec, MethodSlot, Place, Slot};
