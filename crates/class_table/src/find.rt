@@ -1,9 +1,9 @@
 // Classes and methods found in an image.
-ghost use Rattle.std.specs.Prelude.{◌≡◌, IfOk, OnOk, OnErr};
-ghost use Rattle.class_table.specs.Finding.{named_in, method_in};
+ghost use Rattle.std.specs.Prelude.{◌≡◌, ◌++◌, filter, length, OnOk, OnErr};
+ghost use Rattle.class_table.specs.Finding.{named_in, method_in, only_live, above, on_chain_at, found_on_chain, class_class, found_by_lookup, is_on_chain};
 
 use crate::image::Image;
-use crate::record::{ClassId, MethodSlot};
+use crate::record::{ClassId, ClassIds, MethodSlot};
 use crate::tables::{class_table, find_class, find_method, method_table, MethodKey};
 use rb_base::{Memory, NameId};
 
@@ -43,5 +43,113 @@ impl Image {
             self.ready = true;
         }
         Ok(())
+    }
+
+    /// The `n`-th class on the chain of a class: the class itself for 0, then its superclass, and so on. `None` where the
+    /// class is not live or its chain has at most `n` classes.
+    pub fn chain_at(&self, class: ClassId, n: usize) -> Option<ClassId>
+        ensures { result ≡ on_chain_at self.now.classes self.now.class_order class n }
+    {
+        let mut at = self.only_live(class);
+        let mut left = n;
+        while left > 0 {
+            at = self.above(at?);
+            left -= 1;
+        }
+        at
+    }
+
+    /// The method that a message with a selector runs in a class, on the instance side or the class side: the first one
+    /// on the chain, and on the class side then what the class `Class` understands. `None` also where the class is not
+    /// live.
+    pub fn lookup(&self, class: ClassId, meta: bool, selector: NameId) -> Option<MethodSlot>
+        ensures { result ≡ found_by_lookup self.now class meta selector }
+    {
+        let class = self.only_live(class)?;
+        let found = self.find_up(class, meta, selector);
+        if found.is_some() || !meta {
+            return found;
+        }
+        let class = self.class_class()?;
+        self.find_up(class, false, selector)
+    }
+
+    /// Appends the class and all below it, in the order of the live classes.
+    pub fn tree_of(&self, class: ClassId, out: &mut ClassIds) -> Result<(), Memory>
+        ensures ok { OnOk result (out.new ≡ out.old ++ filter (is_on_chain self.now.classes self.now.class_order class) self.now.class_order) }
+        ensures err { OnErr result (out.new ≡ out.old) }
+    {
+        let mut found = ClassIds::new(self.alloc);
+        for id in self.class_order.items() {
+            if self.is_on_chain(class, *id) {
+                found.push(*id)?;
+            }
+        }
+        out.push_slice(found.as_slice())
+    }
+
+    /// The slot, if it is that of a live class.
+    fn only_live(&self, class: ClassId) -> Option<ClassId>
+        ensures { result ≡ only_live self.now.class_order class }
+    {
+        if self.class_order.is_live(class) {
+            Some(class)
+        } else {
+            None
+        }
+    }
+
+    /// The live superclass of a class.
+    fn above(&self, class: ClassId) -> Option<ClassId>
+        ensures { result ≡ above self.now.classes self.now.class_order class }
+    {
+        let rec = self.classes.get(class.0)?;
+        self.only_live(rec.superclass?)
+    }
+
+    /// The class `Class`, if there is one.
+    fn class_class(&self) -> Option<ClassId>
+        ensures { result ≡ class_class self.now }
+    {
+        self.class_named(self.names.find(b"Class")?)
+    }
+
+    /// The first method for a selector on a side of the chain of a live class.
+    fn find_up(&self, class: ClassId, meta: bool, selector: NameId) -> Option<MethodSlot>
+        ensures { result ≡ found_on_chain self.now class meta selector }
+    {
+        let mut at = self.only_live(class);
+        let mut left = self.class_order.items().len();
+        while left > 0 {
+            let class = at?;
+            let found = self.method_of(MethodKey::new(class, meta, selector));
+            if found.is_some() {
+                return found;
+            }
+            at = self.above(class);
+            left -= 1;
+        }
+        None
+    }
+
+    /// Whether a class is another one or above it.
+    fn is_on_chain(&self, class: ClassId, other: ClassId) -> bool
+        ensures { result ≡ is_on_chain self.now.classes self.now.class_order class other }
+    {
+        let mut at = self.only_live(other);
+        let mut left = self.class_order.items().len();
+        while left > 0 {
+            match at {
+                None => return false,
+                Some(next) => {
+                    if class == next {
+                        return true;
+                    }
+                    at = self.above(next);
+                }
+            }
+            left -= 1;
+        }
+        false
     }
 }

@@ -6,6 +6,7 @@ mod class_order;
 mod find;
 mod image;
 mod method_order;
+mod open;
 mod record;
 mod room;
 mod swap;

@@ -17,6 +17,19 @@ pub struct MethodKey {
     pub selector: usize,
 }
 
+impl MethodKey {
+    /// The key of a class, a side and a selector.
+    pub fn new(class: ClassId, meta: bool, selector: NameId) -> MethodKey
+        ensures { result ≡ record { class = class; meta = meta; selector = selector } }
+    {
+        MethodKey {
+            class: class.0,
+            meta,
+            selector: selector.0,
+        }
+    }
+}
+
 fn name_of(classes: &[ClassRec], id: ClassId) -> Option<NameId>
     ensures { result ≡ class_name classes.now id }
 {
@@ -88,11 +101,7 @@ fn key_of(methods: &[MethodRec], slot: MethodSlot) -> Option<MethodKey>
     ensures { result ≡ key_in methods.now slot }
 {
     let rec = methods.get(slot.0)?;
-    Some(MethodKey {
-        class: rec.class.0,
-        meta: rec.meta,
-        selector: rec.tree.selector.0,
-    })
+    Some(MethodKey::new(rec.class, rec.meta, rec.tree.selector))
 }
 
 /// The first method of each class, side and selector among live ones.
