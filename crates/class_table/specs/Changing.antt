@@ -1,5 +1,5 @@
 -- Slots that are taken out of an order or put in, and sources that are swapped.
-use Rattle.std.specs.Prelude.{◌≡◌, ℕ, ◌<◌, ◌≤◌, List, length, position, nat_eq, slice_get, slice_set, Option, None, Some, option_map}
+use Rattle.std.specs.Prelude.{ℕ, ◌<◌, ◌≤◌, List, length, position, nat_eq, slice_get, slice_set, Option, option_map}
 use Rattle.std.specs.Option.{option_map_or, ForSome}
 use Rattle.class_table.specs.declared.record.MethodRec.{MethodRec}
 use Rattle.class_table.specs.declared.record.DoIt.{DoIt}

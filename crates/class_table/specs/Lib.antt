@@ -6,3 +6,4 @@ pub mod Finding
 pub mod Tables
 pub mod Info
 pub mod Changing
+pub mod Lending

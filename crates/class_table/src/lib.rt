@@ -5,6 +5,7 @@ mod add;
 mod class_order;
 mod find;
 mod image;
+mod lend;
 mod method_order;
 mod open;
 mod record;

@@ -1,7 +1,6 @@
-use Rattle.std.proofs.Common.{◌≡◌, true, false, cond, take, is_some, Some, None, sym, ap, ◌∙◌, arith}
-use Rattle.std.proofs.lemmas.Grind.{common_steps}
+use Rattle.std.proofs.Common.{◌≡◌, true, false, cond, take, is_some, Some, sym, ap, ◌∙◌}
 use Rattle.indexmap.specs.IndexMap.{get}
-use Rattle.class_table.specs.Finding.{same_key, key_in, method_in}
+use Rattle.class_table.specs.Finding.{same_key, method_in}
 use Rattle.class_table.specs.Tables.{MethodTable}
 use Rattle.class_table.proofs.TableLemmas.{method_skipped, method_known, method_new}
 use Rattle.class_table.proofs.tables.method_table.Goals as goal

@@ -1,6 +1,5 @@
 use Rattle.std.proofs.Common.{◌≡◌, ◌-◌, Option, None, sym, ap, ◌∙◌, ℕ}
 use Rattle.image_model.specs.Upwards.{upwards, first_given}
-use Rattle.class_table.specs.declared.tables.MethodKey.{MethodKey}
 use Rattle.class_table.specs.Finding.{above, method_in}
 use Rattle.class_table.proofs.Walks.{first-step, none-from_is_some}
 use Rattle.class_table.proofs.image.Image.find_up.Goals as goal

@@ -1,7 +1,6 @@
-use Rattle.std.proofs.Common.{◌≡◌, ◌+◌, ◌≤◌, length, arith, subst, ap, ◌∙◌, sym}
+use Rattle.std.proofs.Common.{◌≡◌, ◌+◌, ◌≤◌, length, arith}
 use Rattle.std.proofs.lemmas.Grind.{common_steps}
 use Rattle.std.specs.Vec.{vec_capacity}
-use Rattle.class_table.specs.Order.{IsOrder}
 use Rattle.class_table.proofs.OrderLemmas.{IsOrder-added, length-le_slots}
 use Rattle.class_table.proofs.method_order.MethodOrder.add.Goals as goal
 

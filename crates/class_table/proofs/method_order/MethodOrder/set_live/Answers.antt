@@ -1,4 +1,4 @@
-use Rattle.std.proofs.Common.{false, nat_eq, ap, ◌∙◌}
+use Rattle.std.proofs.Common.{nat_eq, ap, ◌∙◌}
 use Rattle.std.specs.List.{list_any}
 use Rattle.class_table.specs.Order.{OrderOf}
 use Rattle.class_table.proofs.OrderLemmas.{gone-without}
