@@ -3,3 +3,4 @@ pub mod Control
 pub mod Scope
 pub mod FreeNames
 pub mod Uses
+pub mod NameTests

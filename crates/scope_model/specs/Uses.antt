@@ -21,6 +21,10 @@ abbrev pub uses_in_block : {N : Type 0} → Bool → List (UseOf N) → List (Us
 uses_in_block true us = us
 uses_in_block false us = map enclosed us
 
+-- an assignment to the name that stands in a closure
+abbrev pub is_captured : {N : Type 0} → (N → N → Bool) → N → UseOf N → Bool
+is_captured same n u = same n u.name && (u.is_assignment && u.in_closure)
+
 module _ {N : Type 0} (same : N → N → Bool) (is_pseudo : N → Bool) (form : N → ControlForm) where
   abbrev mutual
     -- the uses of the free names of a tree, in the order of the text; `in_place` says that the tree is run in place where it is a block
@@ -47,14 +51,10 @@ module _ {N : Type 0} (same : N → N → Bool) (is_pseudo : N → Bool) (form :
     statements_uses no_statements = []
     statements_uses (more_statements c t ss) = uses false t ++ statements_uses ss
 
-  -- an assignment to the name that stands in a closure
-  abbrev pub is_captured : N → UseOf N → Bool
-  is_captured n u = same n u.name && (u.is_assignment && u.in_closure)
-
   -- the scope declares the name, and an assignment that means this declaration stands in a closure inside the scope
   abbrev pub assigned_in_closure_of : ScopeOf N → N → Bool
   assigned_in_closure_of s n =
-      declares same is_pseudo s.arguments s.temporaries n && list_any (is_captured n) (statements_uses s.statements)
+      declares same is_pseudo s.arguments s.temporaries n && list_any (is_captured same n) (statements_uses s.statements)
 
   -- the same of the scope at a path, where the outermost one is at the empty path
   abbrev pub assigned_in_closure_at : ScopeOf N → List ℕ → N → Bool

@@ -3,6 +3,11 @@
 //! over trees with any type of names, and their laws; no program text runs here.
 #![tactic(auto)]
 
+mod laws;
 mod local;
 
+pub use laws::{
+    law_closures_named, law_control_named, law_free_names_named, law_local_named, law_numbers,
+    law_uses,
+};
 pub use local::{ControlForm, Local};

@@ -1,0 +1,4 @@
+pub mod SameLength
+pub mod Places
+pub mod Putting
+pub mod Back

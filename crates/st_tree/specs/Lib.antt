@@ -3,3 +3,4 @@ pub mod View
 pub mod PartCode
 pub mod ListFalls
 pub mod NodeFalls
+pub mod Replaced

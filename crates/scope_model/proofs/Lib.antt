@@ -1,0 +1,4 @@
+pub mod ListsOfNames
+pub mod Changed
+pub mod Tables
+pub mod UsesLemmas

@@ -1,0 +1,2 @@
+pub mod KernelText
+pub mod Selectors

@@ -1,0 +1,4 @@
+pub mod Locals
+pub mod Counts
+pub mod Weights
+pub mod Hits

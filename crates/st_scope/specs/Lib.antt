@@ -1,0 +1,2 @@
+pub mod LocalFrom
+pub mod Captures

@@ -1,0 +1,13 @@
+//! What names stand for in the program's trees: their declarations inside a method or a do-it, the free names of a part,
+//! control sends, and assignments in closures.
+#![tactic(auto)]
+
+mod closures;
+mod control;
+mod local;
+mod special;
+
+pub use closures::{assigned_in_closure, assigned_in_closure_doit};
+pub use control::is_control;
+pub use local::{local_at, local_at_doit};
+pub use scope_model::Local;
