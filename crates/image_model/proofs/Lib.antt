@@ -1,3 +1,5 @@
 pub mod Lists
 pub mod MapImage
 pub mod UpwardsLemmas
+pub mod Changed
+pub mod Tables

@@ -1,9 +1,7 @@
 -- Laws of the change of names in images.
-use Rattle.std.proofs.Common.{◌≡◌, List, [], ◌∷◌, map, Option, Some, None, option_map, refl, ap, ◌∙◌}
+use Rattle.std.proofs.Common.{◌≡◌, List, [], ◌∷◌, map, Option, Some, None, option_map, refl}
 use Rattle.std.proofs.lemmas.List.{map-id}
 use Rattle.std.proofs.lemmas.Simd.{map-map}
-use Rattle.std.specs.List.{AllByRecursion}
-use Rattle.tree_model.specs.AllNames.{MethodNames, SequenceNames}
 use Rattle.tree_model.proofs.MapNames.{map_sequence-id, map_method-id, map_sequence-map_sequence, map_method-map_method}
 use Rattle.tree_model.proofs.AllNamesLemmas.{map_sequence-same, map_method-same, SequenceNames-implies, MethodNames-implies, SequenceNames-map_sequence, MethodNames-map_method}
 use Rattle.image_model.specs.Image.{ClassOf, EntryOf, DoItOf, ImageOf, map_class, map_entry, map_doit, map_image}

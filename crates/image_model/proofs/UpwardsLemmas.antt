@@ -1,7 +1,7 @@
 -- Laws of what stands above a thing.
-use Rattle.std.proofs.Common.{◌≡◌, ℕ, zero, suc, ◌<◌, List, [], ◌∷◌, ◌++◌, map, Option, Some, None, option_map, slice_get, refl, sym, ap, ◌∙◌, arith, subst}
+use Rattle.std.proofs.Common.{◌≡◌, ℕ, zero, suc, ◌<◌, List, [], ◌∷◌, map, Option, Some, None, option_map, slice_get, refl, ap, ◌∙◌, arith}
 use Rattle.std.specs.List.{AllByRecursion}
-use Rattle.std.specs.Option.{option_map_or, option_and_then, option_or}
+use Rattle.std.specs.Option.{option_or}
 use Rattle.image_model.specs.ImageNames.{OptionNames}
 use Rattle.image_model.specs.Upwards.{upwards, first_given, nth_above}
 

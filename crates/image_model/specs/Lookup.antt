@@ -21,14 +21,14 @@ on_chain same i o meta s = first_given (λ c. own_method same i.methods c.name m
 
 -- what a class understands as an object: the instance side of the class `Class` and of those above it
 abbrev pub as_object : {N : Type 0} → WordsOf N → ImageOf N → N → Option (EntryOf N)
-as_object w i s = on_chain w.same i (find (λ c. w.is_class c.name) i.classes) false s
+as_object w i s = on_chain w.tests.same i (find (λ c. w.is_class c.name) i.classes) false s
 
 -- the method for a selector from a class: the first one on that side of its chain, and then, on the class side, what a class understands as an object
 abbrev pub lookup : {N : Type 0} → WordsOf N → ImageOf N → Option N → Bool → N → Option (EntryOf N)
 lookup w i c meta s =
-    option_or (on_chain w.same i (class_of_name w.same i.classes c) meta s) (if meta then as_object w i s else None)
+    option_or (on_chain w.tests.same i (class_of_name w.tests.same i.classes c) meta s) (if meta then as_object w i s else None)
 
 -- the method for a message to `super` in a method of a class: the look-up begins at the superclass, and above the class side of `Object` at `Class`
 abbrev pub super_lookup : {N : Type 0} → WordsOf N → ImageOf N → Option N → Bool → N → Option (EntryOf N)
 super_lookup w i c meta s =
-    lookup w i (option_and_then (λ (d : ClassOf _). d.superclass) (class_of_name w.same i.classes c)) meta s
+    lookup w i (option_and_then (λ (d : ClassOf _). d.superclass) (class_of_name w.tests.same i.classes c)) meta s

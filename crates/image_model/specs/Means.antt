@@ -31,6 +31,16 @@ pub data MeaningOf (N : Type 0) : Type 0 where
   transcript : MeaningOf N
   undeclared : MeaningOf N
 
+-- the same meaning with each name changed
+abbrev pub map_meaning : {M N : Type 0} → (M → N) → MeaningOf M → MeaningOf N
+map_meaning f pseudo = pseudo
+map_meaning f (argument scope) = argument scope
+map_meaning f (temporary scope) = temporary scope
+map_meaning f (variable kind c) = variable kind (f c)
+map_meaning f (a_class c) = a_class (f c)
+map_meaning f transcript = transcript
+map_meaning f undeclared = undeclared
+
 -- the class of a chain that defines a variable of a kind
 abbrev pub definer : {N : Type 0} → (N → N → Bool) → VariableKind → List (ClassOf N) → N → Option (ClassOf N)
 definer same kind classes n = find (λ c. list_any (same n) (variables kind c)) classes
@@ -47,15 +57,15 @@ side_kind meta = if meta then of_class_side else of_instance
 abbrev pub means_along : {N : Type 0} → WordsOf N → List (ClassOf N) → List (ClassOf N) → Bool → N → MeaningOf N
 means_along w classes above meta n =
     unwrap_or
-    (option_or (as_variable w.same (side_kind meta) above n)
-    (option_or (as_variable w.same of_class above n)
-    (option_or (option_map (λ (c : ClassOf _). a_class c.name) (class_named w.same classes n))
+    (option_or (as_variable w.tests.same (side_kind meta) above n)
+    (option_or (as_variable w.tests.same of_class above n)
+    (option_or (option_map (λ (c : ClassOf _). a_class c.name) (class_named w.tests.same classes n))
     (if w.is_transcript n then Some transcript else None))))
     undeclared
 
 -- the same in a class and on a side of it
 abbrev pub means_outside : {N : Type 0} → WordsOf N → ImageOf N → Option N → Bool → N → MeaningOf N
-means_outside w i c meta n = means_along w i.classes (chain w.same i.classes c) meta n
+means_outside w i c meta n = means_along w i.classes (chain w.tests.same i.classes c) meta n
 
 -- what a name stands for that the scopes know, or do not know
 abbrev pub means_by : {N : Type 0} → Local → MeaningOf N → MeaningOf N
@@ -66,12 +76,12 @@ means_by NotLocal outside = outside
 -- what a name stands for in a method, at the place to which a path leads
 abbrev pub means : {N : Type 0} → WordsOf N → ImageOf N → EntryOf N → List ℕ → N → MeaningOf N
 means w i m path n =
-    if w.is_pseudo n then pseudo
-    else means_by (local_in w.same w.is_pseudo m.tree path n) (means_outside w i m.class m.meta n)
+    if w.tests.is_pseudo n then pseudo
+    else means_by (local_in w.tests.same w.tests.is_pseudo m.tree path n) (means_outside w i m.class m.meta n)
 
 -- the same in a do-it, which is read like a method of the instance side of `UndefinedObject`
 abbrev pub means_in_doit : {N : Type 0} → WordsOf N → ImageOf N → DoItOf N → List ℕ → N → MeaningOf N
 means_in_doit w i d path n =
-    if w.is_pseudo n then pseudo
-    else means_by (local_in_doit w.same w.is_pseudo d.body path n)
+    if w.tests.is_pseudo n then pseudo
+    else means_by (local_in_doit w.tests.same w.tests.is_pseudo d.body path n)
     (means_outside w i (option_map (λ (c : ClassOf _). c.name) (find (λ c. w.is_undefined_object c.name) i.classes)) false n)

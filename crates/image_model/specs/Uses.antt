@@ -83,20 +83,20 @@ places es = map (λ (e : NodeOf _). e.use_of) es
 
 -- the nodes that send a selector; a cascade is one of them, however often it sends it
 abbrev pub senders : {N : Type 0} → WordsOf N → ImageOf N → N → List Use
-senders w i s = places (filter (λ (e : NodeOf _). is_sender w.same s e.tree) (image_nodes i))
+senders w i s = places (filter (λ (e : NodeOf _). is_sender w.tests.same s e.tree) (image_nodes i))
 
 -- the numbers of the methods of a selector
 abbrev pub implementors : {N : Type 0} → WordsOf N → ImageOf N → N → List ℕ
-implementors w i s = map (λ e. e.0) (filter (λ e. w.same s e.1.tree.selector) (enumerate_from 0 i.methods))
+implementors w i s = map (λ e. e.0) (filter (λ e. w.tests.same s e.1.tree.selector) (enumerate_from 0 i.methods))
 
 -- the nodes that mean the variable of a kind and a name that a class defines; an assignment is a use of what it assigns
 abbrev pub variable_uses : {N : Type 0} → WordsOf N → ImageOf N → N → N → VariableKind → List Use
 variable_uses w i c n kind =
-    places (filter (uses w i (λ m meaning. w.same n m && is_variable w.same kind c meaning)) (image_nodes i))
+    places (filter (uses w i (λ m meaning. w.tests.same n m && is_variable w.tests.same kind c meaning)) (image_nodes i))
 
 -- the nodes that mean a class
 abbrev pub class_uses : {N : Type 0} → WordsOf N → ImageOf N → N → List Use
-class_uses w i c = places (filter (uses w i (λ m meaning. is_that_class w.same c meaning)) (image_nodes i))
+class_uses w i c = places (filter (uses w i (λ m meaning. is_that_class w.tests.same c meaning)) (image_nodes i))
 
 -- whether a node names or declares a name
 abbrev pub is_identifier_use : {N : Type 0} → (N → N → Bool) → N → TreeOf N → Bool
@@ -111,5 +111,5 @@ identifier_uses_in same n place declared b =
 -- each node that names a name, and each place that declares it
 abbrev pub identifier_uses : {N : Type 0} → WordsOf N → ImageOf N → N → List Use
 identifier_uses w i n =
-    flat_map (λ e. identifier_uses_in w.same n (in_method e.0) (e.1.tree.arguments ++ e.1.tree.body.temporaries) e.1.tree.body) (enumerate_from 0 i.methods)
-    ++ flat_map (λ e. identifier_uses_in w.same n (in_doit e.0) e.1.body.temporaries e.1.body) (enumerate_from 0 i.doits)
+    flat_map (λ e. identifier_uses_in w.tests.same n (in_method e.0) (e.1.tree.arguments ++ e.1.tree.body.temporaries) e.1.tree.body) (enumerate_from 0 i.methods)
+    ++ flat_map (λ e. identifier_uses_in w.tests.same n (in_doit e.0) e.1.body.temporaries e.1.body) (enumerate_from 0 i.doits)

@@ -76,8 +76,8 @@ pub record IsValid {N : Type 0} (w : WordsOf N) (r : ReadingOf N) (i : ImageOf N
   pub superclasses_before : SuperclassesStandBefore i.classes
   pub only_object_is_root : OnlyObjectIsRoot w i.classes
   pub names_may_be_given : AllByRecursion (GivesNames r.IsName) i.classes
-  pub instance_variables_once : AllByRecursion (DefinesOnceOnChain w.same i.classes of_instance) i.classes
-  pub class_side_variables_once : AllByRecursion (DefinesOnceOnChain w.same i.classes of_class_side) i.classes
+  pub instance_variables_once : AllByRecursion (DefinesOnceOnChain w.tests.same i.classes of_instance) i.classes
+  pub class_side_variables_once : AllByRecursion (DefinesOnceOnChain w.tests.same i.classes of_class_side) i.classes
   pub class_variables_once : AllByRecursion (λ c. HasNoRepeat (variables of_class c)) i.classes
   pub methods_once : HasNoRepeat (map signature i.methods)
   pub method_classes_there : AllByRecursion (HasClass i.classes) i.methods
