@@ -1,3 +1,5 @@
 pub mod OrderLemmas
 pub mod TableLemmas
 pub mod Walks
+pub mod Live
+pub mod Found

@@ -7,3 +7,4 @@ pub mod Tables
 pub mod Info
 pub mod Changing
 pub mod Lending
+pub mod Valid
