@@ -46,6 +46,14 @@ entry_of classes m = record {
   kernel = m.kernel;
 }
 
+-- the class in a slot, live or not, as the image has it
+abbrev pub class_at : Slots → ℕ → Option (ClassOf ℕ)
+class_at s k = option_map (class_of s.classes) (slice_get s.classes k)
+
+-- the method in a slot, live or not, as the image has it
+abbrev pub entry_at : Slots → ℕ → Option (EntryOf ℕ)
+entry_at s k = option_map (entry_of s.classes) (slice_get s.methods k)
+
 -- the do-it that a record stands for
 abbrev pub doit_of : DoIt → DoItOf ℕ
 doit_of d = record { source = d.source; body = sequence_of d.body }

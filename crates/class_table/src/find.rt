@@ -4,7 +4,7 @@ ghost use Rattle.class_table.specs.Finding.{named_in, method_in, only_live, abov
 
 use crate::image::Image;
 use crate::record::{ClassId, ClassIds, MethodSlot};
-use crate::tables::{class_table, find_class, find_method, method_table, MethodKey};
+use crate::tables::{MethodKey, class_table, find_class, find_method, method_table};
 use rb_base::{Memory, NameId};
 
 impl Image {

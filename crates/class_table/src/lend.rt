@@ -23,7 +23,11 @@ impl Image {
     }
 
     /// The body of the do-it of a number, from 0, to be written, if there are so many. Counts one step.
-    pub fn open_doit_mut<L: Ledger>(&mut self, number: usize, steps: &mut Steps<L>) -> Option<&mut Sequence>
+    pub fn open_doit_mut<L: Ledger>(
+        &mut self,
+        number: usize,
+        steps: &mut Steps<L>,
+    ) -> Option<&mut Sequence>
         ensures* writes_back { sem 𝓛 (LendsBodyIf self.entry number result) }
         ensures body { option_copied_mut result ≡ option_map (λ (d : DoIt). d.body) (slice_get self.old.doits number) }
         ensures step { steps.new ≡ steps.old + 1 }
@@ -34,7 +38,11 @@ impl Image {
     }
 
     /// The tree of the method in a slot, to be written, if the slot is live. Counts one step.
-    pub fn open_body_mut<L: Ledger>(&mut self, slot: MethodSlot, steps: &mut Steps<L>) -> Option<&mut Method>
+    pub fn open_body_mut<L: Ledger>(
+        &mut self,
+        slot: MethodSlot,
+        steps: &mut Steps<L>,
+    ) -> Option<&mut Method>
         ensures* writes_back { sem 𝓛 (LendsTreeIf self.entry slot result) }
         ensures tree { option_copied_mut result ≡ option_map (λ (m : MethodRec). m.tree) (live_at self.old.methods self.old.method_order slot) }
         ensures step { steps.new ≡ steps.old + 1 }

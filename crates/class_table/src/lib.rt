@@ -5,6 +5,7 @@ mod add;
 mod class_order;
 mod find;
 mod image;
+mod laws;
 mod lend;
 mod method_order;
 mod open;
@@ -15,5 +16,8 @@ mod tables;
 
 pub use class_order::ClassOrder;
 pub use image::Image;
+pub use laws::{law_chain, law_class_named, law_lookup, law_names_added};
 pub use method_order::MethodOrder;
-pub use record::{ClassId, ClassIds, ClassRec, DoIt, MethodInfo, MethodRec, MethodSlot, Place, Slot};
+pub use record::{
+    ClassId, ClassIds, ClassRec, DoIt, MethodInfo, MethodRec, MethodSlot, Place, Slot,
+};
