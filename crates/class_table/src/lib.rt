@@ -13,6 +13,8 @@ mod record;
 mod room;
 mod swap;
 mod tables;
+#[cfg(test)]
+mod tests;
 
 pub use class_order::ClassOrder;
 pub use image::Image;

@@ -3,3 +3,4 @@ pub mod MapImage
 pub mod UpwardsLemmas
 pub mod Changed
 pub mod Tables
+pub mod ChainLemmas
