@@ -13,7 +13,12 @@ fn sequence(alloc: Global) -> Sequence {
     }
 }
 
-fn add_class(alloc: Global, image: &mut Image, name: &str, superclass: Option<ClassId>) -> Result<ClassId, Memory> {
+fn add_class(
+    alloc: Global,
+    image: &mut Image,
+    name: &str,
+    superclass: Option<ClassId>,
+) -> Result<ClassId, Memory> {
     let rec = ClassRec {
         name: image.names_mut().intern(name.as_bytes())?,
         superclass,
@@ -30,7 +35,13 @@ fn add_class(alloc: Global, image: &mut Image, name: &str, superclass: Option<Cl
     }
 }
 
-fn add_method(alloc: Global, image: &mut Image, class: ClassId, meta: bool, selector: &str) -> Result<MethodSlot, Memory> {
+fn add_method(
+    alloc: Global,
+    image: &mut Image,
+    class: ClassId,
+    meta: bool,
+    selector: &str,
+) -> Result<MethodSlot, Memory> {
     let rec = MethodRec {
         class,
         meta,
@@ -96,7 +107,10 @@ fn a_message_finds_the_first_method_of_the_chain(rt: HostRuntime) -> Result<(), 
             (3, false, "nothing", None),
             (9, false, "isNil", None),
         ] {
-            assert!(rt; found(&image, class, meta, selector) == wanted, "{class} {selector}");
+            assert!(rt;
+                found(&image, class, meta, selector) == wanted,
+                "{class} {selector}"
+            );
         }
     }
     Ok(())

@@ -1,11 +1,10 @@
 -- Chains in lists of classes in which each superclass stands before its subclasses.
-use Rattle.std.proofs.Common.{◌≡◌, ℕ, zero, suc, ◌<◌, ◌≤◌, Bool, true, false, cond, List, [], ◌∷◌, length, map, find, Option, Some, None, option_map, slice_get, refl, sym, ap, ◌∙◌, arith, true≢false}
-use Rattle.std.specs.Option.{option_and_then}
+use Rattle.std.proofs.Common.{◌≡◌, ℕ, zero, suc, ◌<◌, ◌≤◌, Bool, true, false, cond, List, [], ◌∷◌, length, map, find, Option, Some, None, slice_get, refl, sym, ap, ◌∙◌, arith}
 use Rattle.std.proofs.lemmas.Option.{slice_get_within}
 use Rattle.image_model.specs.Image.{ClassOf}
 use Rattle.image_model.specs.Upwards.{upwards}
-use Rattle.image_model.specs.Chain.{class_named, class_of_name, superclass_of, chain_from}
-use Rattle.image_model.specs.Valid.{class_names, IsNamedBefore, SuperclassesStandBefore}
+use Rattle.image_model.specs.Chain.{class_of_name, superclass_of, chain_from}
+use Rattle.image_model.specs.Valid.{SuperclassesStandBefore}
 
 -- what is found stands no later than any item that passes
 find-early : {X : Type 0} (p : X → Bool) (xs : List X) (i : ℕ) (x y : X) → slice_get xs i ≡ Some x → p x ≡ true → find p xs ≡ Some y → (j : ℕ) × (j ≤ i) × (slice_get xs j ≡ Some y)

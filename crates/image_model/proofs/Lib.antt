@@ -4,3 +4,4 @@ pub mod UpwardsLemmas
 pub mod Changed
 pub mod Tables
 pub mod ChainLemmas
+pub mod Kept

@@ -8,3 +8,4 @@ pub mod Means
 pub mod Nodes
 pub mod Uses
 pub mod Valid
+pub mod Replaced

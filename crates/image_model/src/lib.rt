@@ -5,5 +5,6 @@
 mod laws;
 
 pub use laws::{
-    law_lookup_named, law_meaning_named, law_names_changed, law_nth_above, law_number_words,
+    law_chain_step, law_lookup_named, law_meaning_named, law_names_changed, law_nth_above,
+    law_number_words, law_other_selector, law_replaced, law_replaced_valid,
 };
