@@ -3,3 +3,4 @@ pub mod TableLemmas
 pub mod Walks
 pub mod Live
 pub mod Found
+pub mod TreeOf

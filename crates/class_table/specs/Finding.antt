@@ -1,5 +1,5 @@
 -- Classes and methods found among slots.
-use Rattle.std.specs.Prelude.{ℕ, List, length, Bool, false, nat_eq, find, codes, slice_get, ◌&&◌, if◌then◌else◌, Option, None, Some}
+use Rattle.std.specs.Prelude.{ℕ, List, length, filter, Bool, false, nat_eq, find, codes, slice_get, ◌&&◌, if◌then◌else◌, Option, None, Some}
 use Rattle.std.specs.Bool.{beq}
 use Rattle.std.specs.List.{list_any}
 use Rattle.std.specs.Option.{option_map, option_and_then, option_map_or, option_or}
@@ -38,6 +38,14 @@ on_chain_at classes order id n = nth_above (above classes order) n (only_live or
 -- whether a class is on the chain of another: it is that one, or above it
 abbrev pub is_on_chain : List ClassRec → List ℕ → ℕ → ℕ → Bool
 is_on_chain classes order id other = list_any (nat_eq id) (chain_of classes order other)
+
+-- the superclass of the class in a slot, live or not
+abbrev pub superclass_in : List ClassRec → ℕ → Option ℕ
+superclass_in classes id = option_and_then (λ (c : ClassRec). c.superclass) (slice_get classes id)
+
+-- the classes of an order that are a class or below it
+abbrev pub tree_in : List ClassRec → List ℕ → ℕ → List ℕ
+tree_in classes order id = filter (is_on_chain classes order id) order
 
 -- whether two keys of methods are one
 abbrev pub same_key : MethodKey → MethodKey → Bool

@@ -13,6 +13,11 @@ use Rattle.class_table.specs.View.{class_name, number_image}
 abbrev pub IsLive : List ℕ → ℕ → Type 0
 IsLive order k = list_any (nat_eq k) order ≡ true
 
+-- the superclass of each live class that has one is live, and stands before it in the order of the live ones
+abbrev pub SuperclassesFirst : List ClassRec → List ℕ → Type 0
+SuperclassesFirst classes order =
+    (p k j : ℕ) (c : ClassRec) → slice_get order p ≡ Some k → slice_get classes k ≡ Some c → c.superclass ≡ Some j → (q : ℕ) × (q < p) × (slice_get order q ≡ Some j)
+
 -- no text has two numbers, each name in the image has a text, each live slot is there, two live classes have two names, and the superclass of a live class and the class of a live method are live
 pub record IsOrderly (s : Slots) : Type 0 where
   pub names_distinct : HasNoTwice s.names

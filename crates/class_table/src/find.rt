@@ -1,10 +1,12 @@
 // Classes and methods found in an image.
-ghost use Rattle.std.specs.Prelude.{◌≡◌, ◌++◌, filter, length, OnOk, OnErr};
-ghost use Rattle.class_table.specs.Finding.{named_in, method_in, only_live, above, on_chain_at, found_on_chain, class_class, found_by_lookup, is_on_chain};
+ghost use Rattle.std.specs.Prelude.{◌≡◌, ◌++◌, OnOk, OnErr};
+ghost use Rattle.class_table.specs.Valid.{SuperclassesFirst};
+ghost use Rattle.class_table.specs.Finding.{named_in, method_in, only_live, above, on_chain_at, found_on_chain, class_class, found_by_lookup, tree_in};
 
 use crate::image::Image;
 use crate::record::{ClassId, ClassIds, MethodSlot};
 use crate::tables::{MethodKey, class_table, find_class, find_method, method_table};
+use crate::tree::classes_below;
 use rb_base::{Memory, NameId};
 
 impl Image {
@@ -76,15 +78,12 @@ impl Image {
 
     /// Appends the class and all below it, in the order of the live classes.
     pub fn tree_of(&self, class: ClassId, out: &mut ClassIds) -> Result<(), Memory>
-        ensures ok { OnOk result (out.new ≡ out.old ++ filter (is_on_chain self.now.classes self.now.class_order class) self.now.class_order) }
+        requires { SuperclassesFirst self.now.classes self.now.class_order }
+        ensures ok { OnOk result (out.new ≡ out.old ++ tree_in self.now.classes self.now.class_order class) }
         ensures err { OnErr result (out.new ≡ out.old) }
     {
-        let mut found = ClassIds::new(self.alloc);
-        for id in self.class_order.items() {
-            if self.is_on_chain(class, *id) {
-                found.push(*id)?;
-            }
-        }
+        let order = self.class_order.items();
+        let found = classes_below(self.alloc, &self.classes, order, class)?;
         out.push_slice(found.as_slice())
     }
 
@@ -130,26 +129,5 @@ impl Image {
             left -= 1;
         }
         None
-    }
-
-    /// Whether a class is another one or above it.
-    fn is_on_chain(&self, class: ClassId, other: ClassId) -> bool
-        ensures { result ≡ is_on_chain self.now.classes self.now.class_order class other }
-    {
-        let mut at = self.only_live(other);
-        let mut left = self.class_order.items().len();
-        while left > 0 {
-            match at {
-                None => return false,
-                Some(next) => {
-                    if class == next {
-                        return true;
-                    }
-                    at = self.above(next);
-                }
-            }
-            left -= 1;
-        }
-        false
     }
 }

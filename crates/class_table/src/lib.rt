@@ -15,6 +15,7 @@ mod swap;
 mod tables;
 #[cfg(test)]
 mod tests;
+mod tree;
 
 pub use class_order::ClassOrder;
 pub use image::Image;

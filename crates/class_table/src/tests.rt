@@ -1,6 +1,6 @@
 // What no clause says: that the calls succeed where there is memory, and what they find in a small image.
 use super::*;
-use rb_base::{Ids, Memory, Text};
+use rb_base::{Ids, Memory, NameId, Text};
 use st_tree::{Comments, Method, Sequence, Statements};
 use std::alloc::Global;
 use std::test::Fail;
@@ -135,15 +135,23 @@ fn slots_that_are_not_live_are_not_there(rt: HostRuntime) -> Result<(), Fail> {
 }
 
 #[test]
-fn classes_below_a_class_come_in_order(rt: HostRuntime) -> Result<(), Fail> {
-    let image = small_image(rt.alloc())?;
+fn a_class_is_in_its_own_tree(rt: HostRuntime) -> Result<(), Fail> {
+    let mut image = Image::new(rt.alloc());
+    let object = ClassRec {
+        name: NameId(0),
+        superclass: None,
+        instance: Ids::new(rt.alloc()),
+        shared: Ids::new(rt.alloc()),
+        class_side: Ids::new(rt.alloc()),
+        category: Text::new(rt.alloc()),
+        comment: Text::new(rt.alloc()),
+        kernel: true,
+    };
     let mut below = ClassIds::new(rt.alloc());
-    image.tree_of(ClassId(2), &mut below)?;
-    assert!(rt; below.as_slice() == [ClassId(2), ClassId(3)].as_slice());
-    image.tree_of(ClassId(0), &mut below)?;
-    assert_eq!(rt; below.len(), 6);
-    assert!(rt; image.chain_at(ClassId(3), 2) == Some(ClassId(0)));
-    assert!(rt; image.chain_at(ClassId(3), 3) == None);
+    if let Ok(class) = image.add_class(object) {
+        image.tree_of(class, &mut below)?;
+    }
+    assert!(rt; below.as_slice() == [ClassId(0)].as_slice());
     Ok(())
 }
 

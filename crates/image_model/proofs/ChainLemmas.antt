@@ -2,9 +2,9 @@
 use Rattle.std.proofs.Common.{◌≡◌, ℕ, zero, suc, ◌<◌, ◌≤◌, Bool, true, false, cond, List, [], ◌∷◌, length, map, find, Option, Some, None, slice_get, refl, sym, ap, ◌∙◌, arith}
 use Rattle.std.proofs.lemmas.Option.{slice_get_within}
 use Rattle.image_model.specs.Image.{ClassOf}
-use Rattle.image_model.specs.Upwards.{upwards}
 use Rattle.image_model.specs.Chain.{class_of_name, superclass_of, chain_from}
 use Rattle.image_model.specs.Valid.{SuperclassesStandBefore}
+use Rattle.image_model.proofs.UpwardsLemmas.{upwards-whole}
 
 -- what is found stands no later than any item that passes
 find-early : {X : Type 0} (p : X → Bool) (xs : List X) (i : ℕ) (x y : X) → slice_get xs i ≡ Some x → p x ≡ true → find p xs ≡ Some y → (j : ℕ) × (j ≤ i) × (slice_get xs j ≡ Some y)
@@ -38,42 +38,7 @@ module _ {N : Type 0} (same : N → N → Bool) (reflexive : (n : N) → same n 
           let found = find-early (λ x. same n x.name) classes named.0 other.0 d other.1 (ap (same n) other.2 ∙ reflexive n) r in
           (found.0, (let first : found.0 ≤ named.0 = found.1 in let less : named.0 < j = named.1 in omega arith), found.2)
 
-  -- a chain has no more classes than stand up to its lowest one
-  upwards-enough : (bound j k l : ℕ) (c : ClassOf N) → j < bound → bound ≤ k → bound ≤ l → slice_get classes j ≡ Some c
-      → upwards (superclass_of same classes) k (Some c) ≡ upwards (superclass_of same classes) l (Some c)
-  upwards-enough zero j k l c h hk hl at = absurd (omega arith)
-  upwards-enough (suc bound) j zero l c h hk hl at = absurd (omega arith)
-  upwards-enough (suc bound) j (suc k) zero c h hk hl at = absurd (omega arith)
-  upwards-enough (suc bound) j (suc k) (suc l) c h hk hl at =
-      ap (λ (ds : List (ClassOf N)). c ∷ ds) (by (superclass_of same classes c) refl (λ i d less there. upwards-enough bound i k l d less (omega arith) (omega arith) there))
-    where
-      none : (m : ℕ) → upwards (superclass_of same classes) m None ≡ []
-      none zero = refl
-      none (suc m) = refl
-
-      by : (o : Option (ClassOf N)) → superclass_of same classes c ≡ o
-          → ((i : ℕ) (d : ClassOf N) → i < bound → slice_get classes i ≡ Some d → upwards (superclass_of same classes) k (Some d) ≡ upwards (superclass_of same classes) l (Some d))
-          → upwards (superclass_of same classes) k o ≡ upwards (superclass_of same classes) l o
-      by None e rest = none k ∙ sym (none l)
-      by (Some d) e rest =
-          let there = superclass_before j c d at e in
-          rest there.0 d (let less : there.0 < j = there.1 in omega arith) there.2
-
   -- the chain of a class is the class and then the chain of its superclass
   pub chain_from-step : (j : ℕ) (c : ClassOf N) → slice_get classes j ≡ Some c → chain_from same classes (Some c) ≡ c ∷ chain_from same classes (superclass_of same classes c)
-  chain_from-step j c at = by (length classes) refl (slice_get_within classes j c at)
-    where
-      none : (m : ℕ) → upwards (superclass_of same classes) m None ≡ []
-      none zero = refl
-      none (suc m) = refl
-
-      above : (k : ℕ) → length classes ≡ suc k → (o : Option (ClassOf N)) → superclass_of same classes c ≡ o → upwards (superclass_of same classes) k o ≡ upwards (superclass_of same classes) (suc k) o
-      above k len None e = none k
-      above k len (Some d) e =
-          let there = superclass_before j c d at e in
-          let within : j < length classes = slice_get_within classes j c at in
-          upwards-enough k there.0 k (suc k) d (let less : there.0 < j = there.1 in omega arith) (omega arith) (omega arith) there.2
-
-      by : (n : ℕ) → length classes ≡ n → j < length classes → upwards (superclass_of same classes) n (Some c) ≡ c ∷ upwards (superclass_of same classes) n (superclass_of same classes c)
-      by zero len h = absurd (omega arith)
-      by (suc k) len h = ap (λ (ds : List (ClassOf N)). c ∷ ds) (above k len (superclass_of same classes c) refl)
+  chain_from-step j c at =
+      upwards-whole (superclass_of same classes) (λ k d. slice_get classes k ≡ Some d) superclass_before (length classes) j c (slice_get_within classes j c at) at

@@ -1,5 +1,5 @@
 -- Laws of what stands above a thing.
-use Rattle.std.proofs.Common.{◌≡◌, ℕ, zero, suc, ◌<◌, List, [], ◌∷◌, map, Option, Some, None, option_map, slice_get, refl, ap, ◌∙◌, arith}
+use Rattle.std.proofs.Common.{◌≡◌, ℕ, zero, suc, ◌<◌, ◌≤◌, List, [], ◌∷◌, map, Option, Some, None, option_map, slice_get, refl, sym, ap, ◌∙◌, arith}
 use Rattle.std.specs.List.{AllByRecursion}
 use Rattle.std.specs.Option.{option_or}
 use Rattle.image_model.specs.ImageNames.{OptionNames}
@@ -41,3 +41,35 @@ first_given-map f h give give_there (x ∷ xs) a = (λ i. option_or (a.0 i) (fir
 pub first_given-same : {X A : Type 0} (give again : X → Option A) (xs : List X) → AllByRecursion (λ x. give x ≡ again x) xs → first_given give xs ≡ first_given again xs
 first_given-same give again [] a = refl
 first_given-same give again (x ∷ xs) a = λ i. option_or (a.0 i) (first_given-same give again xs a.1 i)
+
+-- nothing is above nothing
+pub upwards-none : {X : Type 0} (up : X → Option X) (n : ℕ) → upwards up n None ≡ []
+upwards-none up zero = refl
+upwards-none up (suc n) = refl
+
+-- things with places, each below the places of what is under it
+module _ {X : Type 0} (up : X → Option X) (At : ℕ → X → Type 0) (higher : (j : ℕ) (x y : X) → At j x → up x ≡ Some y → (i : ℕ) × (i < j) × At i y) where
+  -- no more things are above one than its place says
+  pub upwards-enough : (bound j k l : ℕ) (x : X) → j < bound → bound ≤ k → bound ≤ l → At j x → upwards up k (Some x) ≡ upwards up l (Some x)
+  upwards-enough zero j k l x h hk hl at = absurd (omega arith)
+  upwards-enough (suc bound) j zero l x h hk hl at = absurd (omega arith)
+  upwards-enough (suc bound) j (suc k) zero x h hk hl at = absurd (omega arith)
+  upwards-enough (suc bound) j (suc k) (suc l) x h hk hl at =
+      ap (λ (ys : List X). x ∷ ys) (by (up x) refl (λ i y less there. upwards-enough bound i k l y less (omega arith) (omega arith) there))
+    where
+      by : (o : Option X) → up x ≡ o → ((i : ℕ) (y : X) → i < bound → At i y → upwards up k (Some y) ≡ upwards up l (Some y)) → upwards up k o ≡ upwards up l o
+      by None e rest = upwards-none up k ∙ sym (upwards-none up l)
+      by (Some y) e rest =
+          let there = higher j x y at e in
+          rest there.0 y (let less : there.0 < j = there.1 in omega arith) there.2
+
+  -- what is above a thing is it and then what is above the one above it
+  pub upwards-whole : (n j : ℕ) (x : X) → j < n → At j x → upwards up n (Some x) ≡ x ∷ upwards up n (up x)
+  upwards-whole zero j x h at = absurd (omega arith)
+  upwards-whole (suc k) j x h at = ap (λ (ys : List X). x ∷ ys) (by (up x) refl)
+    where
+      by : (o : Option X) → up x ≡ o → upwards up k o ≡ upwards up (suc k) o
+      by None e = upwards-none up k
+      by (Some y) e =
+          let there = higher j x y at e in
+          upwards-enough k there.0 k (suc k) y (let less : there.0 < j = there.1 in omega arith) (omega arith) (omega arith) there.2
