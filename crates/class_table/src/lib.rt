@@ -13,8 +13,6 @@ mod record;
 mod room;
 mod swap;
 mod tables;
-#[cfg(test)]
-mod tests;
 mod tree;
 
 pub use class_order::ClassOrder;
