@@ -51,6 +51,7 @@ find-none : (p : ℕ → Bool) (order : List ℕ) → ((k : ℕ) → IsLive orde
 find-none p [] h = refl
 find-none p (k ∷ ks) h = (λ i. cond (h k (IsLive-first k ks) i) (Some k) (find p ks)) ∙ find-none p ks (λ j l. h j (IsLive-rest j k ks l))
 
+-- tests in a row
 and-assoc : (a b c : Bool) → ((a && b) && c) ≡ (a && (b && c))
 and-assoc true b c = refl
 and-assoc false b c = refl
@@ -77,6 +78,7 @@ module _ (s : Slots) (orderly : IsOrderly s) where
   abbrev image : ImageOf ℕ
   image = number_image s
 
+  -- a live slot holds a class
   class_there : (k : ℕ) → IsLive s.class_order k → (c : ClassRec) × (slice_get s.classes k ≡ Some c)
   class_there k l = there s.classes k (orderly.class_order.below k l)
 
@@ -190,6 +192,7 @@ module _ (s : Slots) (orderly : IsOrderly s) where
         ∙ found-upwards (length s.class_order) (Some k) l
         ∙ ap (λ b. option_and_then (entry_at s) (first_given own (upwards (above s.classes s.class_order) (length s.class_order) (cond b (Some k) None)))) (sym l)
 
+    -- the slot of a method that is found on a chain holds one
     found_on_chain-there : (k y : ℕ) → found_on_chain s k meta selector ≡ Some y → is_some (entry_at s y) ≡ true
     found_on_chain-there k y e = first_given-fact (λ z. is_some (entry_at s z) ≡ true) own own-there (chain_of s.classes s.class_order k) y e
 
@@ -217,6 +220,7 @@ module _ (s : Slots) (orderly : IsOrderly s) where
       by None e = find-none _ s.class_order (λ k l. none (slice_get s.classes k))
       by (Some i) e = find-agree _ (is_named s.classes i) s.class_order (λ k l. some i (slice_get s.classes k))
 
+  -- the class `Class` is live
   class_class_live : (k : ℕ) → class_class s ≡ Some k → IsLive s.class_order k
   class_class_live k e = by (number_in s.names (codes "Class")) e
     where

@@ -39,11 +39,13 @@ among-first (x ∷ xs) (suc q) (suc i) k h e = by (eqb k x) (among-first xs q i 
     by true r = refl
     by false r = r
 
+-- what stands among equal items
 slice_get-replicate : {X : Type 0} (n : ℕ) (x : X) (k : ℕ) → k < n → slice_get (replicate n x) k ≡ Some x
 slice_get-replicate zero x k h = absurd (omega arith)
 slice_get-replicate (suc n) x zero h = refl
 slice_get-replicate (suc n) x (suc k) h = slice_get-replicate n x k (omega arith)
 
+-- how many equal items there are
 length-replicate : {X : Type 0} (n : ℕ) (x : X) → length (replicate n x) ≡ n
 length-replicate zero x = refl
 length-replicate (suc n) x = omega (arith, length-replicate n x)
@@ -92,6 +94,7 @@ module _ (classes : List ClassRec) (order : List ℕ) (class : ℕ) (first : Sup
       ∙ ap (list_any (nat_eq class)) (upwards-whole up (λ q x. slice_get order q ≡ Some x) above-before (length order) p k (slice_get_within order p k at) at)
 
   module _ (i k : ℕ) (flags : List Bool) (found : List ℕ) (h : i < length order) (is : k ≡ get_or order i k) (so_far : SoFar classes order class i flags found) where
+    -- what stands at the place of the walk
     at : slice_get order i ≡ Some k
     at = slice_get-get_or order i k h ∙ ap Some (sym is)
 
@@ -119,20 +122,25 @@ module _ (classes : List ClassRec) (order : List ℕ) (class : ℕ) (first : Sup
     pub within : k < length classes
     within = is_order.below k (live-at order i k at)
 
+    -- what stands among one more of the first
     one_more : (j : ℕ) → list_any (nat_eq j) (take (i + 1) order) ≡ (list_any (nat_eq j) (take i order) || nat_eq j k)
     one_more j = list_any_more (nat_eq j) order i k h ∙ ap (λ (m : ℕ). list_any (nat_eq j) (take i order) || nat_eq j m) (sym is)
 
+    -- the classes found among one more of the first
     next : filter on (take (i + 1) order) ≡ found ++ cond (on k) (k ∷ []) []
     next = filter_more on order i k h ∙ ap (λ (m : ℕ). filter on (take i order) ++ cond (on m) (m ∷ []) []) (sym is) ∙ ap (λ (xs : List ℕ). xs ++ cond (on k) (k ∷ []) []) (sym so_far.tree)
 
+    -- one test passes
     or-true : (b : Bool) → (b || true) ≡ true
     or-true true = refl
     or-true false = refl
 
+    -- one test fails
     or-false : (b : Bool) → (b || false) ≡ b
     or-false true = refl
     or-false false = refl
 
+    -- nothing is appended
     append-nil : (xs : List ℕ) → xs ++ [] ≡ xs
     append-nil [] = refl
     append-nil (x ∷ xs) = ap (λ (ys : List ℕ). x ∷ ys) (append-nil xs)

@@ -1,17 +1,7 @@
 -- One step of a walk up a chain.
-use Rattle.std.proofs.Common.{◌≡◌, ℕ, zero, suc, ◌-◌, ◌<◌, Bool, false, ◌||◌, is_some, true≢false, [], ◌∷◌, Option, Some, None, refl, sym, ap, ◌∙◌, arith}
-use Rattle.std.specs.List.{list_any}
+use Rattle.std.proofs.Common.{◌≡◌, ℕ, suc, ◌-◌, ◌<◌, false, is_some, true≢false, ◌∷◌, Option, Some, None, refl, sym, ap, ◌∙◌, arith}
 use Rattle.std.specs.Option.{option_or}
 use Rattle.image_model.specs.Upwards.{upwards, first_given, nth_above}
-
--- nothing is above nothing
-pub nth_above-none : {X : Type 0} (up : X → Option X) (n : ℕ) → nth_above up n None ≡ None
-nth_above-none up zero = refl
-nth_above-none up (suc n) = refl
-
-pub upwards-none : {X : Type 0} (up : X → Option X) (n : ℕ) → upwards up n None ≡ []
-upwards-none up zero = refl
-upwards-none up (suc n) = refl
 
 -- a number above 0 is one more than another
 below-suc : (n : ℕ) → 0 < n → suc (n - 1) ≡ n
@@ -24,17 +14,9 @@ nth_above-step up n x h = ap (λ (m : ℕ). nth_above up m (Some x)) (sym (below
 pub upwards-step : {X : Type 0} (up : X → Option X) (n : ℕ) (x : X) → 0 < n → upwards up n (Some x) ≡ x ∷ upwards up (n - 1) (up x)
 upwards-step up n x h = ap (λ (m : ℕ). upwards up m (Some x)) (sym (below-suc n h))
 
--- a test that the lowest one fails
-pub any-step : {X : Type 0} (p : X → Bool) (up : X → Option X) (n : ℕ) (x : X) → 0 < n → p x ≡ false → list_any p (upwards up n (Some x)) ≡ list_any p (upwards up (n - 1) (up x))
-any-step p up n x h e = ap (list_any p) (upwards-step up n x h) ∙ ap (λ b. b || list_any p (upwards up (n - 1) (up x))) e
-
 -- a search that finds nothing at the lowest one
 pub first-step : {X Y : Type 0} (f : X → Option Y) (up : X → Option X) (n : ℕ) (x : X) → 0 < n → f x ≡ None → first_given f (upwards up n (Some x)) ≡ first_given f (upwards up (n - 1) (up x))
 first-step f up n x h e = ap (first_given f) (upwards-step up n x h) ∙ ap (λ o. option_or o (first_given f (upwards up (n - 1) (up x)))) e
-
--- a search that finds something at the lowest one
-pub first-found : {X Y : Type 0} (f : X → Option Y) (up : X → Option X) (n : ℕ) (x : X) (y : Y) → 0 < n → f x ≡ Some y → first_given f (upwards up n (Some x)) ≡ Some y
-first-found f up n x y h e = ap (first_given f) (upwards-step up n x h) ∙ ap (λ o. option_or o (first_given f (upwards up (n - 1) (up x)))) e
 
 -- where there is not something there is nothing
 pub none-from_is_some : {X : Type 0} (o : Option X) → is_some o ≡ false → o ≡ None
