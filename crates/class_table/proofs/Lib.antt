@@ -1,0 +1,6 @@
+pub mod OrderLemmas
+pub mod TableLemmas
+pub mod Walks
+pub mod Live
+pub mod Found
+pub mod TreeOf

@@ -1,0 +1,11 @@
+pub mod Image
+pub mod ImageNames
+pub mod Words
+pub mod Upwards
+pub mod Chain
+pub mod Lookup
+pub mod Means
+pub mod Nodes
+pub mod Uses
+pub mod Valid
+pub mod Replaced
