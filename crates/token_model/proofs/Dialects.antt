@@ -1,5 +1,5 @@
 -- The tokens of the two dialects are the same but for the braces.
-use Rattle.std.proofs.Common.{◌≡◌, ◌≢◌, ℕ, ◌⊎◌, inl, inr, List, refl, sym, ◌∙◌}
+use Rattle.std.proofs.Common.{◌≢◌, ℕ, List, refl}
 use Rattle.token_model.specs.Tokens.{IsToken}
 use Rattle.token_model.specs.declared.kind.Dialect.{Dialect}
 use Rattle.token_model.specs.declared.kind.Dialect.TheVariants.{First, Second}

@@ -1,9 +1,8 @@
 -- A token of one kind ends at one place alone.
-use Rattle.std.proofs.Common.{◌≡◌, ◌≢◌, ℕ, zero, suc, ◌+◌, ◌-◌, ◌<◌, ◌≤◌, ◌⊎◌, inl, inr, Bool, true, false, List, length, get_or, refl, sym, ◌∙◌, ap, subst, arith}
-use Rattle.std.specs.Prelude.{slice_range}
+use Rattle.std.proofs.Common.{◌≡◌, ℕ, ◌+◌, ◌≤◌, inl, inr, List, get_or, refl, sym, ◌∙◌, ap, subst, arith}
 use Rattle.std.proofs.lemmas.Bool.{false≢true, cases_lt}
-use Rattle.token_model.specs.Bytes.{is_digit, is_letter, is_word, is_binary, is_second, is_radix_digit, Has, Passes, Fails, IsRun}
-use Rattle.token_model.specs.Tokens.{IsToken, IsName, HasColon, IsIdentifier, IsKeyword, IsBinary, IsString, IsComment, IsKeywordRow, Last, More, IsSymbolName, Name, Keywords, Selector, Stroke, Quoted, IsDigits, IsMantissa, Radix, Fraction, Plain, HasExponent, IsExponent, Scaled, Unscaled, IsNumeral}
+use Rattle.token_model.specs.Bytes.{is_digit, is_word, is_radix_digit, Has, IsRun}
+use Rattle.token_model.specs.Tokens.{IsToken, IsName, HasColon, IsIdentifier, IsKeyword, IsBinary, IsString, IsComment, IsKeywordRow, Last, More, IsSymbolName, Name, Keywords, Selector, Stroke, Quoted, IsMantissa, Radix, Fraction, Plain, HasExponent, IsExponent, Scaled, Unscaled, IsNumeral}
 use Rattle.token_model.specs.declared.kind.Dialect.{Dialect}
 use Rattle.token_model.specs.declared.kind.TokenKind.{TokenKind}
 use Rattle.token_model.specs.declared.kind.TokenKind.TheVariants.{Identifier, Keyword, Binary, Bar, Assign, Colon, Semicolon, Period, Caret, Open, Close, BlockOpen, BlockClose, BraceOpen, BraceClose, ArrayOpen, BytesOpen, String, Comment, Character, Symbol, Numeral, End}
@@ -31,18 +30,18 @@ IsBinary-same t i j k (b, inr h) (c, inr g) = h.1 ∙ sym g.1
 -- no string closes before another that opens at the same quote
 string_le : (t : List ℕ) (i j k : ℕ) (h : IsString t i j) (g : IsString t i k) → g.close ≤ h.close
 string_le t i j k h g = elim (cases_lt h.close g.close) [
-    inl lt ↦ absurd (h.alone (closes_once 39 t (i + 1) h.close g.close (omega (arith, h.order)) lt (omega (arith, Has-inside t g.close 39 (omega arith) g.closes)) h.inside g.inside h.closes))
+  | inl lt ↦ absurd (h.alone (closes_once 39 t (i + 1) h.close g.close (omega (arith, h.order)) lt (omega (arith, Has-inside t g.close 39 (omega arith) g.closes)) h.inside g.inside h.closes))
   | inr le ↦ le
-  ]
+]
 
 pub IsString-same : (t : List ℕ) (i j k : ℕ) → IsString t i j → IsString t i k → j ≡ k
 IsString-same t i j k h g = omega (arith, string_le t i j k h g, string_le t i k j g h)
 
 comment_le : (t : List ℕ) (i j k : ℕ) (h : IsComment t i j) (g : IsComment t i k) → g.close ≤ h.close
 comment_le t i j k h g = elim (cases_lt h.close g.close) [
-    inl lt ↦ absurd (g.inside h.close h.order lt h.closes)
+  | inl lt ↦ absurd (g.inside h.close h.order lt h.closes)
   | inr le ↦ le
-  ]
+]
 
 pub IsComment-same : (t : List ℕ) (i j k : ℕ) → IsComment t i j → IsComment t i k → j ≡ k
 IsComment-same t i j k h g = omega (arith, comment_le t i j k h g, comment_le t i k j g h)

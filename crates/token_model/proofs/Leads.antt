@@ -1,12 +1,11 @@
 -- The kind of a token is told by its first two bytes, but for identifiers and keywords.
-use Rattle.std.proofs.Common.{◌≡◌, ◌≢◌, ℕ, zero, suc, ◌+◌, ◌<◌, ◌≤◌, ◌⊎◌, inl, inr, Bool, true, false, cond, List, length, get_or, refl, sym, ◌∙◌, ap, subst, arith}
+use Rattle.std.proofs.Common.{◌≡◌, ◌≢◌, ℕ, ◌+◌, ◌⊎◌, inl, inr, Bool, true, false, List, get_or, refl, sym, ◌∙◌, ap, arith}
 use Rattle.std.proofs.lemmas.List.{get_or_past}
 use Rattle.std.proofs.lemmas.Bool.{false≢true}
-use Rattle.std.proofs.lemmas.Bool.{ne_eqb}
 use Rattle.std.proofs.lemmas.Bool.Decides.{nat_tests}
-use Rattle.std.specs.Prelude.{◌==◌, ◌||◌, if◌then◌else◌}
-use Rattle.token_model.specs.Bytes.{is_digit, is_letter, is_binary, Has, Passes, Fails}
-use Rattle.token_model.specs.Tokens.{IsToken, NoToken, IsKeywordRow, Last, More, IsSymbolName, Name, Keywords, Selector, Stroke, Quoted}
+use Rattle.std.specs.Prelude.{◌==◌, if◌then◌else◌}
+use Rattle.token_model.specs.Bytes.{is_digit, is_letter, is_binary}
+use Rattle.token_model.specs.Tokens.{IsToken, IsKeywordRow, Last, More, IsSymbolName, Name, Keywords, Selector, Stroke, Quoted}
 use Rattle.token_model.specs.declared.kind.Dialect.{Dialect}
 use Rattle.token_model.specs.declared.kind.TokenKind.{TokenKind}
 use Rattle.token_model.specs.declared.kind.TokenKind.TheVariants.{Identifier, Keyword, Binary, Bar, Assign, Colon, Semicolon, Period, Caret, Open, Close, BlockOpen, BlockClose, BraceOpen, BraceClose, ArrayOpen, BytesOpen, String, Comment, Character, Symbol, Numeral, End}
@@ -14,12 +13,12 @@ use Rattle.token_model.specs.declared.kind.TokenKind.TheVariants.{Identifier, Ke
 -- the kind that a byte begins alone, and End where it begins none
 abbrev pub mark_of : ℕ → TokenKind
 mark_of b =
-  if b == 124 then Bar else (if b == 95 then Assign else (if b == 59 then Semicolon else (if b == 46 then Period else (if b == 94 then Caret else (if b == 40 then Open else (if b == 41 then Close else (if b == 91 then BlockOpen else (if b == 93 then BlockClose else (if b == 123 then BraceOpen else (if b == 125 then BraceClose else (if b == 39 then String else (if b == 34 then Comment else (if b == 36 then Character else End)))))))))))))
+    if b == 124 then Bar else (if b == 95 then Assign else (if b == 59 then Semicolon else (if b == 46 then Period else (if b == 94 then Caret else (if b == 40 then Open else (if b == 41 then Close else (if b == 91 then BlockOpen else (if b == 93 then BlockClose else (if b == 123 then BraceOpen else (if b == 125 then BraceClose else (if b == 39 then String else (if b == 34 then Comment else (if b == 36 then Character else End)))))))))))))
 
 -- the kind that two bytes begin, with Identifier for keywords too
 abbrev pub lead : ℕ → ℕ → TokenKind
 lead b c =
-  if is_letter b then Identifier else (if is_digit b then Numeral else (if is_binary b then Binary else (if b == 58 then (if c == 61 then Assign else Colon) else (if b == 35 then (if c == 40 then ArrayOpen else (if c == 91 then BytesOpen else Symbol)) else mark_of b))))
+    if is_letter b then Identifier else (if is_digit b then Numeral else (if is_binary b then Binary else (if b == 58 then (if c == 61 then Assign else Colon) else (if b == 35 then (if c == 40 then ArrayOpen else (if c == 91 then BytesOpen else Symbol)) else mark_of b))))
 
 digit-letter : (b : ℕ) → is_digit b ≡ true → is_letter b ≡ false
 digit-letter b h = grind (arith, nat_tests)
@@ -109,12 +108,12 @@ normal-cases k = inl refl
 -- two tokens with one lead have one kind, or both are words
 pub same_normal : (k m : TokenKind) → normal k ≡ normal m → (k ≡ m) ⊎ ((normal k ≡ Identifier) × (normal m ≡ Identifier))
 same_normal k m e = elim (normal-cases k) [
-    inl a ↦ elim (normal-cases m) [
-        inl b ↦ inl (cc)
-      | inr b ↦ let n : normal m ≡ Identifier = ap normal b in inr (e ∙ n, n)
-    ]
-  | inr a ↦ let n : normal k ≡ Identifier = ap normal a in inr (n, sym e ∙ n)
+  | inl a ↦ elim (normal-cases m) [
+    | inl b ↦ inl (cc)
+    | inr b ↦ let n : normal m ≡ Identifier = ap normal b in inr (e ∙ n, n)
   ]
+  | inr a ↦ let n : normal k ≡ Identifier = ap normal a in inr (n, sym e ∙ n)
+]
 
 -- a word is an identifier or a keyword
 pub word_kind : (k : TokenKind) → normal k ≡ Identifier → (k ≡ Identifier) ⊎ (k ≡ Keyword)

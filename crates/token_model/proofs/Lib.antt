@@ -8,3 +8,4 @@ pub mod Dialects
 pub mod Lists
 pub mod Strings
 pub mod Exist
+pub mod Begins

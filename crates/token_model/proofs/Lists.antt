@@ -1,23 +1,21 @@
 -- A text has one list of tokens, in order; joined with what stands between them they are the text.
-use Rattle.std.proofs.Common.{◌≡◌, ◌≢◌, ℕ, zero, suc, ◌+◌, ◌-◌, ◌<◌, ◌≤◌, ◌⊎◌, inl, inr, List, [], ◌∷◌, ◌++◌, length, get_or, take, drop, Option, Some, None, refl, sym, ◌∙◌, ap, subst, arith, append_assoc}
+use Rattle.std.proofs.Common.{◌≡◌, ℕ, ◌≤◌, ◌⊎◌, inl, inr, List, [], ◌∷◌, ◌++◌, get_or, drop, Option, Some, None, refl, sym, ◌∙◌, ap, subst, arith, append_assoc}
 use Rattle.std.specs.Prelude.{slice_range}
-use Rattle.std.proofs.lemmas.Bool.{cases_lt}
 use Rattle.std.proofs.lemmas.List.Folds.{drop_split}
 use Rattle.std.proofs.lemmas.Bool.{false≢true}
 use Rattle.std.proofs.Math.Seq.{drop-length}
-use Rattle.token_model.specs.Bytes.{is_blank, is_digit, Has, Passes, IsRun}
-use Rattle.token_model.specs.Tokens.{IsToken, NoToken}
-use Rattle.token_model.specs.Faults.{HasQuote, FaultsAs, IsFault}
+use Rattle.token_model.specs.Bytes.{is_blank, is_digit, Has, Passes}
+use Rattle.token_model.specs.Tokens.{IsToken}
+use Rattle.token_model.specs.Faults.{HasQuote, FaultsAs}
 use Rattle.token_model.specs.TokenLists.{Piece, IsNext, IsNextFault, HasTokens, Ended, Stopped, Further, AreInOrder, joined}
 use Rattle.token_model.specs.declared.kind.Dialect.{Dialect}
-use Rattle.token_model.specs.declared.kind.TokenKind.{TokenKind}
 use Rattle.token_model.specs.declared.kind.TokenKind.TheVariants.{End}
 use Rattle.token_model.specs.declared.fault.LexFault.{LexFault}
 use Rattle.token_model.specs.declared.fault.LexFault.TheVariants.{BadByte, OpenString, OpenComment, BadNumeral}
 use Rattle.token_model.proofs.RunLemmas.{IsRun-same}
 use Rattle.token_model.proofs.Leads.{other_byte}
 use Rattle.token_model.proofs.OneToken.{IsToken-same}
-use Rattle.token_model.proofs.Spans.{IsToken-inside, IsToken-some}
+use Rattle.token_model.proofs.Spans.{IsToken-inside}
 
 -- the token behind the blanks is one
 pub IsNext-same : (d : Dialect) (t : List ℕ) (at : ℕ) (p q : Piece) → IsNext d t at p → IsNext d t at q → p ≡ q
@@ -43,9 +41,9 @@ quote_or_comment t i q h g = elim (quote_first t i q h) [ inl a ↦ omega (arith
 
 quote_or_digit : (t : List ℕ) (i q : ℕ) → HasQuote t i q → Passes is_digit t i → ⊥
 quote_or_digit t i q h g = elim (quote_first t i q h) [
-    inl a ↦ other_byte is_digit (get_or t i 0) 39 g refl a
+  | inl a ↦ other_byte is_digit (get_or t i 0) 39 g refl a
   | inr a ↦ other_byte is_digit (get_or t i 0) 35 g refl a
-  ]
+]
 
 comment_or_digit : (t : List ℕ) (i : ℕ) → Has t i 34 → Passes is_digit t i → ⊥
 comment_or_digit t i h g = other_byte is_digit (get_or t i 0) 34 g refl h

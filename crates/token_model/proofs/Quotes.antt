@@ -1,8 +1,6 @@
 -- Texts with a mark in pairs, cut at a place.
-use Rattle.std.proofs.Common.{◌≡◌, ◌≢◌, ℕ, zero, suc, ◌+◌, ◌-◌, ◌<◌, ◌≤◌, ◌⊎◌, inl, inr, List, [], ◌∷◌, ◌++◌, length, get_or, take, drop, refl, sym, ◌∙◌, ap, subst, arith, append_assoc, length-drop}
+use Rattle.std.proofs.Common.{◌≡◌, ℕ, suc, ◌+◌, ◌-◌, ◌<◌, ◌≤◌, inl, inr, List, [], ◌∷◌, ◌++◌, length, get_or, take, drop, sym, ◌∙◌, ap, subst, arith}
 use Rattle.std.specs.Prelude.{slice_range}
-use Rattle.std.proofs.lemmas.Grind.{common_steps}
-use Rattle.std.proofs.lemmas.List.Edits.{between_more}
 use Rattle.std.proofs.lemmas.List.{drop-drop}
 use Rattle.std.proofs.lemmas.Bool.{cases_lt}
 use Rattle.std.proofs.Math.Seq.{take-add, drop-cons}
@@ -58,6 +56,6 @@ closes_once mark t i n m le lt inside a b e =
     let first : slice_range t n m ≡ mark ∷ slice_range t (n + 1) m = slice_first t n m lt inside ∙ ap (λ x. x ∷ slice_range t (n + 1) m) e in
     let second = IsPaired-second mark _ _ rest first in
     elim (cases_lt (n + 1) m) [
-        inl more ↦ let next = slice_first t (n + 1) m more inside in head_same _ _ _ _ (sym next ∙ second.1)
+      | inl more ↦ let next = slice_first t (n + 1) m more inside in head_same _ _ _ _ (sym next ∙ second.1)
       | inr end ↦ let none : m - (n + 1) ≡ 0 = omega arith in absurd (nil_not_cons _ _ (sym (ap (λ k. take k (drop (n + 1) t)) none) ∙ second.1))
-      ]
+    ]

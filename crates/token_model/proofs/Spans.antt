@@ -1,7 +1,7 @@
 -- A token lies inside the text, and has a byte unless it is the end.
-use Rattle.std.proofs.Common.{◌≡◌, ◌≢◌, ℕ, zero, suc, ◌+◌, ◌-◌, ◌<◌, ◌≤◌, ◌⊎◌, inl, inr, Bool, true, false, List, length, get_or, refl, sym, ◌∙◌, ap, subst, arith}
-use Rattle.token_model.specs.Bytes.{is_digit, is_letter, is_word, is_binary, is_second, is_radix_digit, Has, Passes, IsRun}
-use Rattle.token_model.specs.Tokens.{IsByte, IsBytePair, IsToken, IsName, HasColon, IsIdentifier, IsKeyword, IsBinary, IsString, IsComment, IsKeywordRow, Last, More, IsSymbolName, Name, Keywords, Selector, Stroke, Quoted, IsDigits, IsMantissa, Radix, Fraction, Plain, HasExponent, IsExponent, Scaled, Unscaled, IsNumeral}
+use Rattle.std.proofs.Common.{◌≡◌, ◌≢◌, ℕ, ◌+◌, ◌<◌, ◌≤◌, ◌⊎◌, inl, inr, Bool, false, List, length, refl, arith}
+use Rattle.token_model.specs.Bytes.{is_digit, is_letter, is_word, is_binary, is_second, is_radix_digit, Passes, IsRun}
+use Rattle.token_model.specs.Tokens.{IsByte, IsBytePair, IsToken, IsName, IsKeyword, IsBinary, IsString, IsComment, IsKeywordRow, Last, More, IsSymbolName, Name, Keywords, Selector, Stroke, Quoted, IsMantissa, Radix, Fraction, Plain, HasExponent, IsExponent, Scaled, Unscaled, IsNumeral}
 use Rattle.token_model.specs.declared.kind.Dialect.{Dialect}
 use Rattle.token_model.specs.declared.kind.TokenKind.{TokenKind}
 use Rattle.token_model.specs.declared.kind.TokenKind.TheVariants.{Identifier, Keyword, Binary, Bar, Assign, Colon, Semicolon, Period, Caret, Open, Close, BlockOpen, BlockClose, BraceOpen, BraceClose, ArrayOpen, BytesOpen, String, Comment, Character, Symbol, Numeral, End}
@@ -120,13 +120,13 @@ IsToken-cases d End t i j h = inl (refl, h.0, h.1)
 -- a token lies inside the text
 pub IsToken-inside : (d : Dialect) (kind : TokenKind) (t : List ℕ) (i j : ℕ) → IsToken d kind t i j → (i ≤ j) × (j ≤ length t)
 IsToken-inside d kind t i j h = elim (IsToken-cases d kind t i j h) [
-    inl (e, p, q) ↦ (omega arith, omega arith)
+  | inl (e, p, q) ↦ (omega arith, omega arith)
   | inr s ↦ (omega (arith, s.some), s.inside)
-  ]
+]
 
 -- a token but the end has a byte
 pub IsToken-some : (d : Dialect) (kind : TokenKind) (t : List ℕ) (i j : ℕ) → IsToken d kind t i j → kind ≢ End → i < j
 IsToken-some d kind t i j h other = elim (IsToken-cases d kind t i j h) [
-    inl (e, p, q) ↦ absurd (other e)
+  | inl (e, p, q) ↦ absurd (other e)
   | inr s ↦ s.some
-  ]
+]
