@@ -1,0 +1,11 @@
+pub mod RunLemmas
+pub mod Leads
+pub mod Quotes
+pub mod Ends
+pub mod OneToken
+pub mod Spans
+pub mod Dialects
+pub mod Lists
+pub mod Strings
+pub mod Exist
+pub mod Begins

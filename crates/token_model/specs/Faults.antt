@@ -1,0 +1,24 @@
+-- Which fault a text has at a place where no token begins.
+use Rattle.std.specs.Prelude.{◌≡◌, ◌≢◌, ℕ, ◌+◌, ◌⊎◌, List, slice_index}
+use Rattle.token_model.specs.Bytes.{is_digit, Has, Passes, Fails}
+use Rattle.token_model.specs.Tokens.{NoToken}
+use Rattle.token_model.specs.declared.kind.Dialect.{Dialect}
+use Rattle.token_model.specs.declared.fault.LexFault.{LexFault}
+use Rattle.token_model.specs.declared.fault.LexFault.TheVariants.{BadByte, OpenString, OpenComment, BadNumeral}
+
+-- what begins at i has its first quote there: a string, or a symbol written as one
+abbrev pub HasQuote : List ℕ → ℕ → ℕ → Type 0
+HasQuote t i quote = Has t quote 39 × ((quote ≡ i) ⊎ (Has t i 35 × (quote ≡ i + 1)))
+
+-- what begins at i decides the fault: a string that stays open at its quote, a comment that does, a numeral, or any other byte
+abbrev pub FaultsAs : List ℕ → ℕ → LexFault → Type 0
+FaultsAs t i (BadByte at) =
+    (at ≡ i) × ((quote : ℕ) → ¬ HasQuote t i quote) × (slice_index t i ≢ 34) × Fails is_digit t i
+FaultsAs t i (OpenString at) = HasQuote t i at
+FaultsAs t i (OpenComment at) = (at ≡ i) × Has t i 34
+FaultsAs t i (BadNumeral at) = (at ≡ i) × Passes is_digit t i
+
+-- no token begins at i, and this is the fault
+pub record IsFault (d : Dialect) (t : List ℕ) (i : ℕ) (fault : LexFault) : Type 0 where
+  pub none : NoToken d t i
+  pub which : FaultsAs t i fault

@@ -1,0 +1,42 @@
+-- The tokens of a text, one after the other, with blanks between them.
+use Rattle.std.specs.Prelude.{◌≡◌, ◌≢◌, ℕ, ◌≤◌, List, [], ◌∷◌, ◌++◌, slice_range, Option, Some, None}
+use Rattle.token_model.specs.Bytes.{is_blank, IsRun}
+use Rattle.token_model.specs.Tokens.{IsToken}
+use Rattle.token_model.specs.Faults.{IsFault}
+use Rattle.token_model.specs.declared.kind.Dialect.{Dialect}
+use Rattle.token_model.specs.declared.kind.TokenKind.{TokenKind}
+use Rattle.token_model.specs.declared.kind.TokenKind.TheVariants.{End}
+use Rattle.token_model.specs.declared.fault.LexFault.{LexFault}
+
+-- a token's kind and its span in the text
+pub record Piece : Type 0 where
+  pub kind : TokenKind
+  pub from : ℕ
+  pub to : ℕ
+
+-- behind the blanks from at on stands this token
+pub record IsNext (d : Dialect) (t : List ℕ) (at : ℕ) (p : Piece) : Type 0 where
+  pub blanks : IsRun is_blank t at p.from
+  pub token : IsToken d p.kind t p.from p.to
+
+-- behind the blanks from at on no token begins, with this fault
+pub record IsNextFault (d : Dialect) (t : List ℕ) (at : ℕ) (fault : LexFault) : Type 0 where
+  pub from : ℕ
+  pub blanks : IsRun is_blank t at from
+  pub fails : IsFault d t from fault
+
+-- the tokens of the text from at on: up to the end, or up to the first fault
+pub data HasTokens (d : Dialect) (t : List ℕ) : ℕ → List Piece → Option LexFault → Type 0 where
+  Ended : (at : ℕ) (p : Piece) → IsNext d t at p → p.kind ≡ End → HasTokens d t at (p ∷ []) None
+  Stopped : (at : ℕ) (fault : LexFault) → IsNextFault d t at fault → HasTokens d t at [] (Some fault)
+  Further : (at : ℕ) (p : Piece) (ps : List Piece) (fault : Option LexFault) → IsNext d t at p → p.kind ≢ End → HasTokens d t p.to ps fault → HasTokens d t at (p ∷ ps) fault
+
+-- the spans are in order from at on
+abbrev pub AreInOrder : ℕ → List Piece → Type 0
+AreInOrder at [] = Unit {0}
+AreInOrder at (p ∷ ps) = (at ≤ p.from) × (p.from ≤ p.to) × AreInOrder p.to ps
+
+-- the tokens from at on and what stands between them, joined
+abbrev pub joined : List ℕ → ℕ → List Piece → List ℕ
+joined t at [] = []
+joined t at (p ∷ ps) = slice_range t at p.from ++ slice_range t p.from p.to ++ joined t p.to ps
