@@ -1,0 +1,9 @@
+pub mod MapNames
+pub mod AllNamesLemmas
+pub mod Measures
+pub mod BareLemmas
+pub mod NormalLemmas
+pub mod Children
+pub mod Parts
+pub mod Induction
+pub mod NodesLemmas

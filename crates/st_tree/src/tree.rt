@@ -1,0 +1,221 @@
+// The syntax tree of a method.
+
+use crate::literal::Literal;
+use rb_base::{Ids, NameId, Text};
+use std::marker::Model;
+
+/// An expression or a return. Contracts see it as abstract data, a `TreeOf ℕ`.
+#[cycle(node)]
+#[derive(Drop)]
+pub struct Node {
+    /// What the node is.
+    pub kind: NodeKind,
+}
+
+/// What a node is.
+#[cycle(node)]
+#[derive(Drop)]
+pub enum NodeKind {
+    /// A variable.
+    Var {
+        name: NameId,
+    },
+    /// A literal.
+    Literal {
+        value: Literal,
+    },
+    /// A message and its receiver.
+    Send {
+        receiver: Box<Node>,
+        selector: NameId,
+        arguments: Nodes,
+    },
+    /// Messages to one receiver.
+    Cascade {
+        receiver: Box<Node>,
+        messages: Messages,
+    },
+    /// An assignment to a variable.
+    Assign {
+        name: NameId,
+        value: Box<Node>,
+    },
+    /// A block.
+    Block {
+        parameters: Ids,
+        body: Box<Sequence>,
+    },
+    /// An array that is made of the values of expressions.
+    Brace {
+        items: Nodes,
+    },
+    /// A return, `^`.
+    Return {
+        value: Box<Node>,
+    },
+}
+
+/// Nodes in order. Contracts see a list.
+#[cycle(node)]
+#[derive(Drop)]
+pub struct Nodes {
+    pub(crate) items: Vec<Node>,
+}
+
+/// A message of a cascade.
+#[cycle(node)]
+#[derive(Drop)]
+pub struct Message {
+    pub selector: NameId,
+    /// As many as the selector takes.
+    pub arguments: Nodes,
+}
+
+/// Messages in order. Contracts see a list.
+#[cycle(node)]
+#[derive(Drop)]
+pub struct Messages {
+    pub(crate) items: Vec<Message>,
+}
+
+/// A statement.
+#[cycle(node)]
+#[derive(Drop)]
+pub struct Statement {
+    /// The comments before and inside the statement.
+    pub comments: Comments,
+    pub node: Node,
+}
+
+/// Statements in order. Contracts see a list.
+#[cycle(node)]
+#[derive(Drop)]
+pub struct Statements {
+    pub(crate) items: Vec<Statement>,
+}
+
+/// The body of a method or a block, or a piece of code that is run by itself, a do-it.
+#[cycle(node)]
+#[derive(Drop)]
+pub struct Sequence {
+    pub temporaries: Ids,
+    pub statements: Statements,
+    /// The comments after the last statement.
+    pub tail: Comments,
+}
+
+/// A method.
+#[derive(Drop)]
+pub struct Method {
+    pub selector: NameId,
+    /// The names of the arguments.
+    pub arguments: Ids,
+    /// The comments before the body.
+    pub head: Comments,
+    /// The number of the primitive, from 0 to 65,535, where the method has one.
+    pub primitive: Option<u16>,
+    pub body: Sequence,
+}
+
+/// Comments in order, each the bytes between its double quotes. Contracts see a list of lists.
+#[derive(Drop)]
+pub struct Comments {
+    pub(crate) items: Vec<Text>,
+}
+
+impl Model for Comments {
+    ghost use Rattle.std.specs.Prelude.{ℕ, List};
+
+    ghost Value = { List (List ℕ) };
+
+    ghost view = { λ a. a.items.items };
+}
+
+impl Model for Node {
+    ghost use Rattle.std.specs.Prelude.{ℕ};
+    ghost use Rattle.tree_model.specs.Tree.{TreeOf};
+    ghost use Rattle.tree_model.specs.TreeCode.{coded_tree};
+
+    ghost Value = { TreeOf ℕ };
+
+    ghost coded = { coded_tree };
+
+    ghost use Rattle.tree_model.specs.Measure.{weight};
+    ghost use Rattle.st_tree.specs.View.{tree_of};
+
+    ghost view = { λ a. tree_of a.kind };
+
+    ghost size = { weight };
+
+    ghost use Rattle.st_tree.specs.NodeFalls.{depth_le-weight};
+
+    ghost size_decreases = { λ a h. depth_le-weight a.kind };
+}
+
+impl Model for Nodes {
+    ghost use Rattle.std.specs.Prelude.{ℕ, List};
+    ghost use Rattle.std.specs.Coded.{coded_list};
+    ghost use Rattle.tree_model.specs.Tree.{TreeOf};
+    ghost use Rattle.tree_model.specs.TreeCode.{coded_tree};
+
+    ghost Value = { List (TreeOf ℕ) };
+
+    ghost coded = { coded_list coded_tree };
+
+    ghost use Rattle.std.proofs.Common.{arith};
+    ghost use Rattle.tree_model.specs.Tree.{trees_of};
+    ghost use Rattle.tree_model.specs.Measure.{trees_weight};
+    ghost use Rattle.st_tree.specs.ListFalls.{most_le-trees_weight};
+
+    ghost view = { λ a. a.items.items };
+
+    ghost size = { λ ts. trees_weight (trees_of ts) };
+
+    ghost size_decreases = { λ a h. omega (arith, most_le-trees_weight a.items.items) };
+}
+
+impl Model for Messages {
+    ghost use Rattle.std.specs.Prelude.{List};
+    ghost use Rattle.std.specs.Coded.{coded_list};
+    ghost use Rattle.st_tree.specs.declared.tree.Message.{Message};
+    ghost use Rattle.st_tree.specs.PartCode.{coded_message};
+
+    ghost Value = { List Message };
+
+    ghost coded = { coded_list coded_message };
+
+    ghost use Rattle.std.proofs.Common.{arith};
+    ghost use Rattle.tree_model.specs.Measure.{messages_weight};
+    ghost use Rattle.st_tree.specs.View.{messages_of};
+
+    ghost view = { λ a. a.items.items };
+
+    ghost size = { λ ms. messages_weight (messages_of ms) };
+
+    ghost use Rattle.st_tree.specs.NodeFalls.{most_le-messages_weight};
+
+    ghost size_decreases = { λ a h. omega (arith, most_le-messages_weight a.items.items) };
+}
+
+impl Model for Statements {
+    ghost use Rattle.std.specs.Prelude.{List};
+    ghost use Rattle.std.specs.Coded.{coded_list};
+    ghost use Rattle.st_tree.specs.declared.tree.Statement.{Statement};
+    ghost use Rattle.st_tree.specs.PartCode.{coded_statement};
+
+    ghost Value = { List Statement };
+
+    ghost coded = { coded_list coded_statement };
+
+    ghost use Rattle.std.proofs.Common.{arith};
+    ghost use Rattle.tree_model.specs.Measure.{statements_weight};
+    ghost use Rattle.st_tree.specs.View.{statements_of};
+
+    ghost view = { λ a. a.items.items };
+
+    ghost size = { λ ss. statements_weight (statements_of ss) };
+
+    ghost use Rattle.st_tree.specs.NodeFalls.{most_le-statements_weight};
+
+    ghost size_decreases = { λ a h. omega (arith, most_le-statements_weight a.items.items) };
+}
