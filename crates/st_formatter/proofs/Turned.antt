@@ -1,5 +1,5 @@
 -- The pieces of two lists in turn, from their ends.
-use Rattle.std.proofs.Common.{◌≡◌, refl, sym, ap, ◌∙◌, ℕ, zero, suc, ◌+◌, ◌<◌, ◌≤◌, Bool, true, false, ◌&&◌, List, [], ◌∷◌, ◌++◌, length, get_or, take, drop, map, append_assoc, arith}
+use Rattle.std.proofs.Common.{◌≡◌, refl, sym, ap, ◌∙◌, ℕ, zero, suc, ◌+◌, ◌<◌, ◌≤◌, Bool, true, false, ◌&&◌, List, [], ◌∷◌, ◌++◌, length, get_or, take, drop, map, append_assoc, append-nil, arith}
 use Rattle.std.proofs.lemmas.List.{drop-drop}
 use Rattle.tree_model.specs.Tree.{TreeOf, trees_of, map_names, map_trees}
 use Rattle.text_model.specs.Pieces.{pieces_behind, pieces_in_turn}
@@ -85,10 +85,14 @@ map-drop f [] = refl
 map-drop f (x ∷ xs) = refl
 
 -- a keyword and the name of an argument are written before the others
-pub names-turned : (mark : List ℕ) (f : ℕ → List ℕ) (ws : List (List ℕ)) (xs : List ℕ) (i : ℕ) (out : List ℕ) →
-    pieces_behind mark (items_at ws i) ++ (pieces_behind mark (map f (items_at xs i)) ++ (pieces_behind mark (pieces_in_turn (drop (i + 1) ws) (map f (drop (i + 1) xs))) ++ out))
-    ≡ pieces_behind mark (pieces_in_turn (drop i ws) (map f (drop i xs))) ++ out
-names-turned mark f ws xs i out = turned (map f) (map-take f) (map-drop f) mark ws xs i out
+pub names-turned : (mark : List ℕ) (f : ℕ → List ℕ) (ws : List (List ℕ)) (xs : List ℕ) (i : ℕ) →
+    pieces_behind mark (items_at ws i) ++ (pieces_behind mark (map f (items_at xs i)) ++ pieces_behind mark (pieces_in_turn (drop (i + 1) ws) (map f (drop (i + 1) xs))))
+    ≡ pieces_behind mark (pieces_in_turn (drop i ws) (map f (drop i xs)))
+names-turned mark f ws xs i =
+    let rest = pieces_behind mark (pieces_in_turn (drop (i + 1) ws) (map f (drop (i + 1) xs))) in
+    ap (λ r. pieces_behind mark (items_at ws i) ++ (pieces_behind mark (map f (items_at xs i)) ++ r)) (sym (append-nil rest))
+    ∙ turned (map f) (map-take f) (map-drop f) mark ws xs i []
+    ∙ append-nil (pieces_behind mark (pieces_in_turn (drop i ws) (map f (drop i xs))))
 
 -- the pieces of a brace array, one by one
 pub brace_whole : (new behind_brace behind_first rest first others out : List ℕ) → new ≡ 123 ∷ behind_brace → behind_brace ≡ first ++ behind_first → behind_first ≡ others ++ rest → rest ≡ 125 ∷ out →
