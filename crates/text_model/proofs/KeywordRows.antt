@@ -1,5 +1,5 @@
 -- Rows of keywords, read byte by byte.
-use Rattle.std.proofs.Common.{◌≡◌, refl, ap, sym, subst, ◌∙◌, inl, inr, ℕ, Bool, true, false, ◌&&◌, if◌then◌else◌, List, [], ◌∷◌, ◌++◌, arith}
+use Rattle.std.proofs.Common.{◌≡◌, refl, ap, sym, subst, ◌∙◌, inl, inr, ℕ, Bool, true, false, ◌&&◌, if◌then◌else◌, List, [], ◌∷◌}
 use Rattle.std.proofs.lemmas.Bool.{cases_Bool, eqb-true}
 use Rattle.std.specs.List.{list_all, onto_first}
 use Rattle.token_model.specs.Bytes.{is_letter, is_word}
@@ -47,8 +47,9 @@ mutual
   keywords_row [] = refl
   keywords_row (b ∷ s) =
       elim (cases_Bool (is_colon b)) [
-        inl h ↦ rw (h, letter-colon b h) refl
-        | inr h ↦ rw h (row-onto b (keywords_of s) ∙ ap (λ v. is_letter b && v) (keywords_rest s)) ]
+        | inl h ↦ rw (h, letter-colon b h) refl
+        | inr h ↦ rw h (row-onto b (keywords_of s) ∙ ap (λ v. is_letter b && v) (keywords_rest s))
+      ]
 
   keywords_rest : (s : List ℕ) → go_on (keywords_of s) ≡ are_keywords false s
   keywords_rest [] = refl

@@ -1,5 +1,5 @@
 -- Lemmas on pieces of a text and on the keywords of a selector.
-use Rattle.std.proofs.Common.{◌≡◌, refl, ap, sym, ◌∙◌, ℕ, Bool, true, false, ◌==◌, List, [], ◌∷◌, ◌++◌, take, drop, arith}
+use Rattle.std.proofs.Common.{◌≡◌, refl, ℕ, false, List, [], ◌∷◌, ◌++◌, take, drop}
 use Rattle.std.proofs.lemmas.List.Concat.{flat_map-append}
 use Rattle.std.proofs.lemmas.Bool.{or_parts}
 use Rattle.text_model.specs.Pieces.{pieces_joined, pieces_behind, pieces_in_turn, is_colon, keywords_of, has_colon}

@@ -5,6 +5,8 @@
 //! do nothing.
 #![tactic(auto)]
 
+mod laws;
 mod precedence;
 
+pub use laws::{begins_with_no_blank, depends_on_texts_alone};
 pub use precedence::Precedence;
