@@ -36,4 +36,5 @@ period_before-map f no_statements = refl
 period_before-map f (more_statements c t ss) = refl
 
 pub ruleset scan_rules = (keywords_row, no_letter, no_word)
+
 pub ruleset statement_rules = (is_bare_row-many, period_before-drop)

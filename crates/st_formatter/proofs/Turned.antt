@@ -39,8 +39,8 @@ module _ {X : Type 0} (T : List X → List (List ℕ)) (takes : (xs : List X) �
   in_turn-from ws xs i =
       pieces_in_turn-step (drop i ws) (T (drop i xs))
       ∙ (λ k. take-drop-one ws i k
-          ++ ((takes (drop i xs) ∙ ap T (take-drop-one xs i)) k
-          ++ pieces_in_turn (drop-drop 1 i ws k) ((drops (drop i xs) ∙ ap T (drop-drop 1 i xs)) k)))
+      ++ ((takes (drop i xs) ∙ ap T (take-drop-one xs i)) k
+      ++ pieces_in_turn (drop-drop 1 i ws k) ((drops (drop i xs) ∙ ap T (drop-drop 1 i xs)) k)))
 
   -- the pieces with a number are written before those with higher numbers
   pub turned : (mark : List ℕ) (ws : List (List ℕ)) (xs : List X) (i : ℕ) (out : List ℕ) →
@@ -49,8 +49,8 @@ module _ {X : Type 0} (T : List X → List (List ℕ)) (takes : (xs : List X) �
   turned mark ws xs i out =
       let rest = pieces_in_turn (drop (i + 1) ws) (T (drop (i + 1) xs)) in
       sym (ap (λ ps. pieces_behind mark ps ++ out) (in_turn-from ws xs i)
-        ∙ ap (λ t. t ++ out) (pieces_behind-append mark (items_at ws i) (T (items_at xs i) ++ rest) ∙ ap (λ t. pieces_behind mark (items_at ws i) ++ t) (pieces_behind-append mark (T (items_at xs i)) rest))
-        ∙ simp append_assoc)
+      ∙ ap (λ t. t ++ out) (pieces_behind-append mark (items_at ws i) (T (items_at xs i) ++ rest) ∙ ap (λ t. pieces_behind mark (items_at ws i) ++ t) (pieces_behind-append mark (T (items_at xs i)) rest))
+      ∙ simp append_assoc)
 
 -- the texts of arguments are one for each
 argument_texts-take : (k : ℕ) (p : Precedence) (f : ℕ → List ℕ) (xs : List (TreeOf ℕ)) → take 1 (argument_texts k p (map_trees f (trees_of xs))) ≡ argument_texts k p (map_trees f (trees_of (take 1 xs)))

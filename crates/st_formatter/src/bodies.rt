@@ -38,7 +38,11 @@ fn is_bare_row(statements: &[Statement]) -> bool
 
 /// Writes the period behind a statement before the text, where another one has this number.
 #[tactic(auto, using(crate::proofs::Scans::statement_rules))]
-pub(crate) fn write_period(statements: &[Statement], next: usize, out: &mut Backward) -> Result<(), Memory>
+pub(crate) fn write_period(
+    statements: &[Statement],
+    next: usize,
+    out: &mut Backward,
+) -> Result<(), Memory>
     ensures { OnOk result (out.new ≡ period_before (statements_of (drop next statements.now)) ++ out.old) }
 {
     if next < statements.len() {
@@ -58,7 +62,11 @@ pub(crate) fn start_line_unless(flat: bool, level: usize, out: &mut Backward) ->
 }
 
 /// Writes the blank between the parameters of a flat block and its statement before the text.
-pub(crate) fn write_blank(flat: bool, parameters: &[NameId], out: &mut Backward) -> Result<(), Memory>
+pub(crate) fn write_blank(
+    flat: bool,
+    parameters: &[NameId],
+    out: &mut Backward,
+) -> Result<(), Memory>
     ensures { (names : List (List ℕ)) → OnOk result (out.new ≡ whole.blank_where flat (map (name_at names) parameters.now) ++ out.old) }
 {
     if flat && !parameters.is_empty() {

@@ -31,7 +31,11 @@ pub(crate) fn write_notes(notes: &[Text], level: usize, out: &mut Backward) -> R
 }
 
 /// Writes each name behind a blank before the text.
-pub(crate) fn write_spaced(names_in_order: &[NameId], names: &Names, out: &mut Backward) -> Result<(), Memory>
+pub(crate) fn write_spaced(
+    names_in_order: &[NameId],
+    names: &Names,
+    out: &mut Backward,
+) -> Result<(), Memory>
     requires { AllByRecursion (λ n. n < length names.now) names_in_order.now }
     ensures { OnOk result (out.new ≡ pieces_behind (codes " ") (map (name_at names.now) names_in_order.now) ++ out.old) }
 {
@@ -64,7 +68,11 @@ pub(crate) fn write_temporaries(
 }
 
 /// Writes the parameters of a block and the bar behind them before the text, or nothing where there are none.
-pub(crate) fn write_parameters(parameters: &[NameId], names: &Names, out: &mut Backward) -> Result<(), Memory>
+pub(crate) fn write_parameters(
+    parameters: &[NameId],
+    names: &Names,
+    out: &mut Backward,
+) -> Result<(), Memory>
     requires { AllByRecursion (λ n. n < length names.now) parameters.now }
     ensures { OnOk result (out.new ≡ parameters_text (map (name_at names.now) parameters.now) ++ out.old) }
 {

@@ -70,6 +70,9 @@ pub(crate) fn messages_precedence(messages: &[Message], names: &Names) -> Preced
 {
     match messages.split_first() {
         None => Precedence::Unary,
-        Some((first, _)) => message_precedence(text_of(names, first.selector), first.arguments.as_slice()),
+        Some((first, _)) => message_precedence(
+            text_of(names, first.selector),
+            first.arguments.as_slice(),
+        ),
     }
 }

@@ -60,7 +60,7 @@ fn word_behind(
     ensures word { IfOk result (λ left. piece.has_colon left.items ≡ false) }
     ensures pieces { IfOk result (λ left. (rest : List ℕ) →
         pieces.old.items ++ piece.keywords_of (word.items ++ byte ∷ rest)
-            ≡ pieces.new.items ++ piece.keywords_of (left.items ++ rest)) }
+        ≡ pieces.new.items ++ piece.keywords_of (left.items ++ rest)) }
 {
     let mut word = word;
     word.push(byte)?;

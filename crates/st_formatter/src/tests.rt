@@ -2,30 +2,27 @@
 mod build;
 
 use build::{
-    array_doit, brace_doit, cascade_doit, commented_method, noted_doit, operands_doit,
-    primitive_method, scaled_method, tall_method, temporary_doit, unary_method,
+    array_doit_reads, brace_doit_reads, cascade_doit_reads, commented_method_reads, named_words,
+    noted_doit_reads, operands_doit_reads, primitive_method_reads, scaled_method_reads,
+    tall_method_reads, temporary_doit_reads, unary_method_reads,
 };
 use std::test::Fail;
 
 #[test]
-fn texts_of_doits(rt: HostRuntime) -> Result<(), Fail> {
+fn texts_of_trees(rt: HostRuntime) -> Result<(), Fail> {
     let alloc = rt.alloc();
-    assert!(rt; noted_doit(alloc)?);
-    assert!(rt; cascade_doit(alloc)?);
-    assert!(rt; temporary_doit(alloc)?);
-    assert!(rt; brace_doit(alloc)?);
-    assert!(rt; operands_doit(alloc)?);
-    assert!(rt; array_doit(alloc)?);
-    Ok(())
-}
-
-#[test]
-fn texts_of_methods(rt: HostRuntime) -> Result<(), Fail> {
-    let alloc = rt.alloc();
-    assert!(rt; scaled_method(alloc)?);
-    assert!(rt; commented_method(alloc)?);
-    assert!(rt; unary_method(alloc)?);
-    assert!(rt; primitive_method(alloc)?);
-    assert!(rt; tall_method(alloc)?);
+    let names = named_words(alloc)?;
+    assert!(rt; names.len() == 30);
+    assert!(rt; noted_doit_reads(alloc, &names)?);
+    assert!(rt; cascade_doit_reads(alloc, &names)?);
+    assert!(rt; temporary_doit_reads(alloc, &names)?);
+    assert!(rt; brace_doit_reads(alloc, &names)?);
+    assert!(rt; operands_doit_reads(alloc, &names)?);
+    assert!(rt; array_doit_reads(alloc, &names)?);
+    assert!(rt; scaled_method_reads(alloc, &names)?);
+    assert!(rt; commented_method_reads(alloc, &names)?);
+    assert!(rt; unary_method_reads(alloc, &names)?);
+    assert!(rt; primitive_method_reads(alloc, &names)?);
+    assert!(rt; tall_method_reads(alloc, &names)?);
     Ok(())
 }

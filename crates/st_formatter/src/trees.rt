@@ -130,8 +130,7 @@ fn write_message(
 ) -> Result<bool, Memory>
     requires selector { selector < length names.now }
     requires arguments { TreesNames (λ n. n < length names.now) (trees_of arguments.now) }
-    ensures text {
-        let s = name_at names.now selector in
+    ensures text { let s = name_at names.now selector in
         let trees = map_trees (name_at names.now) (trees_of arguments.now) in
         OnOk result (out.new ≡ message_text s (argument_texts level (rule.message_precedence s trees) trees) ++ out.old) }
     ensures flat { IfOk result (λ flat. flat ≡ are_trees_flat (map_trees (name_at names.now) (trees_of arguments.now))) }
@@ -197,11 +196,23 @@ fn write_messages(
             while at > 0 {
                 at -= 1;
                 let next = &rest[at];
-                let one = write_message(next.selector, next.arguments.as_slice(), level, names, out)?;
+                let one = write_message(
+                    next.selector,
+                    next.arguments.as_slice(),
+                    level,
+                    names,
+                    out,
+                )?;
                 flat = both(one, flat);
                 out.put_byte(b';')?;
             }
-            let one = write_message(first.selector, first.arguments.as_slice(), level, names, out)?;
+            let one = write_message(
+                first.selector,
+                first.arguments.as_slice(),
+                level,
+                names,
+                out,
+            )?;
             Ok(both(one, flat))
         }
     }

@@ -35,7 +35,12 @@ pub fn format_method(
     write_lines(&method.body, 1, names, &mut text)?;
     write_primitive(method.primitive, &mut text)?;
     write_notes(method.head.as_slice(), 1, &mut text)?;
-    write_pattern(method.selector, method.arguments.as_slice(), names, &mut text)?;
+    write_pattern(
+        method.selector,
+        method.arguments.as_slice(),
+        names,
+        &mut text,
+    )?;
     let bytes = text.into_vec();
     out.push_slice(bytes.as_slice())
 }

@@ -1,8 +1,8 @@
 // Trees that are built by hand.
 ghost use Rattle.std.specs.Prelude.{◌≡◌, ℕ, ◌<◌, ◌≤◌, length, IfOk};
 ghost use Rattle.std.specs.List.{AllByRecursion};
-ghost use Rattle.tree_model.specs.Tree.{literals_of, trees_of};
-ghost use Rattle.tree_model.specs.AllNames.{LiteralNames, LiteralsNames, AllNames, TreesNames, SequenceNames, MethodNames};
+ghost use Rattle.tree_model.specs.Tree.{trees_of};
+ghost use Rattle.tree_model.specs.AllNames.{LiteralNames, AllNames, TreesNames, SequenceNames, MethodNames};
 ghost use Rattle.st_tree.specs.View.{sequence_of, method_of};
 
 use crate::{format_doit, format_method};
@@ -14,40 +14,93 @@ use st_tree::{
 use std::alloc::Global;
 
 const SELF: usize = 0;
+
 const X: usize = 2;
+
 const RATE: usize = 3;
+
 const COUNT: usize = 4;
+
 const AN_OBJECT: usize = 5;
+
 const A: usize = 6;
+
 const B: usize = 7;
+
 const TOTAL: usize = 8;
+
 const PLUS: usize = 9;
+
 const TIMES: usize = 10;
+
 const SET_COUNT: usize = 11;
+
 const SCALED: usize = 12;
+
 const IS_NIL: usize = 13;
+
 const IF_TRUE: usize = 14;
+
 const SHOW: usize = 15;
+
 const CR: usize = 16;
+
 const TRANSCRIPT: usize = 17;
+
 const PAY: usize = 18;
+
 const UP: usize = 19;
+
 const NIL: usize = 20;
+
 const VALUES: usize = 21;
+
 const FOO: usize = 22;
+
 const K: usize = 23;
+
 const CLASS: usize = 24;
+
 const NEW: usize = 25;
+
 const NOTE: usize = 26;
+
 const DO: usize = 27;
 
 // A table of names with these numbers.
 pub fn named_words(alloc: Global) -> Result<Names, Memory> {
     let mut names = Names::new(alloc);
     for word in [
-        "self", "super", "x", "rate", "count", "anObject", "a", "b", "total", "+", "*", "count:", "scaled:by:",
-        "isNil", "ifTrue:", "show:", "cr", "Transcript", "pay:", "up", "nil", "value:value:", "foo", "k", "A", "new",
-        "note:", "do:", "y", "z",
+        "self",
+        "super",
+        "x",
+        "rate",
+        "count",
+        "anObject",
+        "a",
+        "b",
+        "total",
+        "+",
+        "*",
+        "count:",
+        "scaled:by:",
+        "isNil",
+        "ifTrue:",
+        "show:",
+        "cr",
+        "Transcript",
+        "pay:",
+        "up",
+        "nil",
+        "value:value:",
+        "foo",
+        "k",
+        "A",
+        "new",
+        "note:",
+        "do:",
+        "y",
+        "z",
     ] {
         names.intern(word.as_bytes())?;
     }
@@ -78,9 +131,15 @@ fn text_literal(alloc: Global, kind: Kind, text: &str) -> Result<Literal, Memory
 {
     let text = Text::from_slice(alloc, text.as_bytes())?;
     match kind {
-        Kind::Number => Ok(Literal { kind: LiteralKind::Number { text } }),
-        Kind::Str => Ok(Literal { kind: LiteralKind::Str { text } }),
-        Kind::Symbol => Ok(Literal { kind: LiteralKind::Symbol { text } }),
+        Kind::Number => Ok(Literal {
+            kind: LiteralKind::Number { text },
+        }),
+        Kind::Str => Ok(Literal {
+            kind: LiteralKind::Str { text },
+        }),
+        Kind::Symbol => Ok(Literal {
+            kind: LiteralKind::Symbol { text },
+        }),
     }
 }
 
@@ -124,7 +183,13 @@ fn two(alloc: Global, names: &Names, first: Node, second: Node) -> Result<Nodes,
 }
 
 // A message and its receiver.
-fn send(alloc: Global, names: &Names, receiver: Node, selector: usize, arguments: Nodes) -> Result<Node, Memory>
+fn send(
+    alloc: Global,
+    names: &Names,
+    receiver: Node,
+    selector: usize,
+    arguments: Nodes,
+) -> Result<Node, Memory>
     requires receiver { AllNames (λ n. n < length names.now) receiver }
     requires selector { selector < length names.now }
     requires arguments { TreesNames (λ n. n < length names.now) (trees_of arguments) }
@@ -149,7 +214,13 @@ fn unary(alloc: Global, names: &Names, receiver: Node, selector: usize) -> Resul
 }
 
 // A message with one argument.
-fn with(alloc: Global, names: &Names, receiver: Node, selector: usize, argument: Node) -> Result<Node, Memory>
+fn with(
+    alloc: Global,
+    names: &Names,
+    receiver: Node,
+    selector: usize,
+    argument: Node,
+) -> Result<Node, Memory>
     requires receiver { AllNames (λ n. n < length names.now) receiver }
     requires selector { selector < length names.now }
     requires argument { AllNames (λ n. n < length names.now) argument }
@@ -241,7 +312,13 @@ fn notes(alloc: Global, text: &str) -> Result<Comments, Memory> {
 }
 
 // A sequence of one statement.
-fn single(alloc: Global, names: &Names, temporaries: Ids, node: Node, tail: &str) -> Result<Sequence, Memory>
+fn single(
+    alloc: Global,
+    names: &Names,
+    temporaries: Ids,
+    node: Node,
+    tail: &str,
+) -> Result<Sequence, Memory>
     requires temporaries { AllByRecursion (λ n. n < length names.now) temporaries }
     requires node { AllNames (λ n. n < length names.now) node }
     ensures { IfOk result (λ body. SequenceNames (λ n. n < length names.now) (sequence_of body)) }
@@ -358,23 +435,26 @@ fn method_reads(alloc: Global, names: &Names, whole: &Method, text: &str) -> Res
     Ok(out.as_slice() == text.as_bytes())
 }
 
-pub fn noted_doit(alloc: Global) -> Result<bool, Memory> {
-    let names = &named_words(alloc)?;
-    if names.len() < 30 {
-        return Ok(false);
-    }
+fn noted_doit(alloc: Global, names: &Names) -> Result<Sequence, Memory>
+    requires { length names.now ≡ 30 }
+    ensures { IfOk result (λ body. SequenceNames (λ n. n < length names.now) (sequence_of body)) }
+{
     let text = literal(alloc, names, Kind::Str, "it's")?;
     let show = with(alloc, names, var(names, TRANSCRIPT), SHOW, text)?;
-    let body = single(alloc, names, Ids::new(alloc), show, "\"a!b\"")?;
-    doit_reads(alloc, names, &body, "Transcript show: 'it''s'\n\"a!b\"")
+    single(alloc, names, Ids::new(alloc), show, "\"a!b\"")
 }
 
-pub fn cascade_doit(alloc: Global) -> Result<bool, Memory> {
-    let names = &named_words(alloc)?;
-    if names.len() < 30 {
-        return Ok(false);
-    }
-    let sum = with(alloc, names, var(names, X), PLUS, number(alloc, names, "1")?)?;
+fn cascade_doit(alloc: Global, names: &Names) -> Result<Sequence, Memory>
+    requires { length names.now ≡ 30 }
+    ensures { IfOk result (λ body. SequenceNames (λ n. n < length names.now) (sequence_of body)) }
+{
+    let sum = with(
+        alloc,
+        names,
+        var(names, X),
+        PLUS,
+        number(alloc, names, "1")?,
+    )?;
     let first = Message {
         selector: NameId(FOO),
         arguments: Nodes::new(alloc),
@@ -394,107 +474,101 @@ pub fn cascade_doit(alloc: Global) -> Result<bool, Memory> {
         arguments: Nodes::new(alloc),
     };
     let outer = cascade(alloc, names, var(names, TRANSCRIPT), show, end)?;
-    let body = single(alloc, names, Ids::new(alloc), outer, "")?;
-    doit_reads(alloc, names, &body, "Transcript show: (A foo; note: x + 1) new; cr")
+    single(alloc, names, Ids::new(alloc), outer, "")
 }
 
-pub fn temporary_doit(alloc: Global) -> Result<bool, Memory> {
-    let names = &named_words(alloc)?;
-    if names.len() < 30 {
-        return Ok(false);
-    }
+fn temporary_doit(alloc: Global, names: &Names) -> Result<Sequence, Memory>
+    requires { length names.now ≡ 30 }
+    ensures { IfOk result (λ body. SequenceNames (λ n. n < length names.now) (sequence_of body)) }
+{
     let set = assign(alloc, names, K, number(alloc, names, "2")?)?;
     let made = unary(alloc, names, var(names, CLASS), NEW)?;
     let note = with(alloc, names, made, NOTE, number(alloc, names, "-1")?)?;
     let temporaries = id(alloc, names, K)?;
-    let body = double(alloc, names, temporaries, "", set, note, "")?;
-    doit_reads(alloc, names, &body, "| k |\nk := 2.\nA new note: -1")
+    double(alloc, names, temporaries, "", set, note, "")
 }
 
-pub fn brace_doit(alloc: Global) -> Result<bool, Memory> {
-    let names = &named_words(alloc)?;
-    if names.len() < 30 {
-        return Ok(false);
-    }
+fn brace_doit(alloc: Global, names: &Names) -> Result<Sequence, Memory>
+    requires { length names.now ≡ 30 }
+    ensures { IfOk result (λ body. SequenceNames (λ n. n < length names.now) (sequence_of body)) }
+{
     let items = one(alloc, names, number(alloc, names, "2")?)?;
     let inner = brace(names, items);
     let items = two(alloc, names, number(alloc, names, "1")?, inner)?;
-    let body = single(alloc, names, Ids::new(alloc), brace(names, items), "")?;
-    doit_reads(alloc, names, &body, "{1. {2}}")
+    single(alloc, names, Ids::new(alloc), brace(names, items), "")
 }
 
-pub fn operands_doit(alloc: Global) -> Result<bool, Memory> {
-    let names = &named_words(alloc)?;
-    if names.len() < 30 {
-        return Ok(false);
-    }
+fn operands_doit(alloc: Global, names: &Names) -> Result<Sequence, Memory>
+    requires { length names.now ≡ 30 }
+    ensures { IfOk result (λ body. SequenceNames (λ n. n < length names.now) (sequence_of body)) }
+{
     let product = with(alloc, names, var(names, B), TIMES, var(names, X))?;
     let sum = with(alloc, names, var(names, A), PLUS, product)?;
     let first = unary(alloc, names, sum, FOO)?;
     let second = unary(alloc, names, var(names, A), FOO)?;
     let added = with(alloc, names, first, PLUS, second)?;
     let whole = with(alloc, names, added, TIMES, var(names, B))?;
-    let body = single(alloc, names, Ids::new(alloc), whole, "")?;
-    doit_reads(alloc, names, &body, "(a + (b * x)) foo + a foo * b")
+    single(alloc, names, Ids::new(alloc), whole, "")
 }
 
-// An array or a byte array of one numeral.
-fn inner_array(alloc: Global, is_array: bool, text: &str) -> Result<Literal, Memory>
+// An array of a numeral, a character and two symbols.
+fn inner_array(alloc: Global) -> Result<Literal, Memory>
     ensures { IfOk result (λ value. (m : ℕ) → LiteralNames (λ n. n < m) value) }
-{
-    let mut items = Literals::new(alloc);
-    items.push(text_literal(alloc, Kind::Number, text)?)?;
-    if is_array {
-        return Ok(Literal {
-            kind: LiteralKind::Array { items },
-        });
-    }
-    Ok(Literal {
-        kind: LiteralKind::Bytes { items },
-    })
-}
-
-// Three symbols behind a numeral and a character.
-fn first_elements(alloc: Global) -> Result<Literals, Memory>
-    ensures { IfOk result (λ items. (m : ℕ) → LiteralsNames (λ n. n < m) (literals_of items)) }
 {
     let mut items = Literals::new(alloc);
     items.push(text_literal(alloc, Kind::Number, "1")?)?;
     items.push(Literal {
         kind: LiteralKind::Char { byte: b'a' },
     })?;
-    items.push(text_literal(alloc, Kind::Symbol, "foo")?)?;
     items.push(text_literal(alloc, Kind::Symbol, "a b")?)?;
     items.push(text_literal(alloc, Kind::Symbol, "at:put:")?)?;
-    Ok(items)
+    Ok(Literal {
+        kind: LiteralKind::Array { items },
+    })
 }
 
-pub fn array_doit(alloc: Global) -> Result<bool, Memory> {
-    let names = &named_words(alloc)?;
-    if names.len() < 30 {
-        return Ok(false);
-    }
-    let mut items = first_elements(alloc)?;
-    items.push(inner_array(alloc, true, "2")?)?;
-    items.push(inner_array(alloc, false, "3")?)?;
+// A byte array of a numeral.
+fn inner_bytes(alloc: Global) -> Result<Literal, Memory>
+    ensures { IfOk result (λ value. (m : ℕ) → LiteralNames (λ n. n < m) value) }
+{
+    let mut items = Literals::new(alloc);
+    items.push(text_literal(alloc, Kind::Number, "3")?)?;
+    Ok(Literal {
+        kind: LiteralKind::Bytes { items },
+    })
+}
+
+// An array of an array, a byte array and a word.
+fn outer_array(alloc: Global, names: &Names) -> Result<Node, Memory>
+    requires { 20 < length names.now }
+    ensures { IfOk result (AllNames (λ n. n < length names.now)) }
+{
+    let mut items = Literals::new(alloc);
+    items.push(inner_array(alloc)?)?;
+    items.push(inner_bytes(alloc)?)?;
     items.push(Literal {
         kind: LiteralKind::Word { name: NameId(NIL) },
     })?;
     let value = Literal {
         kind: LiteralKind::Array { items },
     };
-    let node = Node {
+    Ok(Node {
         kind: NodeKind::Literal { value },
-    };
-    let body = single(alloc, names, Ids::new(alloc), node, "")?;
-    doit_reads(alloc, names, &body, "#(1 $a #foo #'a b' #at:put: #(2) #[3] nil)")
+    })
 }
 
-pub fn scaled_method(alloc: Global) -> Result<bool, Memory> {
-    let names = &named_words(alloc)?;
-    if names.len() < 30 {
-        return Ok(false);
-    }
+fn array_doit(alloc: Global, names: &Names) -> Result<Sequence, Memory>
+    requires { length names.now ≡ 30 }
+    ensures { IfOk result (λ body. SequenceNames (λ n. n < length names.now) (sequence_of body)) }
+{
+    let node = outer_array(alloc, names)?;
+    single(alloc, names, Ids::new(alloc), node, "")
+}
+
+fn scaled_method(alloc: Global, names: &Names) -> Result<Method, Memory>
+    requires { length names.now ≡ 30 }
+    ensures { IfOk result (λ m. MethodNames (λ n. n < length names.now) (method_of m)) }
+{
     let set = assign(alloc, names, RATE, number(alloc, names, "2")?)?;
     let arguments = two(alloc, names, var(names, X), var(names, RATE))?;
     let scaled = send(alloc, names, var(names, SELF), SCALED, arguments)?;
@@ -503,15 +577,13 @@ pub fn scaled_method(alloc: Global) -> Result<bool, Memory> {
     let temporaries = ids(alloc, names, RATE, TOTAL)?;
     let body = double(alloc, names, temporaries, "", set, end, "")?;
     let arguments = id(alloc, names, X)?;
-    let whole = method(names, PAY, arguments, Comments::new(alloc), None, body);
-    method_reads(alloc, names, &whole, "pay: x\n\t| rate total |\n\trate := 2.\n\t^(self scaled: x by: rate) + 1")
+    Ok(method(names, PAY, arguments, Comments::new(alloc), None, body))
 }
 
-pub fn commented_method(alloc: Global) -> Result<bool, Memory> {
-    let names = &named_words(alloc)?;
-    if names.len() < 30 {
-        return Ok(false);
-    }
+fn commented_method(alloc: Global, names: &Names) -> Result<Method, Memory>
+    requires { length names.now ≡ 30 }
+    ensures { IfOk result (λ m. MethodNames (λ n. n < length names.now) (method_of m)) }
+{
     let set = assign(alloc, names, RATE, number(alloc, names, "5")?)?;
     let inside = single(alloc, names, Ids::new(alloc), set, "")?;
     let then = block(alloc, names, Ids::new(alloc), inside)?;
@@ -520,37 +592,32 @@ pub fn commented_method(alloc: Global) -> Result<bool, Memory> {
     let end = returned(alloc, names, var(names, RATE))?;
     let body = double(alloc, names, Ids::new(alloc), "", first, end, "")?;
     let head = notes(alloc, "\"percent\"")?;
-    let whole = method(names, RATE, Ids::new(alloc), head, None, body);
-    method_reads(alloc, names, &whole, "rate\n\t\"percent\"\n\trate isNil ifTrue: [rate := 5].\n\t^rate")
+    Ok(method(names, RATE, Ids::new(alloc), head, None, body))
 }
 
-pub fn unary_method(alloc: Global) -> Result<bool, Memory> {
-    let names = &named_words(alloc)?;
-    if names.len() < 30 {
-        return Ok(false);
-    }
+fn unary_method(alloc: Global, names: &Names) -> Result<Method, Memory>
+    requires { length names.now ≡ 30 }
+    ensures { IfOk result (λ m. MethodNames (λ n. n < length names.now) (method_of m)) }
+{
     let count = unary(alloc, names, var(names, SELF), COUNT)?;
     let sum = with(alloc, names, count, PLUS, number(alloc, names, "1")?)?;
     let set = with(alloc, names, var(names, SELF), SET_COUNT, sum)?;
     let end = returned(alloc, names, set)?;
     let body = single(alloc, names, Ids::new(alloc), end, "")?;
-    let whole = method(names, UP, Ids::new(alloc), Comments::new(alloc), None, body);
-    method_reads(alloc, names, &whole, "up\n\t^self count: self count + 1")
+    Ok(method(names, UP, Ids::new(alloc), Comments::new(alloc), None, body))
 }
 
-pub fn primitive_method(alloc: Global) -> Result<bool, Memory> {
-    let names = &named_words(alloc)?;
-    if names.len() < 30 {
-        return Ok(false);
-    }
+fn primitive_method(alloc: Global, names: &Names) -> Result<Method, Memory>
+    requires { length names.now ≡ 30 }
+    ensures { IfOk result (λ m. MethodNames (λ n. n < length names.now) (method_of m)) }
+{
     let arguments = id(alloc, names, AN_OBJECT)?;
     let body = Sequence {
         temporaries: Ids::new(alloc),
         statements: Statements::new(alloc),
         tail: Comments::new(alloc),
     };
-    let whole = method(names, PLUS, arguments, Comments::new(alloc), Some(10), body);
-    method_reads(alloc, names, &whole, "+ anObject\n\t<primitive: 10>")
+    Ok(method(names, PLUS, arguments, Comments::new(alloc), Some(10), body))
 }
 
 // Two blocks, one with a parameter and none with a statement.
@@ -574,20 +641,123 @@ fn empty_blocks(alloc: Global, names: &Names) -> Result<Nodes, Memory>
     two(alloc, names, first, second)
 }
 
-pub fn tall_method(alloc: Global) -> Result<bool, Memory> {
-    let names = &named_words(alloc)?;
-    if names.len() < 30 {
-        return Ok(false);
-    }
+fn tall_method(alloc: Global, names: &Names) -> Result<Method, Memory>
+    requires { length names.now ≡ 30 }
+    ensures { IfOk result (λ m. MethodNames (λ n. n < length names.now) (method_of m)) }
+{
     let first = unary(alloc, names, var(names, X), FOO)?;
     let blocks = empty_blocks(alloc, names)?;
     let second = send(alloc, names, var(names, X), VALUES, blocks)?;
-    let inside = double(alloc, names, Ids::new(alloc), "\"note\"", first, second, "\"end\"")?;
+    let inside = double(
+        alloc,
+        names,
+        Ids::new(alloc),
+        "\"note\"",
+        first,
+        second,
+        "\"end\"",
+    )?;
     let parameters = id(alloc, names, X)?;
     let tall = block(alloc, names, parameters, inside)?;
     let whole = with(alloc, names, var(names, SELF), DO, tall)?;
     let body = single(alloc, names, Ids::new(alloc), whole, "")?;
     let arguments = ids(alloc, names, A, B)?;
-    let whole = method(names, SCALED, arguments, Comments::new(alloc), None, body);
-    method_reads(alloc, names, &whole, "scaled: a by: b\n\tself do: [:x |\n\t\t\"note\"\n\t\tx foo.\n\t\tx value: [:k | ] value: []\n\t\t\"end\"]")
+    Ok(method(names, SCALED, arguments, Comments::new(alloc), None, body))
+}
+
+pub fn noted_doit_reads(alloc: Global, names: &Names) -> Result<bool, Memory>
+    requires { length names.now ≡ 30 }
+{
+    let body = noted_doit(alloc, names)?;
+    doit_reads(alloc, names, &body, "Transcript show: 'it''s'\n\"a!b\"")
+}
+
+pub fn cascade_doit_reads(alloc: Global, names: &Names) -> Result<bool, Memory>
+    requires { length names.now ≡ 30 }
+{
+    let body = cascade_doit(alloc, names)?;
+    doit_reads(
+        alloc,
+        names,
+        &body,
+        "Transcript show: (A foo; note: x + 1) new; cr",
+    )
+}
+
+pub fn temporary_doit_reads(alloc: Global, names: &Names) -> Result<bool, Memory>
+    requires { length names.now ≡ 30 }
+{
+    let body = temporary_doit(alloc, names)?;
+    doit_reads(alloc, names, &body, "| k |\nk := 2.\nA new note: -1")
+}
+
+pub fn brace_doit_reads(alloc: Global, names: &Names) -> Result<bool, Memory>
+    requires { length names.now ≡ 30 }
+{
+    let body = brace_doit(alloc, names)?;
+    doit_reads(alloc, names, &body, "{1. {2}}")
+}
+
+pub fn operands_doit_reads(alloc: Global, names: &Names) -> Result<bool, Memory>
+    requires { length names.now ≡ 30 }
+{
+    let body = operands_doit(alloc, names)?;
+    doit_reads(alloc, names, &body, "(a + (b * x)) foo + a foo * b")
+}
+
+pub fn array_doit_reads(alloc: Global, names: &Names) -> Result<bool, Memory>
+    requires { length names.now ≡ 30 }
+{
+    let body = array_doit(alloc, names)?;
+    doit_reads(alloc, names, &body, "#(#(1 $a #'a b' #at:put:) #[3] nil)")
+}
+
+pub fn scaled_method_reads(alloc: Global, names: &Names) -> Result<bool, Memory>
+    requires { length names.now ≡ 30 }
+{
+    let whole = scaled_method(alloc, names)?;
+    method_reads(
+        alloc,
+        names,
+        &whole,
+        "pay: x\n\t| rate total |\n\trate := 2.\n\t^(self scaled: x by: rate) + 1",
+    )
+}
+
+pub fn commented_method_reads(alloc: Global, names: &Names) -> Result<bool, Memory>
+    requires { length names.now ≡ 30 }
+{
+    let whole = commented_method(alloc, names)?;
+    method_reads(
+        alloc,
+        names,
+        &whole,
+        "rate\n\t\"percent\"\n\trate isNil ifTrue: [rate := 5].\n\t^rate",
+    )
+}
+
+pub fn unary_method_reads(alloc: Global, names: &Names) -> Result<bool, Memory>
+    requires { length names.now ≡ 30 }
+{
+    let whole = unary_method(alloc, names)?;
+    method_reads(alloc, names, &whole, "up\n\t^self count: self count + 1")
+}
+
+pub fn primitive_method_reads(alloc: Global, names: &Names) -> Result<bool, Memory>
+    requires { length names.now ≡ 30 }
+{
+    let whole = primitive_method(alloc, names)?;
+    method_reads(alloc, names, &whole, "+ anObject\n\t<primitive: 10>")
+}
+
+pub fn tall_method_reads(alloc: Global, names: &Names) -> Result<bool, Memory>
+    requires { length names.now ≡ 30 }
+{
+    let whole = tall_method(alloc, names)?;
+    method_reads(
+        alloc,
+        names,
+        &whole,
+        "scaled: a by: b\n\tself do: [:x |\n\t\t\"note\"\n\t\tx foo.\n\t\tx value: [:k | ] value: []\n\t\t\"end\"]",
+    )
 }

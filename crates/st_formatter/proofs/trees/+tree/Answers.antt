@@ -27,7 +27,7 @@ write_brace-returns-in_ok-put_byte-in-Some-2-clause-text t c =
     let none : c.loop-at.at ≡ 0 = omega arith in
     let others = rw none at c.loop-at.invariant.out in
     rw (c.in-Some.ensures.cases.0)
-      (brace_whole _ _ _ _ _ _ _ c.in_ok-put_byte-in-Some-2.ensures c.in_ok-one-in-Some-2.ensures.text others c.in_ok-put_byte-in-Some.ensures)
+    (brace_whole _ _ _ _ _ _ _ c.in_ok-put_byte-in-Some-2.ensures c.in_ok-one-in-Some-2.ensures.text others c.in_ok-put_byte-in-Some.ensures)
 
 pub write_message-loop-at-preserved : goal.write_message-loop-at-preserved
 write_message-loop-at-preserved t c =
@@ -39,7 +39,8 @@ write_message-loop-at-preserved t c =
     let both = flat-turned (name_at c.args.names.now) c.args.arguments.now (c.loop-at.at - 1) in
     record {
       flat = cc (both, flat, c.both-flat.ensures, c.in_ok-one.ensures.flat);
-      out = cc (turn, out, c.in_ok-write_keyword.ensures, c.in_ok-one.ensures.text, c.as_slice.ensures.value) }
+      out = cc (turn, out, c.in_ok-write_keyword.ensures, c.in_ok-one.ensures.text, c.as_slice.ensures.value);
+    }
 
 pub write_messages-write_message-requires : goal.write_messages-write_message-requires
 write_messages-write_message-requires t c =
@@ -48,10 +49,13 @@ write_messages-write_message-requires t c =
     let whole = ap (λ ms. messages_weight (messages_of ms)) c.in-Some.ensures.cases.0 in
     let same = ap (λ ts. trees_weight (trees_of ts)) c.as_slice.ensures in
     let names = rw (c.in-Some.ensures.cases.0) at c.requires in
-    let P : ℕ → Type 0 = λ n. n < length c.args.names.now in
-    (omega (arith, lighter, whole, same),
-      (selector-item (length c.args.names.now) c.in-Some.rest.now (c.loop-at.at - 1) c.index-rest-at.result within c.index-rest-at.is names.2,
-        rw c.as_slice.ensures (ArgumentNames-item P c.in-Some.rest.now (c.loop-at.at - 1) c.index-rest-at.result within c.index-rest-at.is names.2)))
+    let P : ℕ → Type 0 = λ n. n < length c.args.names.now in (
+      omega (arith, lighter, whole, same),
+      (
+        selector-item (length c.args.names.now) c.in-Some.rest.now (c.loop-at.at - 1) c.index-rest-at.result within c.index-rest-at.is names.2,
+        rw c.as_slice.ensures (ArgumentNames-item P c.in-Some.rest.now (c.loop-at.at - 1) c.index-rest-at.result within c.index-rest-at.is names.2),
+      ),
+    )
 
 pub write_messages-returns-in_ok-one-in-Some-2-clause-text : goal.write_messages-returns-in_ok-one-in-Some-2-clause-text
 write_messages-returns-in_ok-one-in-Some-2-clause-text t c = rw (c.in-Some.ensures.cases.0) (grind (arith, common_steps))

@@ -43,7 +43,8 @@ invariant-write_message-loop-at l =
     let rest = map_trees (name_at l.names) (trees_of (drop l.at l.arguments)) in
     record {
       flat : l.flat ≡ are_trees_flat rest;
-      out : l.out ≡ pieces_behind (codes " ") (pieces_in_turn (drop l.at l.words.items) (argument_texts l.level l.message rest)) ++ l.initial.out }
+      out : l.out ≡ pieces_behind (codes " ") (pieces_in_turn (drop l.at l.words.items) (argument_texts l.level l.message rest)) ++ l.initial.out;
+    }
 
 abbrev pub decreases-write_message-loop-at : goal.decreases-write_message-loop-at
 decreases-write_message-loop-at l = l.at
@@ -54,7 +55,8 @@ invariant-write_messages-loop-at l =
     record {
       within : l.at ≤ length l.rest;
       flat : l.flat ≡ are_messages_flat rest;
-      out : l.out ≡ pieces_behind (codes ";") (message_texts l.level rest) ++ l.initial.out }
+      out : l.out ≡ pieces_behind (codes ";") (message_texts l.level rest) ++ l.initial.out;
+    }
 
 abbrev pub decreases-write_messages-loop-at : goal.decreases-write_messages-loop-at
 decreases-write_messages-loop-at l = l.at
@@ -65,7 +67,8 @@ invariant-write_brace-loop-at l =
     record {
       within : l.at ≤ length l.rest;
       flat : l.flat ≡ are_trees_flat rest;
-      out : l.out ≡ pieces_behind (codes ". ") (expression_texts l.level rest) ++ l.initial.out }
+      out : l.out ≡ pieces_behind (codes ". ") (expression_texts l.level rest) ++ l.initial.out;
+    }
 
 abbrev pub decreases-write_brace-loop-at : goal.decreases-write_brace-loop-at
 decreases-write_brace-loop-at l = l.at
