@@ -1,0 +1,5 @@
+pub mod Arguments
+pub mod Words
+pub mod Items
+pub mod Turned
+pub mod Scans

@@ -1,0 +1,4 @@
+pub mod PieceLemmas
+pub mod KeywordRows
+pub mod Beginnings
+pub mod Texts
