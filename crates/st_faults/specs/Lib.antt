@@ -1,0 +1,5 @@
+pub mod Sorts
+pub mod Moves
+pub mod Wishes
+pub mod Stacks
+pub mod Lexing
