@@ -28,7 +28,7 @@ pub struct Lexeme {
 fn name_sort(text: &[u8]) -> Sort
     ensures { (literal : LiteralOf Text) → name_of text.now ≡ terminal result text.now literal }
 {
-    if text == b"super" {
+    if text == b"super".as_slice() {
         Sort::Super
     } else {
         Sort::Name
@@ -39,7 +39,7 @@ fn name_sort(text: &[u8]) -> Sort
 fn keyword_sort(text: &[u8]) -> Sort
     ensures { (literal : LiteralOf Text) → keyword_of text.now ≡ terminal result text.now literal }
 {
-    if text == b"primitive:" {
+    if text == b"primitive:".as_slice() {
         Sort::PrimitiveKeyword
     } else {
         Sort::Keyword
@@ -50,11 +50,11 @@ fn keyword_sort(text: &[u8]) -> Sort
 fn binary_sort(text: &[u8], before_numeral: bool) -> Sort
     ensures { (literal : LiteralOf Text) → binary_of text.now before_numeral ≡ terminal result text.now literal }
 {
-    if text == b"-" && before_numeral {
+    if text == b"-".as_slice() && before_numeral {
         Sort::Sign
-    } else if text == b"<" {
+    } else if text == b"<".as_slice() {
         Sort::Less
-    } else if text == b">" {
+    } else if text == b">".as_slice() {
         Sort::Greater
     } else {
         Sort::Binary
@@ -112,7 +112,7 @@ pub fn next_lexeme(text: &[u8], at: usize) -> Result<Lexeme, LexFault>
     ensures fault { IfErr result (HasLexFault text.now at) }
 {
     let mut place = at;
-    loop {
+    'comments: loop {
         let token = next_token(text, place)?;
         let before_numeral = begins_digit(text, token.to);
         if let Some(sort) = sort_of(token.kind, token.text, before_numeral) {

@@ -1,5 +1,6 @@
-ghost use Rattle.std.specs.Prelude.{◌≡◌, ℕ, ◌<◌, ◌≤◌, length, slice_index, nat_le, true, if◌then◌else◌};
+ghost use Rattle.std.specs.Prelude.{◌≡◌, ◌+◌, ◌*◌, ◌≤◌, nat_le, true};
 ghost use Rattle.std.specs.List.{list_all};
+ghost use Rattle.std.specs.Char.{digit_value};
 ghost use Rattle.std.specs.Str.Parse.{digits_value};
 ghost use Rattle.token_model.specs.Bytes.{is_digit};
 ghost use Rattle.tree_model.specs.Tree.{LiteralOf};
@@ -26,6 +27,15 @@ fn are_digits(text: &[u8]) -> bool
     text.iter().all(|byte| is_digit_byte(*byte))
 }
 
+/// A number with one more digit behind it.
+fn value_more(value: u32, byte: u8) -> u32
+    requires digit { is_digit byte ≡ true }
+    requires low { value ≤ 65535 }
+    ensures { result ≡ value * 10 + digit_value byte }
+{
+    value * 10 + u32::from(byte - b'0')
+}
+
 /// Whether the number that the digits write is one that a primitive may have.
 fn is_small(text: &[u8]) -> bool
     requires { list_all is_digit text.now ≡ true }
@@ -33,7 +43,7 @@ fn is_small(text: &[u8]) -> bool
 {
     let mut value = 0u32;
     for byte in text {
-        value = value * 10 + u32::from(*byte - b'0');
+        value = value_more(value, *byte);
         if value > HIGHEST_NUMBER {
             return false;
         }

@@ -2,12 +2,12 @@ use Rattle.std.proofs.Common.{◌-◌, ◌≤◌, length}
 use Rattle.st_faults.proofs.Skipping.{Skipped}
 use Rattle.st_faults.proofs.lexeme.next_lexeme.Given as goal
 
-abbrev pub invariant-loop-place : goal.invariant-loop-place
-invariant-loop-place l = record {
+abbrev pub invariant-comments : goal.invariant-comments
+invariant-comments l = record {
   order : l.at ≤ l.place;
   inside : l.place ≤ length l.text;
   skipped : Skipped l.text l.at l.place;
 }
 
-abbrev pub decreases-loop-place : goal.decreases-loop-place
-decreases-loop-place l = length l.text - l.place
+abbrev pub decreases-comments : goal.decreases-comments
+decreases-comments l = length l.text - l.place
