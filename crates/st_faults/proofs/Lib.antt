@@ -1,3 +1,4 @@
 pub mod Stacked
 pub mod Signs
 pub mod Skipping
+pub mod Scanning

@@ -1,5 +1,5 @@
 -- Comments that are passed before a token, and the token behind them.
-use Rattle.std.proofs.Common.{◌≡◌, ◌≢◌, ℕ, ◌<◌, ◌≤◌, Bool, true, false, List, [], ◌∷◌, ◌++◌, Some, None, refl, sym, ◌∙◌, ap, subst, arith}
+use Rattle.std.proofs.Common.{◌≡◌, ◌≢◌, ℕ, ◌<◌, ◌≤◌, inl, inr, Bool, true, false, List, [], ◌∷◌, ◌++◌, Some, None, refl, sym, ◌∙◌, ap, subst, arith}
 use Rattle.std.specs.Prelude.{Option, if◌then◌else◌, slice_range, slice_index, codes}
 use Rattle.std.specs.Option.{option_map_or}
 use Rattle.std.specs.Str.{bytes_eq}
@@ -102,18 +102,21 @@ first_is t start at p sort s u l b before next slice flag seen =
       notes = before.notes;
       text = u;
       literal = l;
-      last = λ e.
-        let kind : p.kind ≡ End = end_kind p.kind s b (seen ∙ ap (λ x. Some (terminal x u l)) e) in
-        let same : Closes grammar.TextEnd ≡ k = ap (λ x. terminal x u l) (sym e) in
-        before.clean (lex before.notes p.from p.to k ∷ []) (record { pieces = p ∷ []; read = Ended at p next kind; same = rw (← same) (rw kind refl) });
-      further = λ ts n h. before.clean (lex before.notes p.from p.to k ∷ ts) (record {
-        pieces = p ∷ h.pieces;
-        read = Further at p h.pieces None next (other n) h.read;
-        same =
+      joined = λ ts behind. elim behind [
+        | inl end ↦
+          let kind : p.kind ≡ End = end_kind p.kind s b (seen ∙ ap (λ x. Some (terminal x u l)) end.0) in
+          let same : Closes grammar.TextEnd ≡ k = ap (λ x. terminal x u l) (sym end.0) in
+          before.clean (lex before.notes p.from p.to k ∷ ts) (record { pieces = p ∷ []; read = Ended at p next kind; same = rw end.1 (rw (← same) (rw kind refl)) })
+        | inr more ↦
+          let h = more.1 in
           let now : terminal_of p.kind (slice_range t p.from p.to) (begins_numeral p.to h.pieces) ≡ Some k =
             (λ i. terminal_of p.kind (sym slice i) ((begins_numeral-digit t p.to h.pieces None refl h.read ∙ sym flag) i)) ∙ seen in
-          rw now (ap (λ x. lex before.notes p.from p.to k ∷ x) h.same);
-      });
+          before.clean (lex before.notes p.from p.to k ∷ ts) (record {
+            pieces = p ∷ h.pieces;
+            read = Further at p h.pieces None next (other more.0) h.read;
+            same = rw now (ap (λ x. lex before.notes p.from p.to k ∷ x) h.same);
+          })
+      ];
       fault = λ f n h. before.fault f (p ∷ h.0, Further at p h.0 (Some f) next (other n) h.1);
     }
 

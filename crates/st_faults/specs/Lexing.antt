@@ -1,5 +1,5 @@
 -- The tokens that the grammar sees from a place of a text on.
-use Rattle.std.specs.Prelude.{◌≡◌, ◌≢◌, ℕ, List, [], ◌∷◌, Option, Some, None}
+use Rattle.std.specs.Prelude.{◌≡◌, ◌≢◌, ℕ, ◌⊎◌, List, [], ◌∷◌, Some, None, slice_index}
 use Rattle.token_model.specs.TokenLists.{Piece, HasTokens}
 use Rattle.token_model.specs.declared.kind.Dialect.TheVariants.{Second}
 use Rattle.token_model.specs.declared.kind.TokenKind.{TokenKind}
@@ -13,7 +13,6 @@ use Rattle.grammar_model.specs.Lexemes.{unquoted, symbol_text, lexemes_of}
 use Rattle.st_faults.specs.declared.sort.Sort.TheVariants.{TextEnd}
 use Rattle.st_faults.specs.declared.lexeme.Lexeme.{Lexeme}
 use Rattle.st_faults.specs.Sorts.{terminal}
-use Rattle.std.specs.Prelude.{slice_index}
 
 -- the literal that a string, a character or a symbol with these bytes spells
 abbrev pub literal_of : TokenKind → Text → LiteralOf Text
@@ -31,12 +30,14 @@ pub record IsLexedFrom (t : Text) (at : ℕ) (held : Notes) (ts : List input.Lex
 abbrev pub HasLexFault : Text → ℕ → LexFault → Type 0
 HasLexFault t at fault = (pieces : List Piece) × HasTokens Second t at pieces (Some fault)
 
--- From a place on this token is the first that is no comment. Where it is the end, it is the only one; else the tokens
--- or the fault from its end on stand behind it.
+-- the tokens behind this one: none behind the end, else those from its end on
+abbrev pub IsBehind : Text → Lexeme → List input.Lexeme → Type 0
+IsBehind t l ts = ((l.sort ≡ TextEnd) × (ts ≡ [])) ⊎ ((l.sort ≢ TextEnd) × IsLexedFrom t l.to [] ts)
+
+-- from a place on this token is the first that is no comment: joined to the tokens behind it, or to the fault behind it
 pub record IsFirst (t : Text) (at : ℕ) (l : Lexeme) : Type 0 where
   pub notes : Notes
   pub text : Text
   pub literal : LiteralOf Text
-  pub last : l.sort ≡ TextEnd → IsLexedFrom t at [] (lex notes l.from l.to (terminal l.sort text literal) ∷ [])
-  pub further : (ts : List input.Lexeme) → l.sort ≢ TextEnd → IsLexedFrom t l.to [] ts → IsLexedFrom t at [] (lex notes l.from l.to (terminal l.sort text literal) ∷ ts)
+  pub joined : (ts : List input.Lexeme) → IsBehind t l ts → IsLexedFrom t at [] (lex notes l.from l.to (terminal l.sort text literal) ∷ ts)
   pub fault : (fault : LexFault) → l.sort ≢ TextEnd → HasLexFault t l.to fault → HasLexFault t at fault

@@ -3,3 +3,5 @@ pub mod Moves
 pub mod Wishes
 pub mod Stacks
 pub mod Lexing
+pub mod Faults
+pub mod Depths

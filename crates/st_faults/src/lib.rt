@@ -1,7 +1,9 @@
 //! The first faults of a text.
 #![tactic(auto)]
 
+mod brackets;
 mod expressions;
+mod fault;
 mod lexeme;
 mod literals;
 mod messages;
@@ -14,5 +16,10 @@ mod sort;
 mod stack;
 mod wishes;
 
+pub use brackets::scan;
+pub use fault::{ParseFault, word_of};
+pub use grammar_model::Wanted;
 pub use lexeme::{Lexeme, next_lexeme};
+
 pub use sort::Sort;
+pub use token_model::LexFault;
