@@ -5,3 +5,4 @@ pub mod Stacks
 pub mod Lexing
 pub mod Faults
 pub mod Depths
+pub mod Forms

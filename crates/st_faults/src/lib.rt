@@ -2,6 +2,7 @@
 #![tactic(auto)]
 
 mod brackets;
+mod check;
 mod expressions;
 mod fault;
 mod lexeme;
@@ -17,6 +18,7 @@ mod stack;
 mod wishes;
 
 pub use brackets::scan;
+pub use check::{check_doit, check_method};
 pub use fault::{ParseFault, word_of};
 pub use grammar_model::Wanted;
 pub use lexeme::{Lexeme, next_lexeme};
