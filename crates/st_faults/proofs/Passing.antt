@@ -69,9 +69,9 @@ pub split : (t : Text) (at : ℕ) (l : Lexeme) (ts : List input.Lexeme) → IsFi
 split t at l ts first inside lexed = elim (end_or_other l.sort) [
   | inl end ↦ splits t at l ts first lexed [] (inl (end, refl))
   | inr other ↦
-    let all = lists Second t l.to inside in
-    elim (lexed_or_fault t l.to all.0 all.1 all.2) [
-      | inl more ↦ splits t at l ts first lexed more.0 (inr (other, more.1))
-      | inr wrong ↦ absurd (no_fault t at [] ts wrong.0 lexed (first.fault wrong.0 other wrong.1))
-    ]
+      let all = lists Second t l.to inside in
+      elim (lexed_or_fault t l.to all.0 all.1 all.2) [
+        | inl more ↦ splits t at l ts first lexed more.0 (inr (other, more.1))
+        | inr wrong ↦ absurd (no_fault t at [] ts wrong.0 lexed (first.fault wrong.0 other wrong.1))
+      ]
 ]

@@ -83,7 +83,7 @@ pub reads_last : (form : Form) (t : Text) (at : ℕ) (l : Lexeme) (ss new : Stac
 reads_last form t at l ss new r s end e =
     let empty : IsNil new = subst EmptyIfSome (ap (λ x. step ss (terminal x s.text s.literal)) (sym end) ∙ e) (good_end ss r.good) in
     let over : run (start form) r.tokens ≡ None =
-      r.same ∙ goes_on t l ss new r.rest s e ∙ ap (run new) (none_behind t l s.rest end s.behind) ∙ run_nil new empty in
+    r.same ∙ goes_on t l ss new r.rest s e ∙ ap (run new) (none_behind t l s.rest end s.behind) ∙ run_nil new empty in
     record { tokens = r.tokens; lexed = r.lexed; shallow = r.shallow; grammar = gets_text form r.tokens over }
 
 -- a token that cannot stand
@@ -92,7 +92,7 @@ pub reads_no_more : (form : Form) (t : Text) (at : ℕ) (l : Lexeme) (ss : Stack
 reads_no_more form t at l ss answer r s e told =
     let left = lex s.notes l.from l.to (terminal l.sort s.text s.literal) ∷ s.rest in
     let stops : run (start form) r.tokens ≡ Some (At left (wish ss) (may_start ss)) =
-      r.same ∙ ap (run ss) s.whole ∙ ap (λ o. option_map_or (λ s'. run s' s.rest) o (Some (At left (wish ss) (may_start ss)))) e in
+    r.same ∙ ap (run ss) s.whole ∙ ap (λ o. option_map_or (λ s'. run s' s.rest) o (Some (At left (wish ss) (may_start ss)))) e in
     let fault : HasFirstFault Second form t (fault_at form left (wish ss) (may_start ss)) =
-      InGrammar r.lexed r.shallow (first_fault form r.tokens left (wish ss) (may_start ss) stops) in
+    InGrammar r.lexed r.shallow (first_fault form r.tokens left (wish ss) (may_start ss) stops) in
     rw told fault

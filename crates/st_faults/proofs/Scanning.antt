@@ -8,6 +8,11 @@ use Rattle.grammar_model.specs.Input as input
 use Rattle.grammar_model.specs.Input.{lex}
 use Rattle.grammar_model.specs.Lexemes.{IsLexed}
 use Rattle.grammar_model.specs.Checks.{first_deep}
+use Rattle.grammar_model.specs.Whole.{Form}
+use Rattle.grammar_model.specs.Spelling.{InTokens, InBrackets}
+use Rattle.st_faults.specs.declared.fault.ParseFault.{ParseFault}
+use Rattle.st_faults.specs.declared.fault.ParseFault.TheVariants as fault
+use Rattle.st_faults.specs.Faults.{IsUnclean, IsRefused}
 use Rattle.st_faults.specs.declared.sort.Sort.TheVariants.{TextEnd}
 use Rattle.st_faults.specs.declared.lexeme.Lexeme.{Lexeme}
 use Rattle.st_faults.specs.declared.brackets.Depth.{Depth}
@@ -37,8 +42,8 @@ scanned_none t = record { clean = λ ts h. (ts, record { pieces = h.pieces; read
 pub scanned_one : (t : Text) (at : ℕ) (l : Lexeme) (d e : Depth) → Scanned t at d → IsFirst t at l → l.sort ≢ TextEnd → Leads l d e → Scanned t l.to e
 scanned_one t at l d e before first other leads = record {
   clean = λ ts h.
-    let w = before.clean (lex first.notes l.from l.to (terminal l.sort first.text first.literal) ∷ ts) (first.joined ts (inr (other, h))) in
-    (w.0, w.1, w.2 ∙ leads first.notes first.text first.literal ts);
+      let w = before.clean (lex first.notes l.from l.to (terminal l.sort first.text first.literal) ∷ ts) (first.joined ts (inr (other, h))) in
+      (w.0, w.1, w.2 ∙ leads first.notes first.text first.literal ts);
   fault = λ f h. before.fault f (first.fault f other h);
 }
 
@@ -47,3 +52,9 @@ pub scanned_last : (t : Text) (at : ℕ) (l : Lexeme) (d e : Depth) → Scanned 
 scanned_last t at l d e before first end leads =
     let w = before.clean (lex first.notes l.from l.to (terminal l.sort first.text first.literal) ∷ []) (first.joined [] (inl (end, refl))) in
     (w.0, w.1, w.2 ∙ leads first.notes first.text first.literal [])
+
+-- a text that is not clean is refused, whatever it is to be
+pub refused : (form : Form) (t : Text) (answer : ParseFault) → IsUnclean t answer → IsRefused form t answer
+refused form t (fault.Lexical f) h = InTokens h.1
+refused form t (fault.TooDeep at) h = InBrackets h.1 h.2
+refused form t answer h = absurd h

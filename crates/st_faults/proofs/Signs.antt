@@ -46,8 +46,8 @@ no_numeral t at p next other = elim (numeral_or_other p.kind) [
   | inl e ↦ elim (same_place p.from at) [
     | inr f ↦ rw (e.1, f) refl
     | inl f ↦
-      let token : IsToken Second Numeral t at p.to = subst (λ i. IsToken Second Numeral t i p.to) f.1 (subst (λ k. IsToken Second k t p.from p.to) e.0 next.token) in
-      absurd (false≢true (sym other ∙ token.digits.0))
+        let token : IsToken Second Numeral t at p.to = subst (λ i. IsToken Second Numeral t i p.to) f.1 (subst (λ k. IsToken Second k t p.from p.to) e.0 next.token) in
+        absurd (false≢true (sym other ∙ token.digits.0))
   ]
 ]
 

@@ -104,18 +104,18 @@ first_is t start at p sort s u l b before next slice flag seen =
       literal = l;
       joined = λ ts behind. elim behind [
         | inl end ↦
-          let kind : p.kind ≡ End = end_kind p.kind s b (seen ∙ ap (λ x. Some (terminal x u l)) end.0) in
-          let same : Closes grammar.TextEnd ≡ k = ap (λ x. terminal x u l) (sym end.0) in
-          before.clean (lex before.notes p.from p.to k ∷ ts) (record { pieces = p ∷ []; read = Ended at p next kind; same = rw end.1 (rw (← same) (rw kind refl)) })
+            let kind : p.kind ≡ End = end_kind p.kind s b (seen ∙ ap (λ x. Some (terminal x u l)) end.0) in
+            let same : Closes grammar.TextEnd ≡ k = ap (λ x. terminal x u l) (sym end.0) in
+            before.clean (lex before.notes p.from p.to k ∷ ts) (record { pieces = p ∷ []; read = Ended at p next kind; same = rw end.1 (rw (← same) (rw kind refl)) })
         | inr more ↦
-          let h = more.1 in
-          let now : terminal_of p.kind (slice_range t p.from p.to) (begins_numeral p.to h.pieces) ≡ Some k =
+            let h = more.1 in
+            let now : terminal_of p.kind (slice_range t p.from p.to) (begins_numeral p.to h.pieces) ≡ Some k =
             (λ i. terminal_of p.kind (sym slice i) ((begins_numeral-digit t p.to h.pieces None refl h.read ∙ sym flag) i)) ∙ seen in
-          before.clean (lex before.notes p.from p.to k ∷ ts) (record {
-            pieces = p ∷ h.pieces;
-            read = Further at p h.pieces None next (other more.0) h.read;
-            same = rw now (ap (λ x. lex before.notes p.from p.to k ∷ x) h.same);
-          })
+            before.clean (lex before.notes p.from p.to k ∷ ts) (record {
+              pieces = p ∷ h.pieces;
+              read = Further at p h.pieces None next (other more.0) h.read;
+              same = rw now (ap (λ x. lex before.notes p.from p.to k ∷ x) h.same);
+            })
       ];
       fault = λ f n h. before.fault f (p ∷ h.0, Further at p h.0 (Some f) next (other n) h.1);
     }

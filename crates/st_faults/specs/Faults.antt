@@ -8,6 +8,7 @@ use Rattle.grammar_model.specs.Lexemes.{IsLexed}
 use Rattle.grammar_model.specs.Checks as grammar
 use Rattle.grammar_model.specs.Checks.{Fault, first_deep}
 use Rattle.grammar_model.specs.Spelling.{HasFirstFault}
+use Rattle.st_faults.specs.Lexing.{HasLexFault}
 use Rattle.st_faults.specs.declared.fault.ParseFault.{ParseFault}
 use Rattle.st_faults.specs.declared.fault.ParseFault.TheVariants.{Lexical, Expected, AssignsFixed, TooDeep, PrimitiveInUser, DuplicateName, Memory}
 
@@ -30,6 +31,12 @@ pub record IsClean (text : Text) : Type 0 where
   pub tokens : List Lexeme
   pub lexed : IsLexed Second text tokens
   pub shallow : first_deep 0 tokens ≡ None
+
+-- the fault is the first lexical one, or, in a text without, the first bracket that opens where 400 stand open
+abbrev pub IsUnclean : Text → ParseFault → Type 0
+IsUnclean text (Lexical fault) = HasLexFault text 0 fault
+IsUnclean text (TooDeep at) = (tokens : List Lexeme) × IsLexed Second text tokens × (first_deep 0 tokens ≡ Some at)
+IsUnclean text answer = ⊥
 
 -- the text is clean, and its tokens are a text of the form
 pub record IsRead (form : Form) (text : Text) : Type 0 where

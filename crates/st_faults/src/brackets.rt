@@ -1,4 +1,4 @@
-ghost use Rattle.std.specs.Prelude.{◌≡◌, ◌≢◌, List, [], ◌∷◌, IfOk, IfErr};
+ghost use Rattle.std.specs.Prelude.{◌≡◌, List, [], ◌∷◌, IfOk, IfErr};
 ghost use Rattle.token_model.specs.declared.kind.Dialect.TheVariants.{Second};
 ghost use Rattle.tree_model.specs.Tree.{Notes, LiteralOf};
 ghost use Rattle.grammar_model.specs.Terminal.{Text};
@@ -6,11 +6,10 @@ ghost use Rattle.grammar_model.specs.Input as input;
 ghost use Rattle.grammar_model.specs.Input.{lex};
 ghost use Rattle.grammar_model.specs.Lexemes.{IsLexed};
 ghost use Rattle.grammar_model.specs.Checks.{first_deep};
-ghost use Rattle.grammar_model.specs.Whole.{Form};
 ghost use Rattle.st_faults.specs.Sorts.{terminal};
 ghost use Rattle.st_faults.specs.Lexing.{HasLexFault};
 ghost use Rattle.st_faults.specs.Depths.{deep_behind};
-ghost use Rattle.st_faults.specs.Faults.{IsClean, IsRefused};
+ghost use Rattle.st_faults.specs.Faults.{IsClean, IsUnclean};
 
 use crate::fault::ParseFault;
 use crate::lexeme::{Lexeme, next_lexeme};
@@ -38,14 +37,20 @@ fn depth_behind(depth: Depth, lexeme: Lexeme) -> Depth
         return depth;
     };
     match lexeme.sort {
-        Sort::GroupStart | Sort::BlockStart | Sort::BraceStart | Sort::ArrayStart | Sort::BytesStart => {
+        Sort::GroupStart
+        | Sort::BlockStart
+        | Sort::BraceStart
+        | Sort::ArrayStart
+        | Sort::BytesStart => {
             if open < MOST_OPEN {
                 Depth::Open(open + 1)
             } else {
                 Depth::TooDeep(lexeme.from)
             }
         }
-        Sort::GroupEnd | Sort::BlockEnd | Sort::BraceEnd | Sort::TextEnd => Depth::Open(open.saturating_sub(1)),
+        Sort::GroupEnd | Sort::BlockEnd | Sort::BraceEnd | Sort::TextEnd => Depth::Open(
+            open.saturating_sub(1),
+        ),
         _ => depth,
     }
 }
@@ -72,8 +77,7 @@ fn whole_depth(text: &[u8]) -> Result<Depth, LexFault>
 /// in the text.
 pub fn scan(text: &[u8]) -> Result<(), ParseFault>
     ensures clean { IfOk result (λ _. IsClean text.now) }
-    ensures fault { IfErr result (λ fault. (form : Form) → IsRefused form text.now fault) }
-    ensures memory { IfErr result (λ fault. fault ≢ ParseFault.Memory) }
+    ensures fault { IfErr result (IsUnclean text.now) }
 {
     match whole_depth(text) {
         Err(fault) => Err(ParseFault::Lexical(fault)),

@@ -15,6 +15,8 @@ mod part;
 mod sequences;
 mod sort;
 mod stack;
+#[cfg(test)]
+mod tests;
 mod wishes;
 
 pub use brackets::scan;
@@ -22,6 +24,5 @@ pub use check::{check_doit, check_method};
 pub use fault::{ParseFault, word_of};
 pub use grammar_model::Wanted;
 pub use lexeme::{Lexeme, next_lexeme};
-
 pub use sort::Sort;
 pub use token_model::LexFault;

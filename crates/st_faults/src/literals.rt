@@ -54,7 +54,10 @@ pub fn literal_move(part: LiteralPart, sort: Sort) -> Move
         },
         LiteralPart::Elements => elements(sort),
         LiteralPart::Bytes => match sort {
-            Sort::SmallNumeral | Sort::LargeNumeral => reads(Some(Part::Literal(LiteralPart::Bytes)), None),
+            Sort::SmallNumeral | Sort::LargeNumeral => reads(
+                Some(Part::Literal(LiteralPart::Bytes)),
+                None,
+            ),
             _ => Move::Passes,
         },
     }

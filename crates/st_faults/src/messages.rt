@@ -42,7 +42,9 @@ fn unary_of_keyword(sort: Sort) -> Move
 {
     match sort {
         Sort::Name | Sort::Super => reads(Some(Part::Message(MessagePart::UnaryOfKeyword)), None),
-        Sort::Binary | Sort::Sign | Sort::Less | Sort::Greater | Sort::Bar => binary(MessagePart::BinaryOfKeyword),
+        Sort::Binary | Sort::Sign | Sort::Less | Sort::Greater | Sort::Bar => binary(
+            MessagePart::BinaryOfKeyword,
+        ),
         _ => Move::Passes,
     }
 }
@@ -52,7 +54,9 @@ fn binary_of_keyword(sort: Sort) -> Move
     ensures { Does result sort (λ ss k. step (BinaryOfKeyword ∷ ss) k) }
 {
     match sort {
-        Sort::Binary | Sort::Sign | Sort::Less | Sort::Greater | Sort::Bar => binary(MessagePart::BinaryOfKeyword),
+        Sort::Binary | Sort::Sign | Sort::Less | Sort::Greater | Sort::Bar => binary(
+            MessagePart::BinaryOfKeyword,
+        ),
         _ => Move::Passes,
     }
 }
@@ -63,7 +67,9 @@ fn unary_messages(told: bool, sort: Sort) -> Move
 {
     match sort {
         Sort::Name | Sort::Super => reads(Some(Part::Message(MessagePart::Unary(true))), None),
-        Sort::Binary | Sort::Sign | Sort::Less | Sort::Greater | Sort::Bar => binary(MessagePart::Binary(true)),
+        Sort::Binary | Sort::Sign | Sort::Less | Sort::Greater | Sort::Bar => binary(
+            MessagePart::Binary(true),
+        ),
         Sort::Keyword | Sort::PrimitiveKeyword => keyword(MessagePart::Keyword(true)),
         Sort::Semicolon if told => reads(Some(Part::Message(MessagePart::InCascade)), None),
         Sort::Semicolon => Move::Refuses,
@@ -76,7 +82,9 @@ fn binary_messages(told: bool, sort: Sort) -> Move
     ensures { Does result sort (λ ss k. step (BinaryMessages told ∷ ss) k) }
 {
     match sort {
-        Sort::Binary | Sort::Sign | Sort::Less | Sort::Greater | Sort::Bar => binary(MessagePart::Binary(true)),
+        Sort::Binary | Sort::Sign | Sort::Less | Sort::Greater | Sort::Bar => binary(
+            MessagePart::Binary(true),
+        ),
         Sort::Keyword | Sort::PrimitiveKeyword => keyword(MessagePart::Keyword(true)),
         Sort::Semicolon if told => reads(Some(Part::Message(MessagePart::InCascade)), None),
         Sort::Semicolon => Move::Refuses,
@@ -102,7 +110,9 @@ fn in_cascade(sort: Sort) -> Move
 {
     match sort {
         Sort::Name | Sort::Super => reads(Some(Part::Message(MessagePart::BehindInCascade)), None),
-        Sort::Binary | Sort::Sign | Sort::Less | Sort::Greater | Sort::Bar => binary(MessagePart::BehindInCascade),
+        Sort::Binary | Sort::Sign | Sort::Less | Sort::Greater | Sort::Bar => binary(
+            MessagePart::BehindInCascade,
+        ),
         Sort::Keyword | Sort::PrimitiveKeyword => keyword(MessagePart::Keyword(true)),
         _ => Move::Refuses,
     }

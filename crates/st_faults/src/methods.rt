@@ -23,8 +23,14 @@ fn pattern(kernel: bool, sort: Sort) -> Move
 {
     match sort {
         Sort::Name | Sort::Super => reads(Some(body(kernel)), None),
-        Sort::Binary | Sort::Sign | Sort::Less | Sort::Greater | Sort::Bar => reads(Some(Part::Method(MethodPart::BinaryName(kernel))), None),
-        Sort::Keyword | Sort::PrimitiveKeyword => reads(Some(Part::Method(MethodPart::KeywordName(kernel))), None),
+        Sort::Binary | Sort::Sign | Sort::Less | Sort::Greater | Sort::Bar => reads(
+            Some(Part::Method(MethodPart::BinaryName(kernel))),
+            None,
+        ),
+        Sort::Keyword | Sort::PrimitiveKeyword => reads(
+            Some(Part::Method(MethodPart::KeywordName(kernel))),
+            None,
+        ),
         _ => Move::Refuses,
     }
 }
@@ -44,7 +50,10 @@ fn keyword_name(kernel: bool, sort: Sort) -> Move
     ensures { Does result sort (λ ss k. step (KeywordName kernel ∷ ss) k) }
 {
     match sort {
-        Sort::Name | Sort::Super => reads(Some(Part::Method(MethodPart::PatternRest(kernel))), None),
+        Sort::Name | Sort::Super => reads(
+            Some(Part::Method(MethodPart::PatternRest(kernel))),
+            None,
+        ),
         _ => Move::Refuses,
     }
 }
@@ -54,7 +63,10 @@ fn pattern_rest(kernel: bool, sort: Sort) -> Move
     ensures { Does result sort (λ ss k. step (PatternRest kernel ∷ ss) k) }
 {
     match sort {
-        Sort::Keyword | Sort::PrimitiveKeyword => reads(Some(Part::Method(MethodPart::KeywordName(kernel))), None),
+        Sort::Keyword | Sort::PrimitiveKeyword => reads(
+            Some(Part::Method(MethodPart::KeywordName(kernel))),
+            None,
+        ),
         _ => begin_body(kernel, sort, Move::Passes),
     }
 }
@@ -110,7 +122,10 @@ pub fn closing_move(part: ClosingPart, sort: Sort) -> Move
     ensures { Does result sort (λ ss k. step (closing_part part ∷ ss) k) }
 {
     match (part, sort) {
-        (ClosingPart::Group, Sort::GroupEnd) | (ClosingPart::Block, Sort::BlockEnd) | (ClosingPart::Brace, Sort::BraceEnd) | (ClosingPart::Text, Sort::TextEnd) => reads(None, None),
+        (ClosingPart::Group, Sort::GroupEnd)
+        | (ClosingPart::Block, Sort::BlockEnd)
+        | (ClosingPart::Brace, Sort::BraceEnd)
+        | (ClosingPart::Text, Sort::TextEnd) => reads(None, None),
         _ => Move::Refuses,
     }
 }

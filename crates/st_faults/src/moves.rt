@@ -2,7 +2,9 @@ ghost use Rattle.std.specs.Prelude.{◌≡◌, Some, None};
 ghost use Rattle.grammar_model.specs.Machine.{begin_operand, begin_expression, begin_statement, begin_sequence, begin_body};
 ghost use Rattle.st_faults.specs.Moves.{put, moved, Does, only};
 
-use crate::part::{ClosingPart, ExpressionPart, LiteralPart, MessagePart, MethodPart, Part, SequencePart};
+use crate::part::{
+    ClosingPart, ExpressionPart, LiteralPart, MessagePart, MethodPart, Part, SequencePart,
+};
 use crate::sort::Sort;
 
 /// Parts that take the place of the one that read a token, in the order in which they come.
@@ -43,12 +45,29 @@ pub fn begin_operand(sort: Sort, below: Option<Part>, behind: Option<Part>, othe
 {
     let (inside, end) = match sort {
         Sort::Sign => (Some(Part::Literal(LiteralPart::Numeral)), None),
-        Sort::SmallNumeral | Sort::LargeNumeral | Sort::OtherNumeral | Sort::Constant => (None, None),
-        Sort::GroupStart => (Some(Part::Expression(ExpressionPart::Whole)), Some(Part::Awaits(ClosingPart::Group))),
-        Sort::BlockStart => (Some(Part::Sequence(SequencePart::Block)), Some(Part::Awaits(ClosingPart::Block))),
-        Sort::BraceStart => (Some(Part::Sequence(SequencePart::Items)), Some(Part::Awaits(ClosingPart::Brace))),
-        Sort::ArrayStart => (Some(Part::Literal(LiteralPart::Elements)), Some(Part::Awaits(ClosingPart::Group))),
-        Sort::BytesStart => (Some(Part::Literal(LiteralPart::Bytes)), Some(Part::Awaits(ClosingPart::Block))),
+        Sort::SmallNumeral | Sort::LargeNumeral | Sort::OtherNumeral | Sort::Constant => (
+            None, None,
+        ),
+        Sort::GroupStart => (
+            Some(Part::Expression(ExpressionPart::Whole)),
+            Some(Part::Awaits(ClosingPart::Group)),
+        ),
+        Sort::BlockStart => (
+            Some(Part::Sequence(SequencePart::Block)),
+            Some(Part::Awaits(ClosingPart::Block)),
+        ),
+        Sort::BraceStart => (
+            Some(Part::Sequence(SequencePart::Items)),
+            Some(Part::Awaits(ClosingPart::Brace)),
+        ),
+        Sort::ArrayStart => (
+            Some(Part::Literal(LiteralPart::Elements)),
+            Some(Part::Awaits(ClosingPart::Group)),
+        ),
+        Sort::BytesStart => (
+            Some(Part::Literal(LiteralPart::Bytes)),
+            Some(Part::Awaits(ClosingPart::Block)),
+        ),
         _ => return otherwise,
     };
     Move::Reads(Parts {
@@ -66,7 +85,12 @@ pub fn begin_expression(sort: Sort, behind: Option<Part>, otherwise: Move) -> Mo
     match sort {
         Sort::Name => reads(Some(Part::Expression(ExpressionPart::BehindName)), behind),
         Sort::Super => reads(Some(Part::Expression(ExpressionPart::BehindSuper)), behind),
-        _ => begin_operand(sort, Some(Part::Message(MessagePart::Unary(false))), behind, otherwise),
+        _ => begin_operand(
+            sort,
+            Some(Part::Message(MessagePart::Unary(false))),
+            behind,
+            otherwise,
+        ),
     }
 }
 
@@ -80,7 +104,11 @@ pub fn begin_statement(sort: Sort, otherwise: Move) -> Move
             Some(Part::Expression(ExpressionPart::Whole)),
             Some(Part::Sequence(SequencePart::BehindReturn)),
         ),
-        _ => begin_expression(sort, Some(Part::Sequence(SequencePart::BehindStatement)), otherwise),
+        _ => begin_expression(
+            sort,
+            Some(Part::Sequence(SequencePart::BehindStatement)),
+            otherwise,
+        ),
     }
 }
 

@@ -10,7 +10,8 @@ fn expression_wish(part: ExpressionPart) -> Option<Wanted>
     ensures { IsWishOf result (expression_part part) }
 {
     match part {
-        ExpressionPart::Whole | ExpressionPart::BinaryArgument | ExpressionPart::KeywordArgument => Some(Wanted::Operand),
+        ExpressionPart::Whole | ExpressionPart::BinaryArgument | ExpressionPart::KeywordArgument =>
+            Some(Wanted::Operand),
         ExpressionPart::BehindName => None,
         ExpressionPart::BehindSuper | ExpressionPart::BehindSuperOfKeyword => Some(Wanted::End),
         ExpressionPart::BehindSuperOfBinary => Some(Wanted::Identifier),
@@ -42,7 +43,10 @@ fn sequence_wish(part: SequencePart) -> Option<Wanted>
     ensures { IsWishOf result (sequence_part part) }
 {
     match part {
-        SequencePart::Items | SequencePart::Block | SequencePart::Whole | SequencePart::Statements => Some(Wanted::Operand),
+        SequencePart::Items
+        | SequencePart::Block
+        | SequencePart::Whole
+        | SequencePart::Statements => Some(Wanted::Operand),
         SequencePart::Parameter => Some(Wanted::Identifier),
         SequencePart::Names => Some(Wanted::End),
         _ => None,

@@ -8,11 +8,11 @@ tokens-init c = record { inside = omega arith; scanned = scanned_none c.args.tex
 pub returns-in-TextEnd-clause-depth : goal.returns-in-TextEnd-clause-depth
 returns-in-TextEnd-clause-depth c =
     scanned_last c.args.text.now c.tokens.place c.in_ok-lexeme.lexeme c.tokens.depth c.depth_behind-depth.result
-      c.tokens.invariant.scanned c.in_ok-lexeme.ensures.first c.in-TextEnd.is c.depth_behind-depth.ensures
+    c.tokens.invariant.scanned c.in_ok-lexeme.ensures.first c.in-TextEnd.is c.depth_behind-depth.ensures
 
 pub tokens-preserved : goal.tokens-preserved
 tokens-preserved c = record {
   inside = c.in_ok-lexeme.ensures.inside;
   scanned = scanned_one c.args.text.now c.tokens.place c.in_ok-lexeme.lexeme c.tokens.depth c.depth_behind-depth.result
-    c.tokens.invariant.scanned c.in_ok-lexeme.ensures.first c.in_default.not-TextEnd c.depth_behind-depth.ensures;
+      c.tokens.invariant.scanned c.in_ok-lexeme.ensures.first c.in_default.not-TextEnd c.depth_behind-depth.ensures;
 }

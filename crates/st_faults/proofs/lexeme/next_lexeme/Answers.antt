@@ -15,12 +15,15 @@ returns-in_err-token-clause-fault c =
 pub returns-in-Some-clause-first : goal.returns-in-Some-clause-first
 returns-in-Some-clause-first c =
     first_is c.args.text.now c.args.at c.comments.place (piece c.in_ok-token.token) c.in-Some.sort c.in_ok-token.token.text.now _ _ c.begins_digit-before_numeral.result
-      c.comments.invariant.skipped c.in_ok-token.ensures.token c.in_ok-token.ensures.text c.begins_digit-before_numeral.ensures c.in-Some.ensures
+    c.comments.invariant.skipped c.in_ok-token.ensures.token c.in_ok-token.ensures.text c.begins_digit-before_numeral.ensures c.in-Some.ensures
 
 pub returns-in-Some-clause-further : goal.returns-in-Some-clause-further
 returns-in-Some-clause-further c = λ other.
-    omega (arith, c.comments.invariant.order,
-      goes_further c.args.text.now c.comments.place (piece c.in_ok-token.token) c.in_ok-token.ensures.token (λ end. other (end_has_sort c.in_ok-token.token.kind c.in_ok-token.token.text.now _ c.begins_digit-before_numeral.result c.in-Some.sort _ c.in-Some.ensures end)))
+    omega (
+      arith,
+      c.comments.invariant.order,
+      goes_further c.args.text.now c.comments.place (piece c.in_ok-token.token) c.in_ok-token.ensures.token (λ end. other (end_has_sort c.in_ok-token.token.kind c.in_ok-token.token.text.now _ c.begins_digit-before_numeral.result c.in-Some.sort _ c.in-Some.ensures end)),
+    )
 
 pub comments-preserved : goal.comments-preserved
 comments-preserved c =

@@ -15,15 +15,17 @@ pub loop-count-preserved : goal.loop-count-preserved
 loop-count-preserved c = record {
   inside = omega arith;
   same = λ s t.
-    c.loop-count.invariant.same s t ∙
-    ap (λ ss. step ss (terminal c.args.sort s t)) (stack_of-take c.args.stack.now c.loop-count.count _ c.loop-count-test.true c.loop-count.invariant.inside) ∙
-    c.in-Passes.ensures s t (stack_of (take (c.loop-count.count - 1) c.args.stack.now));
+      c.loop-count.invariant.same s t ∙
+      ap (λ ss. step ss (terminal c.args.sort s t)) (stack_of-take c.args.stack.now c.loop-count.count _ c.loop-count-test.true c.loop-count.invariant.inside) ∙
+      c.in-Passes.ensures s t (stack_of (take (c.loop-count.count - 1) c.args.stack.now));
 }
 
 pub returns-in-Reads : goal.returns-in-Reads
 returns-in-Reads c =
-    let below : c.loop-count.count - 1 < length c.args.stack.now = omega (arith, c.loop-count.invariant.inside) in
-    (below, λ s t.
-      c.loop-count.invariant.same s t ∙
-      ap (λ ss. step ss (terminal c.args.sort s t)) (stack_of-take c.args.stack.now c.loop-count.count _ c.loop-count-test.true c.loop-count.invariant.inside) ∙
-      c.in-Reads.ensures s t (stack_of (take (c.loop-count.count - 1) c.args.stack.now)))
+    let below : c.loop-count.count - 1 < length c.args.stack.now = omega (arith, c.loop-count.invariant.inside) in (
+      below,
+      λ s t.
+          c.loop-count.invariant.same s t ∙
+          ap (λ ss. step ss (terminal c.args.sort s t)) (stack_of-take c.args.stack.now c.loop-count.count _ c.loop-count-test.true c.loop-count.invariant.inside) ∙
+          c.in-Reads.ensures s t (stack_of (take (c.loop-count.count - 1) c.args.stack.now)),
+    )
