@@ -1,17 +1,15 @@
 -- Tokens of a clean text that the machine of the grammar reads.
-use Rattle.std.proofs.Common.{◌≡◌, ◌≢◌, ℕ, ◌≤◌, inl, inr, List, [], ◌∷◌, Some, None, length, refl, sym, ◌∙◌, ap, subst}
-use Rattle.std.specs.Prelude.{Option, MatchOption}
+use Rattle.std.proofs.Common.{◌≡◌, ◌≢◌, ℕ, inl, inr, List, [], ◌∷◌, Some, None, refl, sym, ◌∙◌, ap, subst}
 use Rattle.std.specs.Option.{option_map_or}
 use Rattle.token_model.specs.declared.kind.Dialect.TheVariants.{Second}
-use Rattle.grammar_model.specs.Terminal.{Text, Terminal, Closes}
-use Rattle.grammar_model.specs.Terminal as grammar
+use Rattle.grammar_model.specs.Terminal.{Text}
 use Rattle.grammar_model.specs.Input as input
 use Rattle.grammar_model.specs.Input.{lex}
 use Rattle.grammar_model.specs.Lexemes.{IsLexed}
 use Rattle.grammar_model.specs.Whole.{Form}
-use Rattle.grammar_model.specs.Checks.{Fault, first_deep}
+use Rattle.grammar_model.specs.Checks.{first_deep}
 use Rattle.grammar_model.specs.Spelling.{HasFirstFault, InGrammar}
-use Rattle.grammar_model.specs.Machine.{Stack, start, step, run, wish, may_start, Wrong, At, fault_at}
+use Rattle.grammar_model.specs.Machine.{Stack, start, step, run, wish, may_start, At, fault_at}
 use Rattle.grammar_model.proofs.Stacks.{IsNil, IsGood, GoodIfSome}
 use Rattle.grammar_model.proofs.Steps.{good_step, EmptyIfSome, good_end}
 use Rattle.grammar_model.proofs.Stops.{good_start, first_fault}
@@ -20,9 +18,9 @@ use Rattle.st_faults.specs.declared.sort.Sort.TheVariants.{TextEnd}
 use Rattle.st_faults.specs.declared.lexeme.Lexeme.{Lexeme}
 use Rattle.st_faults.specs.declared.fault.ParseFault.{ParseFault}
 use Rattle.st_faults.specs.Sorts.{terminal}
-use Rattle.st_faults.specs.Lexing.{IsLexedFrom, IsBehind, IsFirst}
+use Rattle.st_faults.specs.Lexing.{IsLexedFrom, IsBehind}
 use Rattle.st_faults.specs.Faults.{IsClean, IsRead, IsRefused, fault_of}
-use Rattle.st_faults.proofs.Passing.{Split, split}
+use Rattle.st_faults.proofs.Passing.{Split}
 
 -- the tokens before a place led the machine to a stack
 pub record Reading (form : Form) (t : Text) (at : ℕ) (ss : Stack) : Type 0 where
@@ -74,6 +72,7 @@ reads_one form t at l ss new r s other e = record {
   good = subst GoodIfSome e (good_step ss (terminal l.sort s.text s.literal) r.good);
 }
 
+-- where nothing is left to come, all is well
 run_nil : (ss : Stack) → IsNil ss → run ss [] ≡ None
 run_nil [] n = refl
 run_nil (p ∷ ss) n = absurd n

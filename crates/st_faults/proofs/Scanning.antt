@@ -1,5 +1,5 @@
 -- Tokens that were read for their brackets.
-use Rattle.std.proofs.Common.{◌≡◌, ◌≢◌, ℕ, List, [], ◌∷◌, refl, sym, ◌∙◌, inl, inr}
+use Rattle.std.proofs.Common.{◌≡◌, ◌≢◌, ℕ, List, [], ◌∷◌, refl, ◌∙◌, inl, inr}
 use Rattle.token_model.specs.declared.kind.Dialect.TheVariants.{Second}
 use Rattle.token_model.specs.declared.fault.LexFault.{LexFault}
 use Rattle.tree_model.specs.Tree.{Notes, LiteralOf}

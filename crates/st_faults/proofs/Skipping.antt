@@ -1,10 +1,8 @@
 -- Comments that are passed before a token, and the token behind them.
-use Rattle.std.proofs.Common.{◌≡◌, ◌≢◌, ℕ, ◌<◌, ◌≤◌, inl, inr, Bool, true, false, List, [], ◌∷◌, ◌++◌, Some, None, refl, sym, ◌∙◌, ap, subst, arith}
-use Rattle.std.specs.Prelude.{Option, if◌then◌else◌, slice_range, slice_index, codes}
-use Rattle.std.specs.Option.{option_map_or}
-use Rattle.std.specs.Str.{bytes_eq}
+use Rattle.std.proofs.Common.{◌≡◌, ◌≢◌, ℕ, ◌<◌, inl, inr, Bool, true, false, List, [], ◌∷◌, ◌++◌, Some, None, refl, sym, ◌∙◌, ap, arith}
+use Rattle.std.specs.Prelude.{Option, if◌then◌else◌, slice_range, slice_index}
 use Rattle.token_model.specs.Bytes.{is_digit}
-use Rattle.token_model.specs.TokenLists.{Piece, IsNext, IsNextFault, HasTokens, Ended, Stopped, Further}
+use Rattle.token_model.specs.TokenLists.{Piece, IsNext, IsNextFault, Ended, Stopped, Further}
 use Rattle.token_model.specs.declared.kind.Dialect.TheVariants.{Second}
 use Rattle.token_model.specs.declared.kind.TokenKind.{TokenKind}
 use Rattle.token_model.specs.declared.kind.TokenKind.TheVariants.{Identifier, Keyword, Binary, Comment, End}
@@ -15,10 +13,9 @@ use Rattle.grammar_model.specs.Terminal.{Text, Terminal, Closes}
 use Rattle.grammar_model.specs.Terminal as grammar
 use Rattle.grammar_model.specs.Input as input
 use Rattle.grammar_model.specs.Input.{lex}
-use Rattle.grammar_model.specs.Lexemes.{terminal_of, begins_numeral, lexemes_of}
+use Rattle.grammar_model.specs.Lexemes.{terminal_of, begins_numeral}
 use Rattle.st_faults.specs.declared.sort.Sort.{Sort}
 use Rattle.st_faults.specs.declared.sort.Sort.TheVariants.{TextEnd}
-use Rattle.st_faults.specs.declared.lexeme.Lexeme.{Lexeme}
 use Rattle.st_faults.specs.Sorts.{terminal}
 use Rattle.st_faults.specs.Lexing.{IsLexedFrom, HasLexFault, IsFirst}
 use Rattle.st_faults.proofs.Signs.{begins_numeral-digit}
@@ -57,19 +54,24 @@ skipped_one t start at p s b before next none =
 pub skipped_fault : (t : Text) (start at : ℕ) (fault : LexFault) → Skipped t start at → IsNextFault Second t at fault → HasLexFault t start fault
 skipped_fault t start at fault before h = before.fault fault ([], Stopped at fault h)
 
+-- a choice of two tokens that are not the end is not the end
 either_not_end : (c : Bool) (k l : Terminal) → (k ≡ Closes grammar.TextEnd → ⊥) → (l ≡ Closes grammar.TextEnd → ⊥) → (if c then k else l) ≡ Closes grammar.TextEnd → ⊥
 either_not_end true k l f g e = f e
 either_not_end false k l f g e = g e
 
+-- what is there is the same
 some_same : (k l : Terminal) → let o : Option Terminal = Some k in o ≡ Some l → k ≡ l
 some_same k l e = cc
 
+-- an identifier is not the end
 name_not_end : (c : grammar.NameKind) (s : Text) → grammar.Name c s ≡ Closes grammar.TextEnd → ⊥
 name_not_end c s e = cc
 
+-- a keyword is not the end
 keyword_not_end : (c : grammar.KeywordKind) (s : Text) → grammar.Keyword c s ≡ Closes grammar.TextEnd → ⊥
 keyword_not_end c s e = cc
 
+-- a binary selector is not the end
 binary_not_end : (c : grammar.BinaryKind) (s : Text) → grammar.Binary c s ≡ Closes grammar.TextEnd → ⊥
 binary_not_end c s e = cc
 
@@ -84,6 +86,7 @@ end_kind Binary s b e =
     absurd (either_not_end _ _ _ (binary_not_end grammar.Sign s) less (some_same _ _ e))
 end_kind k s b e = cc
 
+-- the end has the sort of the end
 end_sort : (sort : Sort) (s : Text) (l : LiteralOf Text) → Closes grammar.TextEnd ≡ terminal sort s l → sort ≡ TextEnd
 end_sort TextEnd s l e = refl
 end_sort sort s l e = cc

@@ -1,5 +1,5 @@
 -- Parts on a stack.
-use Rattle.std.proofs.Common.{◌≡◌, ℕ, ◌+◌, ◌-◌, ◌<◌, ◌≤◌, List, [], ◌∷◌, ◌++◌, length, take, refl, sym, ap, ◌∙◌, arith}
+use Rattle.std.proofs.Common.{◌≡◌, ℕ, ◌+◌, ◌-◌, ◌<◌, ◌≤◌, List, [], ◌∷◌, ◌++◌, length, take, refl, ap, ◌∙◌, arith}
 use Rattle.std.proofs.Math.ListN.{get_or}
 use Rattle.std.proofs.lemmas.List.{take_more}
 use Rattle.grammar_model.specs.Machine.{Stack}
@@ -7,6 +7,7 @@ use Rattle.st_faults.specs.declared.part.Part.{Part}
 use Rattle.st_faults.specs.Moves.{part_of}
 use Rattle.st_faults.specs.Stacks.{stacked, stack_of}
 
+-- one more part above these
 stacked-push : (ps : List Part) (p : Part) (ss : Stack) → stacked ss (ps ++ p ∷ []) ≡ part_of p ∷ stacked ss ps
 stacked-push [] p ss = refl
 stacked-push (q ∷ ps) p ss = stacked-push ps p (part_of q ∷ ss)

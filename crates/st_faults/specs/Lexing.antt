@@ -3,10 +3,10 @@ use Rattle.std.specs.Prelude.{◌≡◌, ◌≢◌, ℕ, ◌⊎◌, List, [], �
 use Rattle.token_model.specs.TokenLists.{Piece, HasTokens}
 use Rattle.token_model.specs.declared.kind.Dialect.TheVariants.{Second}
 use Rattle.token_model.specs.declared.kind.TokenKind.{TokenKind}
-use Rattle.token_model.specs.declared.kind.TokenKind.TheVariants.{String, Character, Symbol}
+use Rattle.token_model.specs.declared.kind.TokenKind.TheVariants.{Character, Symbol}
 use Rattle.token_model.specs.declared.fault.LexFault.{LexFault}
 use Rattle.tree_model.specs.Tree.{Notes, LiteralOf, str, symbol, char}
-use Rattle.grammar_model.specs.Terminal.{Text, Terminal}
+use Rattle.grammar_model.specs.Terminal.{Text}
 use Rattle.grammar_model.specs.Input as input
 use Rattle.grammar_model.specs.Input.{lex}
 use Rattle.grammar_model.specs.Lexemes.{unquoted, symbol_text, lexemes_of}

@@ -1,5 +1,5 @@
 -- What the machine of the grammar does with one token, as the program has it.
-use Rattle.std.specs.Prelude.{◌≡◌, Bool, List, [], ◌∷◌, Option, Some, None}
+use Rattle.std.specs.Prelude.{◌≡◌, Bool, ◌∷◌, Option, Some, None}
 use Rattle.tree_model.specs.Tree.{LiteralOf}
 use Rattle.grammar_model.specs.Terminal.{Text, Terminal}
 use Rattle.grammar_model.specs.Terminal as grammar

@@ -1,5 +1,5 @@
 -- The stack of the machine, as the program holds it: the part that comes next is the last one.
-use Rattle.std.specs.Prelude.{◌≡◌, ◌<◌, ◌≤◌, ℕ, Bool, true, false, List, [], ◌∷◌, length, take, Option, Some, None}
+use Rattle.std.specs.Prelude.{◌≡◌, ◌<◌, Bool, true, false, List, [], ◌∷◌, length, take, Option, Some, None}
 use Rattle.tree_model.specs.Tree.{LiteralOf}
 use Rattle.grammar_model.specs.Terminal.{Text}
 use Rattle.grammar_model.specs.Machine.{Stack, step}

@@ -3,8 +3,6 @@ use Rattle.std.specs.Prelude.{◌≡◌, ◌∷◌, Option, Some, None}
 use Rattle.grammar_model.specs.declared.wanted.Wanted.{Wanted}
 use Rattle.grammar_model.specs.Machine as machine
 use Rattle.grammar_model.specs.Machine.{Stack, wish}
-use Rattle.st_faults.specs.declared.part.Part.{Part}
-use Rattle.st_faults.specs.Moves.{part_of}
 
 -- what is wanted, or what is wanted where the part behind comes next
 abbrev pub wanted_or : Option Wanted → Wanted → Wanted

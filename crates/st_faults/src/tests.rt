@@ -232,6 +232,7 @@ fn tokens_and_words(rt: HostRuntime) {
         (Sort::Less, 27, 28),
         (Sort::TextEnd, 28, 28),
     ] {
+        assert!(rt; place <= text.len());
         match next_lexeme(text, place) {
             Ok(lexeme) => {
                 assert!(rt; (lexeme.sort, lexeme.from, lexeme.to) == (sort, from, to));

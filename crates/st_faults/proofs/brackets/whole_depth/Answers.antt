@@ -1,4 +1,4 @@
-use Rattle.std.proofs.Common.{◌≤◌, arith}
+use Rattle.std.proofs.Common.{arith}
 use Rattle.st_faults.proofs.Scanning.{scanned_none, scanned_one, scanned_last}
 use Rattle.st_faults.proofs.brackets.whole_depth.Goals as goal
 

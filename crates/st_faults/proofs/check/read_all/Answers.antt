@@ -2,7 +2,7 @@ use Rattle.std.proofs.Common.{◌≡◌, ◌∙◌, []}
 use Rattle.st_faults.specs.Stacks.{stack_of}
 use Rattle.st_faults.specs.Forms.{form_of}
 use Rattle.st_faults.proofs.Passing.{no_fault, split}
-use Rattle.st_faults.proofs.Reading.{reads_none, reads_one, reads_last, reads_no_more}
+use Rattle.st_faults.proofs.Reading.{reads_one, reads_last, reads_no_more}
 use Rattle.st_faults.proofs.check.read_all.Goals as goal
 
 pub returns-in_err-lexeme-clause-fault : goal.returns-in_err-lexeme-clause-fault

@@ -1,4 +1,4 @@
-use Rattle.std.proofs.Common.{◌≡◌, arith}
+use Rattle.std.proofs.Common.{arith}
 use Rattle.std.proofs.lemmas.Result.{err_from_is_err_and}
 use Rattle.st_lexer.specs.Pieces.{piece}
 use Rattle.st_faults.proofs.Skipping.{skipped_none, skipped_one, skipped_fault, first_is, end_has_sort, goes_further, comment_further}

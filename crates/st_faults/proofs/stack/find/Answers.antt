@@ -1,4 +1,4 @@
-use Rattle.std.proofs.Common.{◌≡◌, ◌-◌, ◌<◌, length, ap, ◌∙◌, take, arith}
+use Rattle.std.proofs.Common.{◌-◌, ◌<◌, length, ap, ◌∙◌, take, arith}
 use Rattle.grammar_model.specs.Machine.{step}
 use Rattle.st_faults.specs.Sorts.{terminal}
 use Rattle.st_faults.specs.Stacks.{stack_of}

@@ -1,4 +1,4 @@
-use Rattle.std.proofs.Common.{◌≡◌, Bool, [], Some, None, ap, sym, ◌∙◌}
+use Rattle.std.proofs.Common.{◌≡◌, [], Some, None, ap, sym, ◌∙◌}
 use Rattle.std.specs.Prelude.{Option, List, is_some}
 use Rattle.tree_model.specs.Tree.{str}
 use Rattle.grammar_model.specs.Machine.{may_start}

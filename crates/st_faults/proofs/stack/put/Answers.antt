@@ -1,4 +1,4 @@
-use Rattle.std.proofs.Common.{◌≡◌, ap, ◌∙◌}
+use Rattle.std.proofs.Common.{ap, ◌∙◌}
 use Rattle.st_faults.specs.Stacks.{stack_of}
 use Rattle.st_faults.proofs.Stacked.{stack_of-push}
 use Rattle.st_faults.proofs.stack.put.Goals as goal

@@ -1,4 +1,4 @@
-use Rattle.std.proofs.Common.{◌≡◌, ◌-◌, ap, sym, ◌∙◌, take, arith}
+use Rattle.std.proofs.Common.{◌-◌, ap, sym, ◌∙◌, take, arith}
 use Rattle.grammar_model.specs.Machine.{wish}
 use Rattle.st_faults.specs.Stacks.{stack_of}
 use Rattle.st_faults.proofs.Stacked.{stack_of-take}
