@@ -17,18 +17,19 @@ use Rattle.grammar_model.specs.Lexemes.{terminal_of, begins_numeral}
 use Rattle.st_faults.specs.declared.sort.Sort.{Sort}
 use Rattle.st_faults.specs.declared.sort.Sort.TheVariants.{TextEnd}
 use Rattle.st_faults.specs.Sorts.{terminal}
-use Rattle.st_faults.specs.Lexing.{IsLexedFrom, HasLexFault, IsFirst}
+use Rattle.st_faults.specs.Lexing.{IsLexedFrom, HasLexFault, HasComments, NoComment, OneComment, IsFirst}
 use Rattle.st_faults.proofs.Signs.{begins_numeral-digit}
 
 -- from one place up to another stand comments alone
 pub record Skipped (t : Text) (start at : ℕ) : Type 0 where
   pub notes : Notes
+  pub comments : HasComments t start at
   pub clean : (ts : List input.Lexeme) → IsLexedFrom t at notes ts → IsLexedFrom t start [] ts
   pub fault : (fault : LexFault) → HasLexFault t at fault → HasLexFault t start fault
 
 -- nothing was passed
 pub skipped_none : (t : Text) (at : ℕ) → Skipped t at at
-skipped_none t at = record { notes = []; clean = λ ts h. h; fault = λ f h. h }
+skipped_none t at = record { notes = []; comments = NoComment; clean = λ ts h. h; fault = λ f h. h }
 
 -- what the grammar does not see is a comment
 comment_kind : (k : TokenKind) (s : Text) (b : Bool) → terminal_of k s b ≡ None → k ≡ Comment
@@ -42,6 +43,7 @@ skipped_one t start at p s b before next none =
     let other : p.kind ≢ End = λ e. let f : Comment ≡ End = sym kind ∙ e in cc in
     record {
       notes = before.notes ++ slice_range t p.from p.to ∷ [];
+      comments = OneComment at p before.comments next kind;
       clean = λ ts h. before.clean ts (record {
         pieces = p ∷ h.pieces;
         read = Further at p h.pieces None next other h.read;
@@ -103,6 +105,11 @@ first_is t start at p sort s u l b before next slice flag seen =
     let other : sort ≢ TextEnd → p.kind ≢ End = λ n e. n (end_has_sort p.kind s u b sort l seen e) in
     record {
       notes = before.notes;
+      kind = p.kind;
+      place = at;
+      comments = before.comments;
+      token = next;
+      seen = (λ i. terminal_of p.kind (sym slice i) (sym flag i)) ∙ seen;
       text = u;
       literal = l;
       joined = λ ts behind. elim behind [

@@ -23,6 +23,7 @@ use std::alloc::Global;
 /// What a text is to be.
 #[derive(Clone, Copy)]
 enum TextForm {
+    /// A do-it.
     DoIt,
     /// A method, of the kernel or not.
     Method(bool),

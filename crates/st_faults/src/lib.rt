@@ -1,4 +1,6 @@
-//! The first faults of a text.
+//! Whether a text is one of the grammar of Smalltalk-80: its first lexical fault, its first bracket that is too deep,
+//! or its first token that can continue no text. No tree is built and nothing recurs: a stack of what may come next is
+//! kept, which grows where a bracket opens.
 #![tactic(auto)]
 
 mod brackets;

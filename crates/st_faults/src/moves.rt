@@ -10,9 +10,13 @@ use crate::sort::Sort;
 /// Parts that take the place of the one that read a token, in the order in which they come.
 #[derive(Clone, Copy)]
 pub struct Parts {
+    /// What comes next.
     pub first: Option<Part>,
+    /// What comes behind it.
     pub second: Option<Part>,
+    /// What comes behind these two.
     pub third: Option<Part>,
+    /// What comes behind these three.
     pub fourth: Option<Part>,
 }
 

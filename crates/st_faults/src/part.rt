@@ -1,11 +1,17 @@
 /// What may come next in a text of the grammar.
 #[derive(Clone, Copy)]
 pub enum Part {
+    /// Of an expression.
     Expression(ExpressionPart),
+    /// Of messages.
     Message(MessagePart),
+    /// Of a literal.
     Literal(LiteralPart),
+    /// Of a sequence.
     Sequence(SequencePart),
+    /// Of a method.
     Method(MethodPart),
+    /// A closing mark.
     Awaits(ClosingPart),
 }
 
@@ -109,8 +115,12 @@ pub enum MethodPart {
 /// A closing mark that must come.
 #[derive(Clone, Copy)]
 pub enum ClosingPart {
+    /// `)`.
     Group,
+    /// `]`.
     Block,
+    /// `}`.
     Brace,
+    /// The end of the text.
     Text,
 }
