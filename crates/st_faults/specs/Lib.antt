@@ -6,3 +6,4 @@ pub mod Lexing
 pub mod Faults
 pub mod Depths
 pub mod Forms
+pub mod Words

@@ -1,5 +1,6 @@
 ghost use Rattle.std.specs.Prelude.{◌≡◌};
 ghost use Rattle.st_faults.specs.declared.fault.ParseFault.TheVariants as fault;
+ghost use Rattle.st_faults.specs.Words.{word};
 
 use grammar_model::Wanted;
 use rb_base::Memory;
@@ -35,7 +36,9 @@ pub enum ParseFault {
 }
 
 /// The word for what could have stood where a text is wrong.
-pub fn word_of(wanted: Wanted) -> &'static str {
+pub fn word_of(wanted: Wanted) -> &'static str
+    ensures { result.now ≡ word wanted }
+{
     match wanted {
         Wanted::Operand => "operand",
         Wanted::Identifier => "identifier",
