@@ -1,0 +1,9 @@
+use Rattle.std.proofs.Common.{◌≡◌, ◌≤◌, take}
+use Rattle.std.specs.Str.Parse.{digits_value}
+use Rattle.st_faults.proofs.numeral.is_small.Given as goal
+
+abbrev pub invariant-loop-byte : goal.invariant-loop-byte
+invariant-loop-byte l = record {
+  is : l.value ≡ digits_value 10 (take l.byte-index l.text);
+  low : l.value ≤ 65535;
+}

@@ -1,0 +1,87 @@
+ghost use Rattle.std.specs.Prelude.{◌≡◌, List, [], ◌∷◌, IfOk, IfErr};
+ghost use Rattle.token_model.specs.declared.kind.Dialect.TheVariants.{Second};
+ghost use Rattle.tree_model.specs.Tree.{Notes, LiteralOf};
+ghost use Rattle.grammar_model.specs.Terminal.{Text};
+ghost use Rattle.grammar_model.specs.Input as input;
+ghost use Rattle.grammar_model.specs.Input.{lex};
+ghost use Rattle.grammar_model.specs.Lexemes.{IsLexed};
+ghost use Rattle.grammar_model.specs.Checks.{first_deep};
+ghost use Rattle.st_faults.specs.Sorts.{terminal};
+ghost use Rattle.st_faults.specs.Lexing.{HasLexFault};
+ghost use Rattle.st_faults.specs.Depths.{deep_behind};
+ghost use Rattle.st_faults.specs.Faults.{IsClean, IsUnclean};
+
+use crate::fault::ParseFault;
+use crate::lexeme::{Lexeme, next_lexeme};
+use crate::sort::Sort;
+use token_model::LexFault;
+
+/// How many brackets may stand open.
+const MOST_OPEN: usize = 400;
+
+/// How deep the brackets are.
+#[derive(Clone, Copy)]
+enum Depth {
+    /// So many stand open.
+    Open(usize),
+    /// The bracket at this place was the first too deep one.
+    TooDeep(usize),
+}
+
+/// How deep the brackets are behind one more token.
+fn depth_behind(depth: Depth, lexeme: Lexeme) -> Depth
+    ensures { (notes : Notes) (s : Text) (l : LiteralOf Text) (ts : List input.Lexeme) →
+        deep_behind depth (lex notes lexeme.from lexeme.to (terminal lexeme.sort s l) ∷ ts) ≡ deep_behind result ts }
+{
+    let Depth::Open(open) = depth else {
+        return depth;
+    };
+    match lexeme.sort {
+        Sort::GroupStart
+        | Sort::BlockStart
+        | Sort::BraceStart
+        | Sort::ArrayStart
+        | Sort::BytesStart => {
+            if open < MOST_OPEN {
+                Depth::Open(open + 1)
+            } else {
+                Depth::TooDeep(lexeme.from)
+            }
+        }
+        Sort::GroupEnd | Sort::BlockEnd | Sort::BraceEnd | Sort::TextEnd => Depth::Open(
+            open.saturating_sub(1),
+        ),
+        _ => depth,
+    }
+}
+
+/// How deep the brackets of a text are at its end, or its first lexical fault.
+fn whole_depth(text: &[u8]) -> Result<Depth, LexFault>
+    ensures depth { IfOk result (λ depth. (tokens : List input.Lexeme) × IsLexed Second text.now tokens × (first_deep 0 tokens ≡ deep_behind depth [])) }
+    ensures fault { IfErr result (HasLexFault text.now 0) }
+{
+    let mut place = 0;
+    let mut depth = Depth::Open(0);
+    'tokens: loop {
+        let lexeme = next_lexeme(text, place)?;
+        depth = depth_behind(depth, lexeme);
+        match lexeme.sort {
+            Sort::TextEnd => return Ok(depth),
+            _ => place = lexeme.to,
+        }
+    }
+}
+
+/// Whether a text has neither a lexical fault nor too many open brackets. It is refused with the first lexical fault, or
+/// else with `TooDeep` at the first bracket that opens where 400 stand open. It takes no memory, and its time is linear
+/// in the text.
+pub fn scan(text: &[u8]) -> Result<(), ParseFault>
+    ensures clean { IfOk result (λ _. IsClean text.now) }
+    ensures fault { IfErr result (IsUnclean text.now) }
+{
+    match whole_depth(text) {
+        Err(fault) => Err(ParseFault::Lexical(fault)),
+        Ok(Depth::TooDeep(at)) => Err(ParseFault::TooDeep { at }),
+        Ok(Depth::Open(_)) => Ok(()),
+    }
+}
