@@ -53,10 +53,7 @@ choice P false x y h g = g refl
 byte_choice : (P : TokenKind → Type 0) (b n : ℕ) (x y : TokenKind) → (b ≡ n → P x) → (b ≢ n → P y) → P (if b == n then x else y)
 byte_choice P b n x y h g = choice P (b == n) x y (λ e. h (eqb-true b n e)) (λ e. g (eqb-false b n e))
 
-<<<<<<< HEAD
 -- a byte that is a mark, or begins nothing, tells its kind
-=======
->>>>>>> 725060bfb16babb1cf4268e6c1f8bc51f7cb0c16
 mark_tells : (b c : ℕ) → is_digit b ≡ false → b ≢ 35 → Tells b c (mark_of b)
 mark_tells b c digit hash =
     let P : TokenKind → Type 0 = Tells b c in
@@ -66,10 +63,7 @@ mark_tells b c digit hash =
     byte_choice P b 123 _ _ (λ e. e) (λ _. byte_choice P b 125 _ _ (λ e. e) (λ _. byte_choice P b 39 _ _ (λ e. e) (λ quote.
     byte_choice P b 34 _ _ (λ e. e) (λ double. byte_choice P b 36 _ _ (λ e. e) (λ _. (digit, hash, quote, double)))))))))))))))
 
-<<<<<<< HEAD
 -- two bytes tell the kind that they begin
-=======
->>>>>>> 725060bfb16babb1cf4268e6c1f8bc51f7cb0c16
 pub lead_tells : (b c : ℕ) → Tells b c (lead b c)
 lead_tells b c =
     let P : TokenKind → Type 0 = Tells b c in
@@ -111,10 +105,7 @@ symbol_begins d t i is hash = elim (name_or_not t (i + 1)) [
         quote_behind t i quote hash other (q, inl e) = absurd (omega (arith, hash, sym (ap (λ k. get_or t k 0) e) ∙ q))
         quote_behind t i quote hash other (q, inr e) = other (sym (ap (λ k. get_or t k 0) e.1) ∙ q)
 
-<<<<<<< HEAD
 -- a brace is a token of the second dialect, and a bad byte of the first
-=======
->>>>>>> 725060bfb16babb1cf4268e6c1f8bc51f7cb0c16
 brace_begins : (d : Dialect) (t : List ℕ) (i n : ℕ) (kind : TokenKind) → ((j : ℕ) → (d ≡ Second) → j ≡ i + 1 → IsToken d kind t i j) → ((j : ℕ) → IsToken d kind t i j → d ≡ Second) → lead (get_or t i 0) (get_or t (i + 1) 0) ≡ kind → normal kind ≡ kind → ((kind ≡ Identifier) → ⊥) → FaultsAs t i (BadByte i) → Begins d t i
 brace_begins First t i n kind token only is own word bad = faulty First kind t i (BadByte i) is own word (λ j h. let e = only j h in cc) bad
 brace_begins Second t i n kind token only is own word bad = inl (kind, i + 1, token (i + 1) refl refl)

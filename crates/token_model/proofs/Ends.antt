@@ -18,17 +18,11 @@ IsName-same t i j k h g = IsRun-same is_word t (i + 1) j k h.1 g.1
 pub identifier_or_keyword : (t : List ℕ) (i j k : ℕ) → IsIdentifier t i j → IsKeyword t i k → ⊥
 identifier_or_keyword t i j k h g = h.1 (subst (HasColon t) (IsName-same t i g.colon j g.name h.0) g.has_colon)
 
-<<<<<<< HEAD
 -- a keyword ends at one place
 pub IsKeyword-same : (t : List ℕ) (i j k : ℕ) → IsKeyword t i j → IsKeyword t i k → j ≡ k
 IsKeyword-same t i j k h g = h.end ∙ ap (λ n. n + 1) (IsName-same t i h.colon g.colon h.name g.name) ∙ sym g.end
 
 -- a binary selector ends at one place
-=======
-pub IsKeyword-same : (t : List ℕ) (i j k : ℕ) → IsKeyword t i j → IsKeyword t i k → j ≡ k
-IsKeyword-same t i j k h g = h.end ∙ ap (λ n. n + 1) (IsName-same t i h.colon g.colon h.name g.name) ∙ sym g.end
-
->>>>>>> 725060bfb16babb1cf4268e6c1f8bc51f7cb0c16
 pub IsBinary-same : (t : List ℕ) (i j k : ℕ) → IsBinary t i j → IsBinary t i k → j ≡ k
 IsBinary-same t i j k (b, inl h) (c, inl g) = h.1 ∙ sym g.1
 IsBinary-same t i j k (b, inl h) (c, inr g) = absurd (false≢true (sym g.0 ∙ h.0))
@@ -42,27 +36,18 @@ string_le t i j k h g = elim (cases_lt h.close g.close) [
   | inr le ↦ le
 ]
 
-<<<<<<< HEAD
 -- a string ends at one place
 pub IsString-same : (t : List ℕ) (i j k : ℕ) → IsString t i j → IsString t i k → j ≡ k
 IsString-same t i j k h g = omega (arith, string_le t i j k h g, string_le t i k j g h)
 
 -- no comment closes before another that opens at the same quote
-=======
-pub IsString-same : (t : List ℕ) (i j k : ℕ) → IsString t i j → IsString t i k → j ≡ k
-IsString-same t i j k h g = omega (arith, string_le t i j k h g, string_le t i k j g h)
-
->>>>>>> 725060bfb16babb1cf4268e6c1f8bc51f7cb0c16
 comment_le : (t : List ℕ) (i j k : ℕ) (h : IsComment t i j) (g : IsComment t i k) → g.close ≤ h.close
 comment_le t i j k h g = elim (cases_lt h.close g.close) [
   | inl lt ↦ absurd (g.inside h.close h.order lt h.closes)
   | inr le ↦ le
 ]
 
-<<<<<<< HEAD
 -- a comment ends at one place
-=======
->>>>>>> 725060bfb16babb1cf4268e6c1f8bc51f7cb0c16
 pub IsComment-same : (t : List ℕ) (i j k : ℕ) → IsComment t i j → IsComment t i k → j ≡ k
 IsComment-same t i j k h g = omega (arith, comment_le t i j k h g, comment_le t i k j g h)
 
@@ -109,20 +94,14 @@ exponent_same t i k l (h, inr e, d) (g, inl f, c) =
     absurd (other_byte is_digit (get_or t l 0) 45 c refl (ap (λ n. get_or t n 0) f ∙ e.0))
 exponent_same t i k l (h, inr e, d) (g, inr f, c) = e.1 ∙ sym f.1
 
-<<<<<<< HEAD
 -- an exponent ends at one place
-=======
->>>>>>> 725060bfb16babb1cf4268e6c1f8bc51f7cb0c16
 IsExponent-same : (t : List ℕ) (i j k : ℕ) → IsExponent t i j → IsExponent t i k → j ≡ k
 IsExponent-same t i j k (Scaled n h r) (Scaled m g s) = IsRun-same is_digit t n j k r (subst (λ x. IsRun is_digit t x k) (exponent_same t i m n g h) s)
 IsExponent-same t i j k (Scaled n h r) (Unscaled none e) = absurd (none n h)
 IsExponent-same t i j k (Unscaled none e) (Scaled n h r) = absurd (none n h)
 IsExponent-same t i j k (Unscaled none e) (Unscaled _ f) = e ∙ sym f
 
-<<<<<<< HEAD
 -- a numeral ends at one place
-=======
->>>>>>> 725060bfb16babb1cf4268e6c1f8bc51f7cb0c16
 pub IsNumeral-same : (t : List ℕ) (i j k : ℕ) → IsNumeral t i j → IsNumeral t i k → j ≡ k
 IsNumeral-same t i j k h g =
     let whole : g.whole ≡ h.whole = IsRun-same is_digit t (i + 1) g.whole h.whole g.digits.1 h.digits.1 in
@@ -137,10 +116,7 @@ name_kind t i j (Selector h) = Binary
 name_kind t i j (Stroke h) = Bar
 name_kind t i j (Quoted h) = String
 
-<<<<<<< HEAD
 -- a symbol's name begins as a token of its kind does
-=======
->>>>>>> 725060bfb16babb1cf4268e6c1f8bc51f7cb0c16
 lead_of_name : (t : List ℕ) (i j : ℕ) (h : IsSymbolName t i j) → lead (get_or t i 0) (get_or t (i + 1) 0) ≡ name_kind t i j h
 unfolding name_kind
 lead_of_name t i j (Name h) = lead-letter (get_or t i 0) (get_or t (i + 1) 0) h.0.0
@@ -153,10 +129,7 @@ lead_of_name t i j (Quoted h) = lead-byte 39 (get_or t i 0) (get_or t (i + 1) 0)
 name_or_row : (t : List ℕ) (i j k : ℕ) → IsIdentifier t i j → IsKeywordRow t i k → ⊥
 name_or_row t i j k h g = let first = row_first t i k g in identifier_or_keyword t i j first.0 h first.1
 
-<<<<<<< HEAD
 -- names of one kind end at one place
-=======
->>>>>>> 725060bfb16babb1cf4268e6c1f8bc51f7cb0c16
 name_same : (t : List ℕ) (i j k : ℕ) (h : IsSymbolName t i j) (g : IsSymbolName t i k) → name_kind t i j h ≡ name_kind t i k g → j ≡ k
 unfolding name_kind
 name_same t i j k (Name h) (Name g) e = IsName-same t i j k h.0 g.0
@@ -185,10 +158,7 @@ name_same t i j k (Quoted h) (Selector g) e = cc
 name_same t i j k (Quoted h) (Stroke g) e = cc
 name_same t i j k (Quoted h) (Quoted g) e = IsString-same t i j k h g
 
-<<<<<<< HEAD
 -- a symbol's name ends at one place
-=======
->>>>>>> 725060bfb16babb1cf4268e6c1f8bc51f7cb0c16
 pub IsSymbolName-same : (t : List ℕ) (i j k : ℕ) → IsSymbolName t i j → IsSymbolName t i k → j ≡ k
 IsSymbolName-same t i j k h g = name_same t i j k h g (sym (lead_of_name t i j h) ∙ lead_of_name t i k g)
 

@@ -79,10 +79,7 @@ row_within t (suc n) i j le h = elim (keyword_or_not t j) [
   | inr none ↦ (j, Last i j h none)
 ]
 
-<<<<<<< HEAD
 -- a keyword begins a row of keywords
-=======
->>>>>>> 725060bfb16babb1cf4268e6c1f8bc51f7cb0c16
 pub row_begins : (t : List ℕ) (i j : ℕ) → IsKeyword t i j → (k : ℕ) × IsKeywordRow t i k
 row_begins t i j h = row_within t (length t) i j (omega arith) h
 
@@ -107,10 +104,7 @@ string_within t (suc n) i m first lt le h = elim (cases_lt m (length t)) [
   | inr end ↦ inr (IsString-open t i m end h)
 ]
 
-<<<<<<< HEAD
 -- whether the string that opens at a quote closes
-=======
->>>>>>> 725060bfb16babb1cf4268e6c1f8bc51f7cb0c16
 pub string_or_not : (t : List ℕ) (i : ℕ) → Has t i 39 → ((j : ℕ) × IsString t i j) ⊎ ((j : ℕ) → ¬ IsString t i j)
 string_or_not t i h = string_within t (length t) i (i + 1) h (omega arith) (omega arith) (IsPaired-none t (i + 1))
 
@@ -126,10 +120,7 @@ comment_within t (suc n) i m first lt le h = elim (cases_eq (get_or t m 0) 34) [
   ])
 ]
 
-<<<<<<< HEAD
 -- whether the comment that opens at a double quote closes
-=======
->>>>>>> 725060bfb16babb1cf4268e6c1f8bc51f7cb0c16
 pub comment_or_not : (t : List ℕ) (i : ℕ) → Has t i 34 → ((j : ℕ) × IsComment t i j) ⊎ ((j : ℕ) → ¬ IsComment t i j)
 comment_or_not t i h = comment_within t (length t) i (i + 1) h (omega arith) (omega arith) (λ k low high. absurd (omega arith))
 

@@ -20,7 +20,6 @@ abbrev pub lead : ℕ → ℕ → TokenKind
 lead b c =
     if is_letter b then Identifier else (if is_digit b then Numeral else (if is_binary b then Binary else (if b == 58 then (if c == 61 then Assign else Colon) else (if b == 35 then (if c == 40 then ArrayOpen else (if c == 91 then BytesOpen else Symbol)) else mark_of b))))
 
-<<<<<<< HEAD
 -- a digit is no letter
 digit-letter : (b : ℕ) → is_digit b ≡ true → is_letter b ≡ false
 digit-letter b h = grind (arith, nat_tests)
@@ -30,14 +29,6 @@ binary-letter : (b : ℕ) → is_binary b ≡ true → is_letter b ≡ false
 binary-letter b h = grind (arith, nat_tests)
 
 -- a binary character is no digit
-=======
-digit-letter : (b : ℕ) → is_digit b ≡ true → is_letter b ≡ false
-digit-letter b h = grind (arith, nat_tests)
-
-binary-letter : (b : ℕ) → is_binary b ≡ true → is_letter b ≡ false
-binary-letter b h = grind (arith, nat_tests)
-
->>>>>>> 725060bfb16babb1cf4268e6c1f8bc51f7cb0c16
 binary-digit : (b : ℕ) → is_binary b ≡ true → is_digit b ≡ false
 binary-digit b h = grind (arith, nat_tests)
 
@@ -45,7 +36,6 @@ binary-digit b h = grind (arith, nat_tests)
 pub other_byte : (p : ℕ → Bool) (b n : ℕ) → p b ≡ true → p n ≡ false → b ≢ n
 other_byte p b n h none e = false≢true (sym none ∙ ap p (sym e) ∙ h)
 
-<<<<<<< HEAD
 -- a letter begins a word
 pub lead-letter : (b c : ℕ) → is_letter b ≡ true → lead b c ≡ Identifier
 lead-letter b c h = rw h refl
@@ -67,23 +57,6 @@ pub lead-colon : (c : ℕ) → c ≢ 61 → lead 58 c ≡ Colon
 lead-colon c h = grind (arith, nat_tests)
 
 -- # begins a symbol where no opening follows
-=======
-pub lead-letter : (b c : ℕ) → is_letter b ≡ true → lead b c ≡ Identifier
-lead-letter b c h = rw h refl
-
-pub lead-digit : (b c : ℕ) → is_digit b ≡ true → lead b c ≡ Numeral
-lead-digit b c h = rw (digit-letter b h, h) refl
-
-pub lead-binary : (b c : ℕ) → is_binary b ≡ true → lead b c ≡ Binary
-lead-binary b c h = rw (binary-letter b h, binary-digit b h, h) refl
-
-pub lead-byte : (n b c : ℕ) → b ≡ n → lead b c ≡ lead n c
-lead-byte n b c e = ap (λ x. lead x c) e
-
-pub lead-colon : (c : ℕ) → c ≢ 61 → lead 58 c ≡ Colon
-lead-colon c h = grind (arith, nat_tests)
-
->>>>>>> 725060bfb16babb1cf4268e6c1f8bc51f7cb0c16
 pub lead-symbol : (c : ℕ) → c ≢ 40 → c ≢ 91 → lead 35 c ≡ Symbol
 lead-symbol c h k = grind (arith, nat_tests)
 
@@ -96,10 +69,7 @@ IsKeywordRow-letter t i j (More _ _ _ word row) = word.name.0
 letter_symbol : (c : ℕ) → is_letter c ≡ true → lead 35 c ≡ Symbol
 letter_symbol c h = lead-symbol c (other_byte is_letter c 40 h refl) (other_byte is_letter c 91 h refl)
 
-<<<<<<< HEAD
 -- # and a symbol's name begin a symbol
-=======
->>>>>>> 725060bfb16babb1cf4268e6c1f8bc51f7cb0c16
 pub lead_of_symbol : (t : List ℕ) (i j : ℕ) → IsSymbolName t i j → lead 35 (get_or t i 0) ≡ Symbol
 lead_of_symbol t i j (Name h) = letter_symbol (get_or t i 0) h.0.0
 lead_of_symbol t i j (Keywords h) = letter_symbol (get_or t i 0) (IsKeywordRow-letter t i j h)
@@ -113,10 +83,7 @@ abbrev pub normal : TokenKind → TokenKind
 normal Keyword = Identifier
 normal k = k
 
-<<<<<<< HEAD
 -- the first two bytes of a token begin its kind
-=======
->>>>>>> 725060bfb16babb1cf4268e6c1f8bc51f7cb0c16
 pub lead_of_token : (d : Dialect) (k : TokenKind) (t : List ℕ) (i j : ℕ) → IsToken d k t i j → lead (get_or t i 0) (get_or t (i + 1) 0) ≡ normal k
 lead_of_token d Identifier t i j h = lead-letter (get_or t i 0) (get_or t (i + 1) 0) h.0.0
 lead_of_token d Keyword t i j h = lead-letter (get_or t i 0) (get_or t (i + 1) 0) h.name.0

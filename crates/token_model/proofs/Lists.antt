@@ -36,27 +36,18 @@ quote_first : (t : List ℕ) (i q : ℕ) → HasQuote t i q → (Has t i 39) ⊎
 quote_first t i q (h, inl e) = inl (sym (ap (λ n. get_or t n 0) e) ∙ h)
 quote_first t i q (h, inr e) = inr e.0
 
-<<<<<<< HEAD
 -- a string or a symbol begins with no double quote
 quote_or_comment : (t : List ℕ) (i q : ℕ) → HasQuote t i q → Has t i 34 → ⊥
 quote_or_comment t i q h g = elim (quote_first t i q h) [ inl a ↦ omega (arith, a, g) | inr a ↦ omega (arith, a, g) ]
 
 -- a string or a symbol begins with no digit
-=======
-quote_or_comment : (t : List ℕ) (i q : ℕ) → HasQuote t i q → Has t i 34 → ⊥
-quote_or_comment t i q h g = elim (quote_first t i q h) [ inl a ↦ omega (arith, a, g) | inr a ↦ omega (arith, a, g) ]
-
->>>>>>> 725060bfb16babb1cf4268e6c1f8bc51f7cb0c16
 quote_or_digit : (t : List ℕ) (i q : ℕ) → HasQuote t i q → Passes is_digit t i → ⊥
 quote_or_digit t i q h g = elim (quote_first t i q h) [
   | inl a ↦ other_byte is_digit (get_or t i 0) 39 g refl a
   | inr a ↦ other_byte is_digit (get_or t i 0) 35 g refl a
 ]
 
-<<<<<<< HEAD
 -- a double quote is no digit
-=======
->>>>>>> 725060bfb16babb1cf4268e6c1f8bc51f7cb0c16
 comment_or_digit : (t : List ℕ) (i : ℕ) → Has t i 34 → Passes is_digit t i → ⊥
 comment_or_digit t i h g = other_byte is_digit (get_or t i 0) 34 g refl h
 
@@ -79,10 +70,7 @@ FaultsAs-same t i (BadNumeral a) (OpenString b) h g = absurd (quote_or_digit t i
 FaultsAs-same t i (BadNumeral a) (OpenComment b) h g = absurd (comment_or_digit t i g.1 h.1)
 FaultsAs-same t i (BadNumeral a) (BadNumeral b) h g = ap (λ n. BadNumeral n) (h.0 ∙ sym g.0)
 
-<<<<<<< HEAD
 -- the fault behind the blanks is one
-=======
->>>>>>> 725060bfb16babb1cf4268e6c1f8bc51f7cb0c16
 pub IsNextFault-same : (d : Dialect) (t : List ℕ) (at : ℕ) (e f : LexFault) → IsNextFault d t at e → IsNextFault d t at f → e ≡ f
 IsNextFault-same d t at e f h g =
     let from : g.from ≡ h.from = IsRun-same is_blank t at g.from h.from g.blanks h.blanks in

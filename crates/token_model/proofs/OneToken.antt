@@ -21,10 +21,7 @@ IsToken-kind_same d k m t i j n h g = elim (same_normal k m (sym (lead_of_token 
   | inr (a, b) ↦ words_same d k m t i j n h g (word_kind k a) (word_kind m b)
 ]
 
-<<<<<<< HEAD
 -- at a place at most one token begins
-=======
->>>>>>> 725060bfb16babb1cf4268e6c1f8bc51f7cb0c16
 pub IsToken-same : (d : Dialect) (k m : TokenKind) (t : List ℕ) (i j n : ℕ) → IsToken d k t i j → IsToken d m t i n → (k ≡ m) × (j ≡ n)
 IsToken-same d k m t i j n h g =
     let kind = IsToken-kind_same d k m t i j n h g in

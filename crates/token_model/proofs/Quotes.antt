@@ -6,10 +6,7 @@ use Rattle.std.proofs.lemmas.Bool.{cases_lt}
 use Rattle.std.proofs.Math.Seq.{take-add, drop-cons}
 use Rattle.rb_base.specs.Doubling.{IsPaired, Empty, Byte, Pair}
 
-<<<<<<< HEAD
 -- two paired texts joined are paired
-=======
->>>>>>> 725060bfb16babb1cf4268e6c1f8bc51f7cb0c16
 pub IsPaired-append : (mark : ℕ) (a b : List ℕ) → IsPaired mark a → IsPaired mark b → IsPaired mark (a ++ b)
 IsPaired-append mark a b Empty k = k
 IsPaired-append mark a b (Byte other h) k = Byte other (IsPaired-append mark _ b h k)
@@ -46,17 +43,11 @@ slice_first t i k lt le =
     let next : suc i ≡ i + 1 = omega arith in
     ap (λ s. take (k - i) s) (drop-cons t i 0 inside ∙ ap (λ n. get_or t i 0 ∷ drop n t) next) ∙ ap (λ n. take n (get_or t i 0 ∷ drop (i + 1) t)) one
 
-<<<<<<< HEAD
 -- equal lists begin alike
 head_same : (a b : ℕ) (xs ys : List ℕ) → a ∷ xs ≡ b ∷ ys → a ≡ b
 head_same a b xs ys e = cc
 
 -- the empty list has no first element
-=======
-head_same : (a b : ℕ) (xs ys : List ℕ) → a ∷ xs ≡ b ∷ ys → a ≡ b
-head_same a b xs ys e = cc
-
->>>>>>> 725060bfb16babb1cf4268e6c1f8bc51f7cb0c16
 nil_not_cons : (a : ℕ) (xs : List ℕ) → ([] ≡ a ∷ xs) → ⊥
 nil_not_cons a xs e = cc
 

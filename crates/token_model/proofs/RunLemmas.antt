@@ -25,10 +25,7 @@ run_le p t i j k r s = elim (cases_lt k j) [
   | inr le ↦ le
 ]
 
-<<<<<<< HEAD
 -- a run ends at one place
-=======
->>>>>>> 725060bfb16babb1cf4268e6c1f8bc51f7cb0c16
 pub IsRun-same : (p : ℕ → Bool) (t : List ℕ) (i j k : ℕ) → IsRun p t i j → IsRun p t i k → j ≡ k
 IsRun-same p t i j k r s = omega (arith, run_le p t i j k r s, run_le p t i k j s r)
 

@@ -12,17 +12,11 @@ pub record IsSpan (t : List ℕ) (i j : ℕ) : Type 0 where
   pub some : i < j
   pub inside : j ≤ length t
 
-<<<<<<< HEAD
 -- one byte lies inside the text
 byte_span : (b : ℕ) (t : List ℕ) (i j : ℕ) → 0 < b → IsByte b t i j → IsSpan t i j
 byte_span b t i j p h = let l = Has-inside t i b p h.0 in record { some = omega arith; inside = omega arith }
 
 -- two bytes lie inside the text
-=======
-byte_span : (b : ℕ) (t : List ℕ) (i j : ℕ) → 0 < b → IsByte b t i j → IsSpan t i j
-byte_span b t i j p h = let l = Has-inside t i b p h.0 in record { some = omega arith; inside = omega arith }
-
->>>>>>> 725060bfb16babb1cf4268e6c1f8bc51f7cb0c16
 pair_span : (b c : ℕ) (t : List ℕ) (i j : ℕ) → 0 < c → IsBytePair b c t i j → IsSpan t i j
 pair_span b c t i j p h = let l = Has-inside t (i + 1) c p h.1 in record { some = omega arith; inside = omega arith }
 
@@ -33,53 +27,35 @@ run_span p q t i j e f h r =
     let m = IsRun-inside q t (i + 1) j f (omega arith) r in
     record { some = omega (arith, r.order); inside = m }
 
-<<<<<<< HEAD
 -- a name lies inside the text
 pub IsName-span : (t : List ℕ) (i j : ℕ) → IsName t i j → IsSpan t i j
 IsName-span t i j h = run_span is_letter is_word t i j refl refl h.0 h.1
 
 -- a keyword lies inside the text
-=======
-pub IsName-span : (t : List ℕ) (i j : ℕ) → IsName t i j → IsSpan t i j
-IsName-span t i j h = run_span is_letter is_word t i j refl refl h.0 h.1
-
->>>>>>> 725060bfb16babb1cf4268e6c1f8bc51f7cb0c16
 pub IsKeyword-span : (t : List ℕ) (i j : ℕ) → IsKeyword t i j → IsSpan t i j
 IsKeyword-span t i j h =
     let l = Has-inside t h.colon 58 (omega arith) h.has_colon.0 in
     record { some = omega (arith, IsName-span t i h.colon h.name, h.end); inside = omega (arith, h.end) }
 
-<<<<<<< HEAD
 -- a binary selector lies inside the text
-=======
->>>>>>> 725060bfb16babb1cf4268e6c1f8bc51f7cb0c16
 pub IsBinary-span : (t : List ℕ) (i j : ℕ) → IsBinary t i j → IsSpan t i j
 IsBinary-span t i j (b, inl h) =
     let l = Passes-inside is_second t (i + 1) refl h.0 in record { some = omega arith; inside = omega arith }
 IsBinary-span t i j (b, inr h) = let l = Passes-inside is_binary t i refl b in record { some = omega arith; inside = omega arith }
 
-<<<<<<< HEAD
 -- a string lies inside the text
-=======
->>>>>>> 725060bfb16babb1cf4268e6c1f8bc51f7cb0c16
 pub IsString-span : (t : List ℕ) (i j : ℕ) → IsString t i j → IsSpan t i j
 IsString-span t i j h =
     let l = Has-inside t h.close 39 (omega arith) h.closes in
     record { some = omega (arith, h.order, h.end); inside = omega (arith, h.end) }
 
-<<<<<<< HEAD
 -- a comment lies inside the text
-=======
->>>>>>> 725060bfb16babb1cf4268e6c1f8bc51f7cb0c16
 pub IsComment-span : (t : List ℕ) (i j : ℕ) → IsComment t i j → IsSpan t i j
 IsComment-span t i j h =
     let l = Has-inside t h.close 34 (omega arith) h.closes in
     record { some = omega (arith, h.order, h.end); inside = omega (arith, h.end) }
 
-<<<<<<< HEAD
 -- a row of keywords lies inside the text
-=======
->>>>>>> 725060bfb16babb1cf4268e6c1f8bc51f7cb0c16
 row_span : (t : List ℕ) (i j : ℕ) → IsKeywordRow t i j → IsSpan t i j
 row_span t i j (Last _ _ h last) = IsKeyword-span t i j h
 row_span t i j (More _ n _ h row) =
@@ -87,10 +63,7 @@ row_span t i j (More _ n _ h row) =
     let b = row_span t n j row in
     record { some = omega (arith, a.some, b.some); inside = b.inside }
 
-<<<<<<< HEAD
 -- a symbol's name lies inside the text
-=======
->>>>>>> 725060bfb16babb1cf4268e6c1f8bc51f7cb0c16
 pub IsSymbolName-span : (t : List ℕ) (i j : ℕ) → IsSymbolName t i j → IsSpan t i j
 IsSymbolName-span t i j (Name h) = IsName-span t i j h.0
 IsSymbolName-span t i j (Keywords h) = row_span t i j h
@@ -98,10 +71,7 @@ IsSymbolName-span t i j (Selector h) = IsBinary-span t i j h
 IsSymbolName-span t i j (Stroke h) = byte_span 124 t i j (omega arith) h
 IsSymbolName-span t i j (Quoted h) = IsString-span t i j h
 
-<<<<<<< HEAD
 -- what stands behind the first digits lies inside the text
-=======
->>>>>>> 725060bfb16babb1cf4268e6c1f8bc51f7cb0c16
 mantissa_bounds : (t : List ℕ) (i n j : ℕ) → n ≤ length t → IsMantissa t i n j → (n ≤ j) × (j ≤ length t)
 mantissa_bounds t i n j le (Radix h r b) =
     let l = Has-inside t n 114 (omega arith) h.0 in
@@ -111,18 +81,12 @@ mantissa_bounds t i n j le (Fraction h r) =
     (omega (arith, r.order), IsRun-inside is_digit t (n + 1) j refl (omega arith) r)
 mantissa_bounds t i n j le (Plain _ _ e) = (omega arith, omega arith)
 
-<<<<<<< HEAD
 -- an exponent has its digits behind its e
-=======
->>>>>>> 725060bfb16babb1cf4268e6c1f8bc51f7cb0c16
 exponent_order : (t : List ℕ) (i k : ℕ) → HasExponent t i k → i ≤ k
 exponent_order t i k (h, inl e, d) = omega arith
 exponent_order t i k (h, inr e, d) = omega (arith, e.1)
 
-<<<<<<< HEAD
 -- an exponent lies inside the text
-=======
->>>>>>> 725060bfb16babb1cf4268e6c1f8bc51f7cb0c16
 exponent_bounds : (t : List ℕ) (i j : ℕ) → i ≤ length t → IsExponent t i j → (i ≤ j) × (j ≤ length t)
 exponent_bounds t i j le (Scaled k h r) =
     let l = Passes-inside is_digit t k refl h.2 in
@@ -130,10 +94,7 @@ exponent_bounds t i j le (Scaled k h r) =
     (omega (arith, r.order), IsRun-inside is_digit t k j refl (omega arith) r)
 exponent_bounds t i j le (Unscaled _ e) = (omega arith, omega arith)
 
-<<<<<<< HEAD
 -- a numeral lies inside the text
-=======
->>>>>>> 725060bfb16babb1cf4268e6c1f8bc51f7cb0c16
 pub IsNumeral-span : (t : List ℕ) (i j : ℕ) → IsNumeral t i j → IsSpan t i j
 IsNumeral-span t i j h =
     let a = run_span is_digit is_digit t i h.whole refl refl h.digits.0 h.digits.1 in

@@ -39,7 +39,6 @@ is_second b = is_binary b && not (b == 45)
 
 -- this byte stands at i
 abbrev pub Has : List ℕ → ℕ → ℕ → Type 0
-<<<<<<< HEAD
 Has text i b = slice_index text i ≡ b
 
 -- the byte at i is in the class
@@ -55,20 +54,3 @@ pub record IsRun (p : ℕ → Bool) (text : List ℕ) (i j : ℕ) : Type 0 where
   pub order : i ≤ j
   pub all : (k : ℕ) → i ≤ k → k < j → Passes p text k
   pub stops : Fails p text j
-=======
-Has t i b = slice_index t i ≡ b
-
--- the byte at i is in the class
-abbrev pub Passes : (ℕ → Bool) → List ℕ → ℕ → Type 0
-Passes p t i = p (slice_index t i) ≡ true
-
--- the byte at i is not in the class
-abbrev pub Fails : (ℕ → Bool) → List ℕ → ℕ → Type 0
-Fails p t i = p (slice_index t i) ≡ false
-
--- the longest run of such bytes from i on ends at j
-pub record IsRun (p : ℕ → Bool) (t : List ℕ) (i j : ℕ) : Type 0 where
-  pub order : i ≤ j
-  pub all : (k : ℕ) → i ≤ k → k < j → Passes p t k
-  pub stops : Fails p t j
->>>>>>> 725060bfb16babb1cf4268e6c1f8bc51f7cb0c16

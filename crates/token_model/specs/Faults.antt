@@ -8,7 +8,6 @@ use Rattle.token_model.specs.declared.fault.LexFault.TheVariants.{BadByte, OpenS
 
 -- what begins at i has its first quote there: a string, or a symbol written as one
 abbrev pub HasQuote : List ℕ → ℕ → ℕ → Type 0
-<<<<<<< HEAD
 HasQuote text i quote = Has text quote 39 × ((quote ≡ i) ⊎ (Has text i 35 × (quote ≡ i + 1)))
 
 -- what begins at i decides the fault: a string that stays open at its quote, a comment that does, a numeral, or any other byte
@@ -23,19 +22,3 @@ FaultsAs text i (BadNumeral at) = (at ≡ i) × Passes is_digit text i
 pub record IsFault (dialect : Dialect) (text : List ℕ) (i : ℕ) (fault : LexFault) : Type 0 where
   pub none : NoToken dialect text i
   pub which : FaultsAs text i fault
-=======
-HasQuote t i quote = Has t quote 39 × ((quote ≡ i) ⊎ (Has t i 35 × (quote ≡ i + 1)))
-
--- what begins at i decides the fault: a string that stays open at its quote, a comment that does, a numeral, or any other byte
-abbrev pub FaultsAs : List ℕ → ℕ → LexFault → Type 0
-FaultsAs t i (BadByte at) =
-    (at ≡ i) × ((quote : ℕ) → ¬ HasQuote t i quote) × (slice_index t i ≢ 34) × Fails is_digit t i
-FaultsAs t i (OpenString at) = HasQuote t i at
-FaultsAs t i (OpenComment at) = (at ≡ i) × Has t i 34
-FaultsAs t i (BadNumeral at) = (at ≡ i) × Passes is_digit t i
-
--- no token begins at i, and this is the fault
-pub record IsFault (d : Dialect) (t : List ℕ) (i : ℕ) (fault : LexFault) : Type 0 where
-  pub none : NoToken d t i
-  pub which : FaultsAs t i fault
->>>>>>> 725060bfb16babb1cf4268e6c1f8bc51f7cb0c16

@@ -15,7 +15,6 @@ pub record Piece : Type 0 where
   pub to : ℕ
 
 -- behind the blanks from at on stands this token
-<<<<<<< HEAD
 pub record IsNext (dialect : Dialect) (text : List ℕ) (at : ℕ) (p : Piece) : Type 0 where
   pub blanks : IsRun is_blank text at p.from
   pub token : IsToken dialect p.kind text p.from p.to
@@ -31,23 +30,6 @@ pub data HasTokens (dialect : Dialect) (text : List ℕ) : ℕ → List Piece �
   Ended : (at : ℕ) (p : Piece) → IsNext dialect text at p → p.kind ≡ End → HasTokens dialect text at (p ∷ []) None
   Stopped : (at : ℕ) (fault : LexFault) → IsNextFault dialect text at fault → HasTokens dialect text at [] (Some fault)
   Further : (at : ℕ) (p : Piece) (ps : List Piece) (fault : Option LexFault) → IsNext dialect text at p → p.kind ≢ End → HasTokens dialect text p.to ps fault → HasTokens dialect text at (p ∷ ps) fault
-=======
-pub record IsNext (d : Dialect) (t : List ℕ) (at : ℕ) (p : Piece) : Type 0 where
-  pub blanks : IsRun is_blank t at p.from
-  pub token : IsToken d p.kind t p.from p.to
-
--- behind the blanks from at on no token begins, with this fault
-pub record IsNextFault (d : Dialect) (t : List ℕ) (at : ℕ) (fault : LexFault) : Type 0 where
-  pub from : ℕ
-  pub blanks : IsRun is_blank t at from
-  pub fails : IsFault d t from fault
-
--- the tokens of the text from at on: up to the end, or up to the first fault
-pub data HasTokens (d : Dialect) (t : List ℕ) : ℕ → List Piece → Option LexFault → Type 0 where
-  Ended : (at : ℕ) (p : Piece) → IsNext d t at p → p.kind ≡ End → HasTokens d t at (p ∷ []) None
-  Stopped : (at : ℕ) (fault : LexFault) → IsNextFault d t at fault → HasTokens d t at [] (Some fault)
-  Further : (at : ℕ) (p : Piece) (ps : List Piece) (fault : Option LexFault) → IsNext d t at p → p.kind ≢ End → HasTokens d t p.to ps fault → HasTokens d t at (p ∷ ps) fault
->>>>>>> 725060bfb16babb1cf4268e6c1f8bc51f7cb0c16
 
 -- the spans are in order from at on
 abbrev pub AreInOrder : ℕ → List Piece → Type 0
@@ -56,10 +38,5 @@ AreInOrder at (p ∷ ps) = (at ≤ p.from) × (p.from ≤ p.to) × AreInOrder p.
 
 -- the tokens from at on and what stands between them, joined
 abbrev pub joined : List ℕ → ℕ → List Piece → List ℕ
-<<<<<<< HEAD
 joined text at [] = []
 joined text at (p ∷ ps) = slice_range text at p.from ++ slice_range text p.from p.to ++ joined text p.to ps
-=======
-joined t at [] = []
-joined t at (p ∷ ps) = slice_range t at p.from ++ slice_range t p.from p.to ++ joined t p.to ps
->>>>>>> 725060bfb16babb1cf4268e6c1f8bc51f7cb0c16

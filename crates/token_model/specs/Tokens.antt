@@ -11,7 +11,6 @@ use Rattle.token_model.specs.declared.kind.TokenKind.TheVariants.{Identifier, Ke
 
 -- the one byte b
 abbrev pub IsByte : ℕ → List ℕ → ℕ → ℕ → Type 0
-<<<<<<< HEAD
 IsByte b text i j = Has text i b × (j ≡ i + 1)
 
 -- the byte b and then the byte c
@@ -35,36 +34,10 @@ pub record IsKeyword (text : List ℕ) (i j : ℕ) : Type 0 where
   pub colon : ℕ
   pub name : IsName text i colon
   pub has_colon : HasColon text colon
-=======
-IsByte b t i j = Has t i b × (j ≡ i + 1)
-
--- the byte b and then the byte c
-abbrev pub IsBytePair : ℕ → ℕ → List ℕ → ℕ → ℕ → Type 0
-IsBytePair b c t i j = Has t i b × Has t (i + 1) c × (j ≡ i + 2)
-
--- a letter, then letters and digits, as many as follow
-abbrev pub IsName : List ℕ → ℕ → ℕ → Type 0
-IsName t i j = Passes is_letter t i × IsRun is_word t (i + 1) j
-
--- a colon that no = follows
-abbrev pub HasColon : List ℕ → ℕ → Type 0
-HasColon t i = Has t i 58 × (slice_index t (i + 1) ≢ 61)
-
--- a name that is no keyword
-abbrev pub IsIdentifier : List ℕ → ℕ → ℕ → Type 0
-IsIdentifier t i j = IsName t i j × ¬ HasColon t j
-
--- a name and a colon that no = follows
-pub record IsKeyword (t : List ℕ) (i j : ℕ) : Type 0 where
-  pub colon : ℕ
-  pub name : IsName t i colon
-  pub has_colon : HasColon t colon
->>>>>>> 725060bfb16babb1cf4268e6c1f8bc51f7cb0c16
   pub end : j ≡ colon + 1
 
 -- one or two binary characters, the second no minus sign, as many as can be
 abbrev pub IsBinary : List ℕ → ℕ → ℕ → Type 0
-<<<<<<< HEAD
 IsBinary text i j =
     Passes is_binary text i × ((Passes is_second text (i + 1) × (j ≡ i + 2)) ⊎ (Fails is_second text (i + 1) × (j ≡ i + 1)))
 
@@ -85,33 +58,10 @@ pub record IsComment (text : List ℕ) (i j : ℕ) : Type 0 where
   pub order : i < close
   pub inside : (k : ℕ) → i < k → k < close → slice_index text k ≢ 34
   pub closes : Has text close 34
-=======
-IsBinary t i j =
-    Passes is_binary t i × ((Passes is_second t (i + 1) × (j ≡ i + 2)) ⊎ (Fails is_second t (i + 1) × (j ≡ i + 1)))
-
--- bytes between quotes, a quote among them written twice; no quote follows the closing one
-pub record IsString (t : List ℕ) (i j : ℕ) : Type 0 where
-  pub close : ℕ
-  pub opens : Has t i 39
-  pub order : i < close
-  pub inside : IsPaired 39 (slice_range t (i + 1) close)
-  pub closes : Has t close 39
-  pub alone : slice_index t (close + 1) ≢ 39
-  pub end : j ≡ close + 1
-
--- bytes between double quotes, none of them a double quote
-pub record IsComment (t : List ℕ) (i j : ℕ) : Type 0 where
-  pub close : ℕ
-  pub opens : Has t i 34
-  pub order : i < close
-  pub inside : (k : ℕ) → i < k → k < close → slice_index t k ≢ 34
-  pub closes : Has t close 34
->>>>>>> 725060bfb16babb1cf4268e6c1f8bc51f7cb0c16
   pub end : j ≡ close + 1
 
 -- $ and any one byte
 abbrev pub IsCharacter : List ℕ → ℕ → ℕ → Type 0
-<<<<<<< HEAD
 IsCharacter text i j = Has text i 36 × (i + 1 < length text) × (j ≡ i + 2)
 
 -- keywords joined: a row of keywords as long as can be
@@ -201,94 +151,3 @@ IsToken dialect End text i j = (i ≡ length text) × (j ≡ i)
 -- no token begins at i
 abbrev pub NoToken : Dialect → List ℕ → ℕ → Type 0
 NoToken dialect text i = (kind : TokenKind) (j : ℕ) → ¬ IsToken dialect kind text i j
-=======
-IsCharacter t i j = Has t i 36 × (i + 1 < length t) × (j ≡ i + 2)
-
--- keywords joined: a row of keywords as long as can be
-pub data IsKeywordRow (t : List ℕ) : ℕ → ℕ → Type 0 where
-  Last : (i j : ℕ) → IsKeyword t i j → ((k : ℕ) → ¬ IsKeyword t j k) → IsKeywordRow t i j
-  More : (i j k : ℕ) → IsKeyword t i j → IsKeywordRow t j k → IsKeywordRow t i k
-
--- what a symbol names
-pub data IsSymbolName (t : List ℕ) (i j : ℕ) : Type 0 where
-  Name : IsIdentifier t i j → IsSymbolName t i j
-  Keywords : IsKeywordRow t i j → IsSymbolName t i j
-  Selector : IsBinary t i j → IsSymbolName t i j
-  Stroke : IsByte 124 t i j → IsSymbolName t i j
-  Quoted : IsString t i j → IsSymbolName t i j
-
--- # and what the symbol names
-abbrev pub IsSymbol : List ℕ → ℕ → ℕ → Type 0
-IsSymbol t i j = Has t i 35 × IsSymbolName t (i + 1) j
-
--- one or more digits, as many as follow
-abbrev pub IsDigits : List ℕ → ℕ → ℕ → Type 0
-IsDigits t i j = Passes is_digit t i × IsRun is_digit t (i + 1) j
-
--- r and a digit of a radix
-abbrev pub HasRadix : List ℕ → ℕ → Type 0
-HasRadix t i = Has t i 114 × Passes is_radix_digit t (i + 1)
-
--- a point and a digit
-abbrev pub HasFraction : List ℕ → ℕ → Type 0
-HasFraction t i = Has t i 46 × Passes is_digit t (i + 1)
-
--- the base, from i up to r, is 2 to 36, and each digit behind r is below it
-pub record IsInBase (t : List ℕ) (i r j : ℕ) : Type 0 where
-  pub low : 2 ≤ digits_value 10 (slice_range t i r)
-  pub high : digits_value 10 (slice_range t i r) ≤ 36
-  pub below : (k : ℕ) → r < k → k < j → digit_value (slice_index t k) < digits_value 10 (slice_range t i r)
-
--- behind the digits from i up to n: r and the digits in that base, a point and the digits of a fraction, or nothing
-pub data IsMantissa (t : List ℕ) (i n j : ℕ) : Type 0 where
-  Radix : HasRadix t n → IsRun is_radix_digit t (n + 1) j → IsInBase t i n j → IsMantissa t i n j
-  Fraction : HasFraction t n → IsRun is_digit t (n + 1) j → IsMantissa t i n j
-  Plain : ¬ HasRadix t n → ¬ HasFraction t n → j ≡ n → IsMantissa t i n j
-
--- an e at i, with a minus sign or none, and the digits of the exponent from k on
-abbrev pub HasExponent : List ℕ → ℕ → ℕ → Type 0
-HasExponent t i k = Has t i 101 × ((k ≡ i + 1) ⊎ (Has t (i + 1) 45 × (k ≡ i + 2))) × Passes is_digit t k
-
--- an exponent, or nothing where none stands
-pub data IsExponent (t : List ℕ) (i j : ℕ) : Type 0 where
-  Scaled : (k : ℕ) → HasExponent t i k → IsRun is_digit t k j → IsExponent t i j
-  Unscaled : ((k : ℕ) → ¬ HasExponent t i k) → j ≡ i → IsExponent t i j
-
--- digits, then a radix part or a fraction, then an exponent, each where it can be
-pub record IsNumeral (t : List ℕ) (i j : ℕ) : Type 0 where
-  pub whole : ℕ
-  pub mantissa : ℕ
-  pub digits : IsDigits t i whole
-  pub part : IsMantissa t i whole mantissa
-  pub exponent : IsExponent t mantissa j
-
--- in a dialect, the bytes of the text from i up to j are a token of the kind
-abbrev pub IsToken : Dialect → TokenKind → List ℕ → ℕ → ℕ → Type 0
-IsToken d Identifier t i j = IsIdentifier t i j
-IsToken d Keyword t i j = IsKeyword t i j
-IsToken d Binary t i j = IsBinary t i j
-IsToken d Bar t i j = IsByte 124 t i j
-IsToken d Assign t i j = IsBytePair 58 61 t i j ⊎ IsByte 95 t i j
-IsToken d Colon t i j = HasColon t i × (j ≡ i + 1)
-IsToken d Semicolon t i j = IsByte 59 t i j
-IsToken d Period t i j = IsByte 46 t i j
-IsToken d Caret t i j = IsByte 94 t i j
-IsToken d Open t i j = IsByte 40 t i j
-IsToken d Close t i j = IsByte 41 t i j
-IsToken d BlockOpen t i j = IsByte 91 t i j
-IsToken d BlockClose t i j = IsByte 93 t i j
-IsToken d BraceOpen t i j = (d ≡ Second) × IsByte 123 t i j
-IsToken d BraceClose t i j = (d ≡ Second) × IsByte 125 t i j
-IsToken d ArrayOpen t i j = IsBytePair 35 40 t i j
-IsToken d BytesOpen t i j = IsBytePair 35 91 t i j
-IsToken d String t i j = IsString t i j
-IsToken d Comment t i j = IsComment t i j
-IsToken d Character t i j = IsCharacter t i j
-IsToken d Symbol t i j = IsSymbol t i j
-IsToken d Numeral t i j = IsNumeral t i j
-IsToken d End t i j = (i ≡ length t) × (j ≡ i)
-
--- no token begins at i
-abbrev pub NoToken : Dialect → List ℕ → ℕ → Type 0
-NoToken d t i = (kind : TokenKind) (j : ℕ) → ¬ IsToken d kind t i j
->>>>>>> 725060bfb16babb1cf4268e6c1f8bc51f7cb0c16
