@@ -6,3 +6,5 @@ pub mod Made
 pub mod Bytes
 pub mod Words
 pub mod Quoted
+pub mod Steps
+pub mod ReadsLiterals
