@@ -8,3 +8,5 @@ pub mod Words
 pub mod Quoted
 pub mod Steps
 pub mod ReadsLiterals
+pub mod Operands
+pub mod Selectors

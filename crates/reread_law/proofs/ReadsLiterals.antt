@@ -1,23 +1,24 @@
 -- The canonical text of a literal is read as that literal.
-use Rattle.std.proofs.Common.{◌≡◌, ℕ, ◌+◌, ◌≤◌, Bool, true, false, List, [], ◌∷◌, ◌++◌, max, arith, refl, ap, sym, subst, ◌∙◌, append_assoc}
+use Rattle.std.proofs.Common.{◌≡◌, ◌≢◌, ℕ, get_or, ◌+◌, ◌≤◌, Bool, true, false, List, [], ◌∷◌, ◌++◌, max, arith, refl, ap, sym, subst, ◌∙◌, append_assoc}
 use Rattle.std.specs.Prelude.{codes, flat_map, nat_le, if◌then◌else◌}
 use Rattle.std.specs.List.{list_all}
 use Rattle.std.specs.Str.{bytes_eq}
 use Rattle.std.specs.Str.Parse.{digits_value}
 use Rattle.token_model.specs.Bytes.{is_digit}
+use Rattle.token_model.specs.declared.kind.TokenKind.{TokenKind}
 use Rattle.tree_model.specs.Tree.{Notes, LiteralOf, number, str, symbol, char, array, bytes, word, LiteralsOf, no_literals, more_literals}
 use Rattle.tree_model.specs.Measure.{literal_height, literals_height}
 use Rattle.text_model.specs.Pieces.{pieces_joined}
-use Rattle.text_model.specs.Literals.{literal_text, literal_texts}
-use Rattle.grammar_model.specs.Terminal.{Text, NameKind, Ordinary, Super, KeywordKind, AnyKeyword, PrimitiveKeyword, Name, Keyword, Numeral, NumeralKind, SmallDigits, LargeDigits, OtherNumeral, GroupEnd, BlockEnd, ArrayStart, BytesStart, Closes}
+use Rattle.text_model.specs.Literals.{is_operator, literal_text, literal_texts}
+use Rattle.grammar_model.specs.Terminal.{Text, Terminal, NameKind, Ordinary, Super, KeywordKind, AnyKeyword, PrimitiveKeyword, BinaryKind, Name, Keyword, Binary, Numeral, SmallDigits, LargeDigits, OtherNumeral, GroupEnd, BlockEnd, ArrayStart, BytesStart, Closes}
 use Rattle.grammar_model.specs.Words.{is_literal_word}
 use Rattle.grammar_model.specs.Input.{Input, kind_of, next}
 use Rattle.grammar_model.specs.Ahead.{Any, IsDigits}
 use Rattle.grammar_model.specs.Lexemes.{name_of, keyword_of, numeral_of}
 use Rattle.grammar_model.specs.Literals.{word_or_symbol, ByteElements, OneByte, NoBytes, LiteralAt, Unsigned, Negative, Fixed, Array, ByteArray, Element, LiteralElement, NameElement, Elements, OneElement, NoElements}
-use Rattle.reread_law.proofs.Good.{IsUnsigned, Plain, Minus, GoodBytes, NoneLeft, OneMore, GoodLiteral, GoodLiterals, NoWord}
+use Rattle.reread_law.proofs.Good.{IsWord, IsKeywordText, Plain, Minus, GoodBytes, NoneLeft, OneMore, GoodLiteral, GoodLiterals, NoWord}
 use Rattle.reread_law.proofs.Bytes.{ends, Ends, ends_all}
-use Rattle.reread_law.proofs.Words.{name_word, numeral_word, char_word, close_word, block_close_word, array_open_word, bytes_open_word}
+use Rattle.reread_law.proofs.Words.{IsWordOf, name_word, keyword_word, operator_word, numeral_word, char_word, close_word, block_close_word, array_open_word, bytes_open_word}
 use Rattle.reread_law.proofs.Quoted.{string_word, symbol_word}
 use Rattle.reread_law.proofs.Steps.{World, Here, Fresh, Stepped, Counts, blank_step, step, step_minus, held_as, text_as, counts_open, counts_close}
 
@@ -36,6 +37,22 @@ keyed k = go (bytes_eq k (codes "primitive:"))
     go : (b : Bool) → (c : KeywordKind) × ((if b then Keyword PrimitiveKeyword k else Keyword AnyKeyword k) ≡ Keyword c k)
     go true = (PrimitiveKeyword, refl)
     go false = (AnyKeyword, refl)
+
+-- a word that is seen otherwise
+word_as : {kind : TokenKind} {k l : Terminal} {x s : Text} → k ≡ l → IsWordOf kind k x s → IsWordOf kind l x s
+word_as {kind} {k} {l} {x} {s} e d = subst (λ k. IsWordOf kind k x s) e d
+
+-- an identifier is read
+pub step_name : {w : World} {n : ℕ} {i : Input} {h : Notes} (x s : Text) → IsWord x → Ends s → Here w n i h (x ++ s) → (c : NameKind) × Stepped w n i h (Name c x) s
+step_name {w} {n} {i} {h} x s g e a = ((named x).0, step n x s (word_as (named x).1 (name_word x s g e)) (λ c f e ts. refl) a)
+
+-- a keyword is read
+pub step_keyword : {w : World} {n : ℕ} {i : Input} {h : Notes} (x s : Text) → IsKeywordText x → get_or s 0 0 ≢ 61 → Here w n i h (x ++ s) → (c : KeywordKind) × Stepped w n i h (Keyword c x) s
+step_keyword {w} {n} {i} {h} x s g e a = ((keyed x).0, step n x s (word_as (keyed x).1 (keyword_word x s g e)) (λ c f e ts. refl) a)
+
+-- a binary selector is read
+pub step_operator : {w : World} {n : ℕ} {i : Input} {h : Notes} (x s : Text) → is_operator x ≡ true → Here w n i h (x ++ 32 ∷ s) → (c : BinaryKind) × Stepped w n i h (Binary c x) (32 ∷ s)
+step_operator {w} {n} {i} {h} x s g a = let o = operator_word x (32 ∷ s) g refl refl in (o.class, step n x (32 ∷ s) o.word (λ c f e ts. refl) a)
 
 -- numerals of digits alone are seen so
 digits_kind : (t : Text) → list_all is_digit t ≡ true → IsDigits (Numeral (numeral_of t) t)
@@ -121,8 +138,8 @@ mutual
       let z = step n (36 ∷ b ∷ []) s (char_word b s) (λ c f e ts. refl) a in
       one_literal (Fixed z.kind) z.held z.fresh
   reads_literal (word t) g w n i h s e le a =
-      let z = step n t s (name_word t s g.0 (ends_all s e)) (λ c f e ts. ?) a in
-      record { stop = next i; literal = λ no. absurd no; element = word_element t (named t).0 g.1 (z.kind ∙ (named t).1); held = z.held; fresh = z.fresh }
+      let z = step_name t s g.0 (ends_all s e) a in
+      record { stop = next i; literal = λ no. absurd no; element = word_element t z.0 g.1 z.1.kind; held = z.1.held; fresh = z.1.fresh }
   reads_literal (array ls) g w n i h s e le a =
       let rest = pieces_joined (codes " ") (literal_texts ls) in
       let x = step (n + 1) (35 ∷ 40 ∷ []) (rest ++ 41 ∷ s) (array_open_word (rest ++ 41 ∷ s)) (counts_open n ArrayStart (omega arith)) (text_as _ _ (append_assoc (35 ∷ 40 ∷ rest) (41 ∷ []) s) a) in
@@ -145,7 +162,7 @@ mutual
       let rest = blanked (literal_texts ls) in
       let x = reads_literal l g.0 w n i h (rest ++ s) (ends_blanked (literal_texts ls) s e) (omega arith) (text_as ((literal_text l ++ rest) ++ s) (literal_text l ++ (rest ++ s)) (append_assoc (literal_text l) rest s) a) in
       let y = reads_more ls g.1 w n x.stop h s e (omega arith) (held_as x.held x.fresh.here) in
-      record { stop = y.stop; elements = OneElement x.element y.elements; here = y.here }
+      record { stop = y.stop; elements = OneElement {m = x.stop} {j = y.stop} x.element y.elements; here = y.here }
 
   -- further elements, each behind a blank
   reads_more : (ls : LiteralsOf Text) → GoodLiterals ls → (w : World) (n : ℕ) (i : Input) (h : Notes) (s : Text) → ends s ≡ true → n + literals_height ls ≤ 400 → Here w n i h (blanked (literal_texts ls) ++ s) → ElementsRead w n i h ls s
@@ -155,4 +172,4 @@ mutual
       let one = text_as ((literal_text l ++ rest) ++ s) (literal_text l ++ (rest ++ s)) (append_assoc (literal_text l) rest s) (blank_step 32 ((literal_text l ++ rest) ++ s) refl a) in
       let x = reads_literal l g.0 w n i h (rest ++ s) (ends_blanked (literal_texts ls) s e) (omega arith) one in
       let y = reads_more ls g.1 w n x.stop h s e (omega arith) (held_as x.held x.fresh.here) in
-      record { stop = y.stop; elements = OneElement x.element y.elements; here = y.here }
+      record { stop = y.stop; elements = OneElement {m = x.stop} {j = y.stop} x.element y.elements; here = y.here }
