@@ -10,3 +10,4 @@ pub mod Steps
 pub mod ReadsLiterals
 pub mod Operands
 pub mod Selectors
+pub mod Messages

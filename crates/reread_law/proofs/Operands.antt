@@ -88,11 +88,11 @@ pub record ReturnRead (w : World) (n : ℕ) (i : Input) (h : Notes) (t : TreeOf 
   pub fresh : Fresh w n stop s
 
 -- without binary messages
-pub to_binary : {w : World} {n : ℕ} {i : Input} {h : Notes} {t : TreeOf Text} {s : Text} → UnaryRead w n i h t s → BinaryRead w n i h t s
+abbrev pub to_binary : {w : World} {n : ℕ} {i : Input} {h : Notes} {t : TreeOf Text} {s : Text} → UnaryRead w n i h t s → BinaryRead w n i h t s
 to_binary r = record { first = r.first; middle = r.middle; second = r.last; later = r.stop; last = r.last; stop = r.stop; operand = r.operand; unaries = r.unaries; binaries = NoBinaries tt; plain = r.plain; value = r.value; held = r.held; fresh = r.fresh }
 
 -- without keywords
-pub to_keyword : {w : World} {n : ℕ} {i : Input} {h : Notes} {t : TreeOf Text} {s : Text} → BinaryRead w n i h t s → KeywordRead w n i h t s
+abbrev pub to_keyword : {w : World} {n : ℕ} {i : Input} {h : Notes} {t : TreeOf Text} {s : Text} → BinaryRead w n i h t s → KeywordRead w n i h t s
 to_keyword r = record { first = r.first; middle = r.middle; second = r.second; later = r.later; third = r.last; latest = r.stop; last = r.last; stop = r.stop; operand = r.operand; unaries = r.unaries; binaries = r.binaries; keywords = NoKeywords tt; plain = r.plain; value = r.value; held = r.held; fresh = r.fresh }
 
 -- without a cascade
