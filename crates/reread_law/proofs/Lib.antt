@@ -11,3 +11,4 @@ pub mod ReadsLiterals
 pub mod Operands
 pub mod Selectors
 pub mod Messages
+pub mod Expressions

@@ -31,13 +31,13 @@ CanReadAll no_trees = Unit {0}
 CanReadAll (more_trees t ts) = CanRead t × IsValue t × CanReadAll ts
 
 -- keywords with their arguments were read
-record PartsRead (w : World) (n : ℕ) (i : Input) (h : Notes) (s : Text) (xs : TreesOf Text) (r : Text) : Type 0 where
-  arguments : SpannedTrees
-  stop : Input
-  parts : Parts Any i s arguments stop
-  plain : plain_trees arguments ≡ xs
-  held : stop.held ≡ h
-  fresh : Fresh w n stop r
+pub record PartsRead (w : World) (n : ℕ) (i : Input) (h : Notes) (s : Text) (xs : TreesOf Text) (r : Text) : Type 0 where
+  pub arguments : SpannedTrees
+  pub stop : Input
+  pub parts : Parts Any i s arguments stop
+  pub plain : plain_trees arguments ≡ xs
+  pub held : stop.held ≡ h
+  pub fresh : Fresh w n stop r
 
 -- keywords begin with a blank
 parts_end : (k : ℕ) (r s : Text) (xs : TreesOf Text) → GoodParts s xs → ends (message_text s (argument_texts k loose.Keyword xs) ++ r) ≡ true
@@ -46,7 +46,7 @@ parts_end k r s xs (OneBefore {k = q} {s = p} {x} {xs = ys} g d) =
     ap (λ y. ends (y ++ r)) (before_text q p (operand_text loose.Binary (precedence_of x) (expression_text k x)) (argument_texts k loose.Keyword ys) g)
 
 -- keywords with their arguments
-reads_parts : (s : Text) (xs : TreesOf Text) → GoodParts s xs → CanReadAll xs → (w : World) (n k : ℕ) (i : Input) (h : Notes) (r : Text) → ends r ≡ true → n + trees_height xs + 1 ≤ 400 → Here w n i h (message_text s (argument_texts k loose.Keyword xs) ++ r) → PartsRead w n i h s xs r
+pub reads_parts : (s : Text) (xs : TreesOf Text) → GoodParts s xs → CanReadAll xs → (w : World) (n k : ℕ) (i : Input) (h : Notes) (r : Text) → ends r ≡ true → n + trees_height xs + 1 ≤ 400 → Here w n i h (message_text s (argument_texts k loose.Keyword xs) ++ r) → PartsRead w n i h s xs r
 reads_parts s xs (LastOne {x} g) can w n k i h r e le a =
     let t = operand_text loose.Binary (precedence_of x) (expression_text k x) in
     let b = blank_step 32 ((s ++ 32 ∷ t) ++ r) refl (text_as _ (32 ∷ ((s ++ 32 ∷ t) ++ r)) (ap (λ y. y ++ r) (last_text s t g)) a) in
@@ -64,14 +64,14 @@ reads_parts s xs (OneBefore {k = q} {s = p} {x} {xs = ys} g d) can w n k i h r e
     record { arguments = MoreTrees z.tree v.arguments; stop = v.stop; parts = FurtherPart {m = z.stop} {j = v.stop} {x = z.tree} {xs = v.arguments} y.1.kind z.argument v.parts; plain = (λ j. more_trees (z.plain j) (v.plain j)); held = v.held; fresh = v.fresh }
 
 -- the chain ends with a message from which a cascade can go on
-record IsTold (c : Chain) (r : TreeOf Text) (s : Text) (xs : TreesOf Text) : Type 0 where
-  from : ℕ
-  to : ℕ
-  receiver : SpannedTree
-  arguments : SpannedTrees
-  is : c ≡ Told from to receiver s arguments
-  plain_receiver : plain_tree receiver ≡ r
-  plain_arguments : plain_trees arguments ≡ xs
+pub record IsTold (c : Chain) (r : TreeOf Text) (s : Text) (xs : TreesOf Text) : Type 0 where
+  pub from : ℕ
+  pub to : ℕ
+  pub receiver : SpannedTree
+  pub arguments : SpannedTrees
+  pub is : c ≡ Told from to receiver s arguments
+  pub plain_receiver : plain_tree receiver ≡ r
+  pub plain_arguments : plain_trees arguments ≡ xs
 
 -- a unary send was read
 record SentUnary (w : World) (n : ℕ) (i : Input) (h : Notes) (r : TreeOf Text) (s : Text) (xs : TreesOf Text) (q : Text) : Type 0 where
@@ -84,12 +84,12 @@ record SentBinary (w : World) (n : ℕ) (i : Input) (h : Notes) (r : TreeOf Text
   told : IsValue r → IsTold read.last r s xs
 
 -- any send was read
-record Sent (w : World) (n : ℕ) (i : Input) (h : Notes) (r : TreeOf Text) (s : Text) (xs : TreesOf Text) (q : Text) : Type 0 where
-  read : KeywordRead w n i h (send r s xs) q
-  told : IsValue r → IsTold read.last r s xs
+pub record Sent (w : World) (n : ℕ) (i : Input) (h : Notes) (r : TreeOf Text) (s : Text) (xs : TreesOf Text) (q : Text) : Type 0 where
+  pub read : KeywordRead w n i h (send r s xs) q
+  pub told : IsValue r → IsTold read.last r s xs
 
 -- the text of a send whose message has this precedence
-abbrev send_text : ℕ → Precedence → TreeOf Text → Text → TreesOf Text → Text
+abbrev pub send_text : ℕ → Precedence → TreeOf Text → Text → TreesOf Text → Text
 send_text k p r s xs = operand_text (receiver_limit p) (precedence_of r) (expression_text k r) ++ message_text s (argument_texts k p xs)
 
 -- a unary send
@@ -156,15 +156,15 @@ send_keyword r s xs can kept g args w n k i h q e le a =
     }
 
 -- the precedence of a message with arguments
-binary_precedence : (s : Text) (x : TreeOf Text) → is_operator s ≡ true → message_precedence s (more_trees x no_trees) ≡ loose.Binary
+pub binary_precedence : (s : Text) (x : TreeOf Text) → is_operator s ≡ true → message_precedence s (more_trees x no_trees) ≡ loose.Binary
 binary_precedence s x g = rw (operator_colon s g) refl
 
-keyword_precedence : (s : Text) (xs : TreesOf Text) → GoodParts s xs → message_precedence s xs ≡ loose.Keyword
+pub keyword_precedence : (s : Text) (xs : TreesOf Text) → GoodParts s xs → message_precedence s xs ≡ loose.Keyword
 keyword_precedence s xs (LastOne {x} g) = let c = parts_colon {xs = more_trees x no_trees} s (LastOne g) in rw c refl
 keyword_precedence s xs (OneBefore {k} {s = p} {x} {xs = ys} g d) = let c = parts_colon {xs = more_trees x ys} (k ++ p) (OneBefore g d) in rw c refl
 
 -- any send
-sends : (r : TreeOf Text) (s : Text) (xs : TreesOf Text) → CanRead r → NoReturn r → FitsArguments s xs → CanReadAll xs → (w : World) (n k : ℕ) (i : Input) (h : Notes) (q : Text) → ends q ≡ true → n + max (height r) (trees_height xs) + 1 ≤ 400 → Here w n i h (send_text k (message_precedence s xs) r s xs ++ q) → Sent w n i h r s xs q
+pub sends : (r : TreeOf Text) (s : Text) (xs : TreesOf Text) → CanRead r → NoReturn r → FitsArguments s xs → CanReadAll xs → (w : World) (n k : ℕ) (i : Input) (h : Notes) (q : Text) → ends q ≡ true → n + max (height r) (trees_height xs) + 1 ≤ 400 → Here w n i h (send_text k (message_precedence s xs) r s xs ++ q) → Sent w n i h r s xs q
 sends r s xs can kept (FitsNone g) args w n k i h q e le a = let z = send_unary r s can kept g w n k i h q e (omega arith) a in record { read = to_keyword (to_binary z.read); told = z.told }
 sends r s xs can kept (FitsOne {x} g) args w n k i h q e le a =
     let z = send_binary r s x can kept g args.0 args.1 w n k i h q e (omega arith) (text_as _ _ (ap (λ p. send_text k p r s (more_trees x no_trees) ++ q) (binary_precedence s x g)) a) in
