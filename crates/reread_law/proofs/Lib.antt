@@ -12,3 +12,5 @@ pub mod Operands
 pub mod Selectors
 pub mod Messages
 pub mod Expressions
+pub mod Sequences
+pub mod Blocks

@@ -81,7 +81,7 @@ data IsRow : Text → Type 0 where
   MoreOfRow : {k r : Text} → IsKeywordText k → IsRow r → IsRow (k ++ r)
 
 -- the first byte of an identifier
-word_letter : (n s : Text) → IsWord n → is_letter (get_or (n ++ s) 0 0) ≡ true
+pub word_letter : (n s : Text) → IsWord n → is_letter (get_or (n ++ s) 0 0) ≡ true
 word_letter [] s h = absurd (false≢true h)
 word_letter (b ∷ w) s h = (and_parts (is_letter b) (list_all is_word w) h).0
 
