@@ -14,3 +14,4 @@ pub mod Messages
 pub mod Expressions
 pub mod Sequences
 pub mod Blocks
+pub mod Trees

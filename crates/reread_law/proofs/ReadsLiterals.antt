@@ -39,7 +39,7 @@ keyed k = go (bytes_eq k (codes "primitive:"))
     go false = (AnyKeyword, refl)
 
 -- a word that is seen otherwise
-word_as : {kind : TokenKind} {k l : Terminal} {x s : Text} → k ≡ l → IsWordOf kind k x s → IsWordOf kind l x s
+pub word_as : {kind : TokenKind} {k l : Terminal} {x s : Text} → k ≡ l → IsWordOf kind k x s → IsWordOf kind l x s
 word_as {kind} {k} {l} {x} {s} e d = subst (λ k. IsWordOf kind k x s) e d
 
 -- an identifier is read
