@@ -15,3 +15,4 @@ pub mod Expressions
 pub mod Sequences
 pub mod Blocks
 pub mod Trees
+pub mod Starting
