@@ -16,3 +16,5 @@ pub mod Sequences
 pub mod Blocks
 pub mod Trees
 pub mod Starting
+pub mod Decimals
+pub mod Patterns

@@ -23,7 +23,7 @@ use Rattle.grammar_model.specs.Terminal.{Text, BinaryKind, Common, Sign, Less, G
 use Rattle.grammar_model.specs.Terminal as grammar
 use Rattle.grammar_model.specs.Lexemes.{singled, unquoted, symbol_text, name_of, keyword_of, binary_of, numeral_of, terminal_of}
 use Rattle.reread_law.proofs.Good.{IsWord, IsKeywordText, IsNote, IsUnsigned}
-use Rattle.reread_law.proofs.Copies.{numeral_copy, comment_copy}
+use Rattle.reread_law.proofs.Copies.{EndsNumeral, numeral_copy, comment_copy}
 use Rattle.reread_law.proofs.Bytes.{At, behind, same_bytes, byte_at, first_at, length_at, range_at, run_at, all_at, first_behind, copy_at, ends, Ends, no_blank, ends_numeral}
 
 -- These bytes in front of those are a token of the kind, and the grammar sees it so. The flag of a binary selector says that a numeral begins behind it, and then a digit does.
@@ -238,14 +238,26 @@ operator_word w s h e d = go (bytes_eq w (124 ∷ [])) refl
 pub minus_at : {t : Text} {i : ℕ} (s : Text) → is_second (get_or s 0 0) ≡ false → At t i (45 ∷ s) → IsBinary t i (i + 1)
 minus_at s e a = binary_at (45 ∷ []) s refl (λ is. cc) e a
 
--- a numeral
-pub numeral_word : (w s : Text) → IsUnsigned w → Ends s → IsWordOf kinds.Numeral (grammar.Numeral (numeral_of w) w) w s
-numeral_word w s h e = record {
-  token = λ t i a. numeral_copy t i w 0 (length w) (copy_at w s a) (ends_numeral (behind w s a) e) (let e : 0 + length w ≡ length w = omega arith in subst (IsNumeral w 0) (sym e) h);
+-- a numeral before bytes with which none goes on
+pub numeral_before : (w s : Text) → IsUnsigned w → ((t : Text) (i : ℕ) → At t i s → EndsNumeral t i) → IsWordOf kinds.Numeral (grammar.Numeral (numeral_of w) w) w s
+numeral_before w s h e = record {
+  token = λ t i a. let f : 0 + length w ≡ length w = omega arith in numeral_copy t i w 0 (length w) (copy_at w s a) (e t (i + length w) (behind w s a)) (subst (IsNumeral w 0) (sym f) h);
   inner = λ is. cc;
   dark = ap is_blank (get_or_append_left w s 0 0 (Passes-inside is_digit w 0 refl h.digits.0)) ∙ no_blank is_digit (get_or w 0 0) h.digits.0 refl refl refl refl refl;
   seen = λ f d. refl
 }
+
+-- a numeral
+pub numeral_word : (w s : Text) → IsUnsigned w → Ends s → IsWordOf kinds.Numeral (grammar.Numeral (numeral_of w) w) w s
+numeral_word w s h e = numeral_before w s h (λ t i a. ends_numeral a e)
+
+-- < before a letter
+pub less_word : (s : Text) → is_second (get_or s 0 0) ≡ false → IsWordOf kinds.Binary (grammar.Binary Less (60 ∷ [])) (60 ∷ []) s
+less_word s e = record { token = λ t i a. binary_at (60 ∷ []) s refl (λ is. cc) e a; inner = λ is. cc; dark = refl; seen = λ f d. refl }
+
+-- >
+pub greater_word : (s : Text) → is_second (get_or s 0 0) ≡ false → IsWordOf kinds.Binary (grammar.Binary Greater (62 ∷ [])) (62 ∷ []) s
+greater_word s e = record { token = λ t i a. binary_at (62 ∷ []) s refl (λ is. cc) e a; inner = λ is. cc; dark = refl; seen = λ f d. refl }
 
 -- a comment
 pub note_at : {t : Text} {i : ℕ} (w s : Text) → IsNote w → At t i (w ++ s) → IsComment t i (i + length w)
