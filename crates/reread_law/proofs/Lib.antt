@@ -18,3 +18,4 @@ pub mod Trees
 pub mod Starting
 pub mod Decimals
 pub mod Patterns
+pub mod Methods
