@@ -1,27 +1,27 @@
 -- The canonical text of a block is read as that block.
-use Rattle.std.proofs.Common.{◌≡◌, ℕ, ◌+◌, ◌≤◌, Bool, true, false, ◌&&◌, List, [], ◌∷◌, ◌++◌, get_or, max, arith, refl, ap, sym, subst, ◌∙◌, append_assoc}
+use Rattle.std.proofs.Common.{◌≡◌, ℕ, ◌+◌, ◌≤◌, Bool, true, false, ◌&&◌, List, [], ◌∷◌, ◌++◌, get_or, arith, refl, ap, sym, subst, ◌∙◌, append_assoc}
 use Rattle.std.specs.Prelude.{codes, flat_map, if◌then◌else◌}
 use Rattle.std.proofs.lemmas.Bool.{and_parts, false≢true}
 use Rattle.token_model.specs.Bytes.{is_letter}
 use Rattle.token_model.proofs.Leads.{other_byte}
-use Rattle.tree_model.specs.Tree.{Notes, TreeOf, block, StatementsOf, no_statements, more_statements}
-use Rattle.tree_model.specs.Measure.{height, statements_height}
+use Rattle.tree_model.specs.Tree.{Notes, block, StatementsOf, no_statements, more_statements}
+use Rattle.tree_model.specs.Measure.{statements_height}
 use Rattle.text_model.specs.Flat.{is_none_in, is_flat, is_flat_row}
-use Rattle.text_model.specs.Expressions.{note_lines, temporary_lines, statement_lines, expression_text, row_text, parameters_text, blank_behind, flat_block, tall_block}
-use Rattle.grammar_model.specs.Terminal.{Text, NameKind, Name, Binary, Bar, BlockStart, BlockEnd, Colon}
+use Rattle.text_model.specs.Expressions.{note_lines, temporary_lines, statement_lines, row_text, parameters_text, blank_behind, flat_block, tall_block}
+use Rattle.grammar_model.specs.Terminal.{Text, BlockStart, BlockEnd, Colon}
 use Rattle.grammar_model.specs.Input.{Input, kind_of, from_of, next, clear, back}
-use Rattle.grammar_model.specs.Spanned.{Declared, SpannedTree, Block, SpannedStatements, NoStatements, names_of, plain_tree, plain_statements}
+use Rattle.grammar_model.specs.Spanned.{Declared, Block, SpannedStatements, NoStatements, names_of, plain_statements}
 use Rattle.grammar_model.specs.Chain.{Alone}
 use Rattle.grammar_model.specs.Ahead.{Any}
-use Rattle.grammar_model.specs.Grammar.{Parameters, OneParameter, NoParameters, DeclaresNone, BlockBody, WithoutParameters, WithParameters, BlockOperand, NoUnaries, Sequence, Sequenced, NoMore}
+use Rattle.grammar_model.specs.Grammar.{Parameters, OneParameter, NoParameters, DeclaresNone, BlockBody, WithoutParameters, WithParameters, BlockOperand, NoUnaries, Sequenced, NoMore}
 use Rattle.reread_law.proofs.Good.{AllNotes, AllWords}
 use Rattle.reread_law.proofs.Bytes.{ends, ends_all}
 use Rattle.reread_law.proofs.Words.{bar_word, colon_word, block_open_word, block_close_word}
 use Rattle.reread_law.proofs.Quoted.{word_letter}
-use Rattle.reread_law.proofs.Steps.{World, Here, Fresh, step, blank_step, held_as, text_as, fresh_clear, fresh_back, counts_open, counts_close}
+use Rattle.reread_law.proofs.Steps.{World, Here, step, blank_step, held_as, text_as, fresh_clear, fresh_back, counts_open, counts_close}
 use Rattle.reread_law.proofs.ReadsLiterals.{step_name}
 use Rattle.reread_law.proofs.Operands.{UnaryRead, Reads, CanRead, can_unary}
-use Rattle.reread_law.proofs.Sequences.{lined, line_break, CanReadStatements, reads_last, with_first, left_after, first_none, left_none, SequenceRead, reads_sequence}
+use Rattle.reread_law.proofs.Sequences.{lined, line_break, CanReadStatements, reads_last, left_after, first_none, left_none, SequenceRead, reads_sequence}
 
 -- parameters, each behind a colon and before a blank
 abbrev colons : List Text → Text
@@ -87,8 +87,15 @@ reads_body (p ∷ ps) g w n i ds ss e y s reads a =
     let v = step n (124 ∷ []) y (bar_word y) (λ c f e ts. refl) x.here in
     let z = reads (next x.stop) (held_as v.held v.fresh.here) in
     record {
-      parameters = x.names; names = z.names; statements = z.statements; stop = z.stop; read = WithParameters (parameters_begin p ps x.read x.plain) x.read v.kind z.read;
-      plain_parameters = x.plain; plain_names = z.plain_names; plain = z.plain ∙ first_none ss; here = inside_left ss e z.here
+      parameters = x.names;
+      names = z.names;
+      statements = z.statements;
+      stop = z.stop;
+      read = WithParameters (parameters_begin p ps x.read x.plain) x.read v.kind z.read;
+      plain_parameters = x.plain;
+      plain_names = z.plain_names;
+      plain = z.plain ∙ first_none ss;
+      here = inside_left ss e z.here;
     }
 
 -- a block from its opening bracket on
@@ -99,8 +106,16 @@ reads_brackets ps ds ss e g w n i h y q le reads a =
     let z = step n (93 ∷ []) q (block_close_word q) (counts_close n BlockEnd) b.here in
     let tree = Block (from_of i) (next b.stop).last b.parameters b.names b.statements (next b.stop).held in
     record {
-      first = Alone tree; middle = back (next i) (next b.stop); last = Alone tree; stop = back (next i) (next b.stop); operand = BlockOperand x.kind b.read z.kind; unaries = NoUnaries tt;
-      plain = (λ j. block (b.plain_parameters j) (b.plain_names j) (b.plain j) (z.held j)); value = λ v. tt; held = x.held; fresh = fresh_back (next i) z.fresh
+      first = Alone tree;
+      middle = back (next i) (next b.stop);
+      last = Alone tree;
+      stop = back (next i) (next b.stop);
+      operand = BlockOperand x.kind b.read z.kind;
+      unaries = NoUnaries tt;
+      plain = (λ j. block (b.plain_parameters j) (b.plain_names j) (b.plain j) (z.held j));
+      value = λ v. tt;
+      held = x.held;
+      fresh = fresh_back (next i) z.fresh;
     }
 
 -- a block with its lines on lines of their own

@@ -1,10 +1,10 @@
 -- Bytes of a text from a place on.
-use Rattle.std.proofs.Common.{◌≡◌, ◌≢◌, ℕ, zero, suc, ◌+◌, ◌-◌, ◌<◌, ◌≤◌, inl, inr, Bool, true, false, ◌&&◌, ◌||◌, List, [], ◌∷◌, ◌++◌, length, get_or, take, drop, arith, refl, ap, sym, subst, ◌∙◌, append_assoc, le_refl}
+use Rattle.std.proofs.Common.{◌≡◌, ◌≢◌, ℕ, zero, suc, ◌+◌, ◌-◌, ◌<◌, ◌≤◌, inl, inr, Bool, true, false, ◌&&◌, ◌||◌, [], ◌∷◌, ◌++◌, length, get_or, take, drop, arith, refl, ap, sym, subst, ◌∙◌, append_assoc}
 use Rattle.std.specs.Prelude.{slice_range, not, ◌==◌}
 use Rattle.std.specs.List.{list_all}
 use Rattle.std.proofs.lemmas.Bool.{and_parts, or_cases, or_parts, or_from, eqb-true, ne_eqb, false≢true}
 use Rattle.std.proofs.lemmas.List.{get_or-append-add, length-append, take_at, take-append-le, drop_at, get_or_append_left}
-use Rattle.token_model.specs.Bytes.{is_blank, is_between, is_digit, is_upper, is_letter, is_word, is_second, is_radix_digit, Fails, IsRun}
+use Rattle.token_model.specs.Bytes.{is_blank, is_between, is_digit, is_upper, is_letter, is_word, is_second, is_radix_digit, IsRun}
 use Rattle.token_model.proofs.Leads.{other_byte}
 use Rattle.grammar_model.specs.Terminal.{Text}
 use Rattle.reread_law.proofs.Copies.{IsCopy, EndsNumeral}
@@ -20,7 +20,7 @@ pub behind : {t : Text} {i : ℕ} (w s : Text) → At t i (w ++ s) → At t (i +
 behind {t} {i} w s a = record {
   front = a.front ++ w;
   split = a.split ∙ sym (append_assoc a.front w s);
-  place = omega (arith, a.place, length-append a.front w)
+  place = omega (arith, a.place, length-append a.front w);
 }
 
 -- the same bytes
@@ -52,7 +52,7 @@ run_at {t} {i} {r} p a m n le all stops = record {
   all = λ k x y.
       let e : i + (k - i) ≡ k = omega arith in
       ap (λ j. p (get_or t j 0)) (sym e) ∙ ap p (byte_at a (k - i)) ∙ all (k - i) (omega arith) (omega arith);
-  stops = ap p (byte_at a n) ∙ stops
+  stops = ap p (byte_at a n) ∙ stops;
 }
 
 -- bytes of a class
@@ -72,7 +72,7 @@ copy_at {t} {i} w s a = record {
   ranges = λ k le.
       let e : i + k - i ≡ k = omega arith in
       let f : 0 + k - 0 ≡ k = omega arith in
-      ap (λ n. take n (drop i t)) e ∙ (λ j. take k (drop (a.place j) (a.split j))) ∙ ap (take k) (drop_at a.front (w ++ s) (length a.front) refl) ∙ take-append-le k w s le ∙ ap (λ n. take n w) (sym f)
+      ap (λ n. take n (drop i t)) e ∙ (λ j. take k (drop (a.place j) (a.split j))) ∙ ap (take k) (drop_at a.front (w ++ s) (length a.front) refl) ∙ take-append-le k w s le ∙ ap (λ n. take n w) (sym f);
 }
 
 -- a byte that ends each token before it: a blank, a line feed, ) ] ; or }
@@ -145,5 +145,5 @@ ends_numeral {t} {i} {s} a e =
       radix = ap is_radix_digit first ∙ or_from (is_digit (get_or s 0 0)) (is_upper (get_or s 0 0)) parts.1 letters.0;
       no_r = λ h. false≢true (sym e.word ∙ ap is_word (sym first ∙ h));
       no_e = λ h. false≢true (sym e.word ∙ ap is_word (sym first ∙ h));
-      no_fraction = λ h. false≢true (sym (ap is_digit (byte_at a 1) ∙ e.fraction (sym first ∙ h.0)) ∙ h.1)
+      no_fraction = λ h. false≢true (sym (ap is_digit (byte_at a 1) ∙ e.fraction (sym first ∙ h.0)) ∙ h.1);
     }

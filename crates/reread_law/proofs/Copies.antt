@@ -1,11 +1,11 @@
 -- Numerals and comments that stand in one text stand in another with the same bytes.
-use Rattle.std.proofs.Common.{◌≡◌, ◌≢◌, ℕ, ◌+◌, ◌-◌, ◌<◌, ◌≤◌, ◌⊎◌, inl, inr, Bool, true, false, List, [], ◌∷◌, ◌++◌, length, get_or, arith, refl, ap, sym, subst, ◌∙◌}
-use Rattle.std.specs.Prelude.{slice_range, not, ◌&&◌, ◌||◌, ◌==◌}
+use Rattle.std.proofs.Common.{◌≡◌, ◌≢◌, ℕ, ◌+◌, ◌-◌, ◌<◌, ◌≤◌, ◌⊎◌, inl, inr, Bool, List, get_or, arith, ap, sym, subst, ◌∙◌}
+use Rattle.std.specs.Prelude.{slice_range}
 use Rattle.std.proofs.lemmas.Bool.{cases_lt, false≢true}
 use Rattle.std.specs.Char.{digit_value}
 use Rattle.std.specs.Str.Parse.{digits_value}
-use Rattle.token_model.specs.Bytes.{is_digit, is_radix_digit, Has, Passes, Fails, IsRun}
-use Rattle.token_model.specs.Tokens.{IsComment, IsDigits, HasRadix, HasFraction, IsInBase, IsMantissa, Radix, Fraction, Plain, HasExponent, IsExponent, Scaled, Unscaled, IsNumeral}
+use Rattle.token_model.specs.Bytes.{is_digit, is_radix_digit, Passes, Fails, IsRun}
+use Rattle.token_model.specs.Tokens.{IsComment, IsDigits, HasRadix, HasFraction, IsInBase, IsMantissa, Radix, Fraction, Plain, IsExponent, Scaled, Unscaled, IsNumeral}
 
 -- n bytes stand at j in one text and at i in another
 pub record IsCopy (t : List ℕ) (i : ℕ) (u : List ℕ) (j n : ℕ) : Type 0 where
@@ -56,7 +56,7 @@ module _ (t : List ℕ) (i : ℕ) (u : List ℕ) (j n : ℕ) (c : IsCopy t i u j
     stops = elim (cases_lt b (j + n)) [
       | inl lt ↦ ap p (byte_at b (omega (arith, r.order)) lt) ∙ r.stops
       | inr le ↦ let e : i + n ≡ i + (b - j) = omega arith in subst (Fails p t) e ends
-    ]
+    ];
   }
 
   -- the range of digits before the r of a radix
@@ -69,7 +69,7 @@ module _ (t : List ℕ) (i : ℕ) (u : List ℕ) (j n : ℕ) (c : IsCopy t i u j
         high = subst (λ s. digits_value 10 s ≤ 36) (sym same) h.high;
         below = λ k x y.
             subst (λ s. digit_value (get_or t k 0) < digits_value 10 s) (sym same)
-            (subst (λ b. digit_value b < digits_value 10 (slice_range u j r)) (sym (byte_of k (omega arith) (omega arith))) (h.below (j + (k - i)) (omega arith) (omega arith)))
+            (subst (λ b. digit_value b < digits_value 10 (slice_range u j r)) (sym (byte_of k (omega arith) (omega arith))) (h.below (j + (k - i)) (omega arith) (omega arith)));
       }
 
   -- the digits in front
@@ -151,7 +151,7 @@ module _ (t : List ℕ) (i : ℕ) (u : List ℕ) (j n : ℕ) (c : IsCopy t i u j
         mantissa = i + (h.mantissa - j);
         digits = digits_copy h.whole a (omega arith) ends.digit h.digits;
         part = part_copy h.whole h.mantissa (omega arith) c ends (after_mantissa h.mantissa (omega arith) h.exponent) h.part;
-        exponent = exponent_copy h.mantissa (omega arith) ends h.exponent
+        exponent = exponent_copy h.mantissa (omega arith) ends h.exponent;
       }
 
   -- a comment
@@ -166,5 +166,5 @@ module _ (t : List ℕ) (i : ℕ) (u : List ℕ) (j n : ℕ) (c : IsCopy t i u j
         order = omega arith;
         inside = λ k x y is. h.inside (j + (k - i)) (omega arith) (omega arith) (sym (byte_of k (omega arith) (omega arith)) ∙ is);
         closes = byte_at h.close (omega arith) (omega arith) ∙ h.closes;
-        end = omega arith
+        end = omega arith;
       }

@@ -1,20 +1,19 @@
 -- Numbers in decimal, as numerals of digits alone.
-use Rattle.std.proofs.Common.{◌≡◌, ◌≢◌, ℕ, ◌+◌, ◌<◌, ◌≤◌, ◌^◌, Bool, true, false, ◌&&◌, List, [], ◌∷◌, ◌++◌, length, get_or, arith, refl, ap, sym, subst, ◌∙◌, append-nil}
+use Rattle.std.proofs.Common.{◌≡◌, ℕ, ◌<◌, ◌≤◌, ◌^◌, Bool, true, false, [], ◌∷◌, length, get_or, arith, refl, ap, sym, ◌∙◌, append-nil}
 use Rattle.std.specs.Prelude.{if◌then◌else◌, nat_le}
 use Rattle.std.specs.Fmt.{decimal}
-use Rattle.std.specs.Int.{IsInRange}
 use Rattle.std.specs.List.{list_all}
 use Rattle.std.specs.Str.Parse.{digits_value}
 use Rattle.std.proofs.lemmas.Bool.{and_parts, and_from, leb-true, le-leb}
 use Rattle.std.proofs.lemmas.List.{get_or_past}
 use Rattle.std.proofs.lemmas.Fmt.{digits_decimal, digits_value-decimal, decimal_nonempty}
 use Rattle.std.proofs.lemmas.Str.Parse.{IsDigitsTest, IsNumeralModel, numerals_by_value}
-use Rattle.token_model.specs.Bytes.{is_digit, is_radix_digit, Passes, Fails}
-use Rattle.token_model.specs.Tokens.{HasRadix, HasFraction, Plain, HasExponent, Unscaled, IsNumeral}
+use Rattle.token_model.specs.Bytes.{is_digit, is_radix_digit}
+use Rattle.token_model.specs.Tokens.{Plain, Unscaled}
 use Rattle.grammar_model.specs.Terminal.{Text, SmallDigits, LargeDigits, OtherNumeral}
 use Rattle.grammar_model.specs.Lexemes.{numeral_of}
 use Rattle.reread_law.proofs.Good.{IsUnsigned}
-use Rattle.reread_law.proofs.Bytes.{At, all_at, byte_at, first_at}
+use Rattle.reread_law.proofs.Bytes.{At, all_at, first_at}
 use Rattle.reread_law.proofs.Copies.{EndsNumeral}
 
 -- digits
@@ -29,7 +28,7 @@ digits_test = record {
       let p = and_parts (is_digit c) (list_all is_digit cs) h in
       let q = and_parts (nat_le 48 c) (nat_le c 57) p.0 in
       ((leb-true 48 c q.0, leb-true c 57 q.1), p.1);
-  more = λ c cs r h. and_from (is_digit c) (list_all is_digit cs) (and_from (nat_le 48 c) (nat_le c 57) (le-leb 48 c r.0) (le-leb c 57 r.1)) h
+  more = λ c cs r h. and_from (is_digit c) (list_all is_digit cs) (and_from (nat_le 48 c) (nat_le c 57) (le-leb 48 c r.0) (le-leb c 57 r.1)) h;
 }
 
 -- their value
@@ -46,7 +45,7 @@ digits_unsigned ds h some =
       mantissa = length ds;
       digits = (all 0 some, record { order = some; all = λ k a b. all k b; stops = ap is_digit past });
       part = Plain (λ r. omega (arith, past, r.0)) (λ r. omega (arith, past, r.0)) refl;
-      exponent = Unscaled (λ k r. omega (arith, past, r.0)) refl
+      exponent = Unscaled (λ k r. omega (arith, past, r.0)) refl;
     }
 
 -- a number in decimal is a numeral
@@ -75,7 +74,7 @@ greater_ends t i s a =
       radix = ap is_radix_digit first;
       no_r = λ h. omega (arith, first, h);
       no_e = λ h. omega (arith, first, h);
-      no_fraction = λ h. omega (arith, first, h.0)
+      no_fraction = λ h. omega (arith, first, h.0);
     }
 
 -- the value of digits alone that are told apart as small

@@ -1,22 +1,20 @@
 -- The canonical texts of cascades, assignments, returns and brace arrays are read as they are.
-use Rattle.std.proofs.Common.{◌≡◌, ℕ, ◌+◌, ◌≤◌, Bool, true, false, List, [], ◌∷◌, ◌++◌, max, arith, refl, ap, sym, subst, ◌∙◌, append_assoc}
+use Rattle.std.proofs.Common.{◌≡◌, ℕ, ◌+◌, ◌≤◌, true, List, [], ◌∷◌, ◌++◌, arith, refl, ap, sym, subst, ◌∙◌, append_assoc}
 use Rattle.std.specs.Prelude.{codes, flat_map}
 use Rattle.std.proofs.lemmas.Bool.{false≢true}
-use Rattle.tree_model.specs.Tree.{Notes, TreeOf, send, cascade, assign, brace, return, TreesOf, no_trees, more_trees, MessagesOf, no_messages, more_messages}
-use Rattle.tree_model.specs.Measure.{height, trees_height, messages_height}
-use Rattle.text_model.specs.declared.precedence.Precedence.{Precedence}
+use Rattle.tree_model.specs.Tree.{Notes, TreeOf, cascade, assign, brace, return, TreesOf, no_trees, more_trees, MessagesOf, no_messages, more_messages}
+use Rattle.tree_model.specs.Measure.{trees_height, messages_height}
 use Rattle.text_model.specs.declared.precedence.Precedence.TheVariants as loose
 use Rattle.text_model.specs.Precedences.{precedence_of, is_looser, operand_text, message_precedence, receiver_limit}
 use Rattle.text_model.specs.Pieces.{pieces_joined}
-use Rattle.text_model.specs.Literals.{is_operator}
 use Rattle.text_model.specs.Expressions.{expression_text, expression_texts, argument_texts, message_text, message_texts}
-use Rattle.grammar_model.specs.Terminal.{Text, Semicolon, Assignment, BraceStart, BraceEnd}
+use Rattle.grammar_model.specs.Terminal.{Text, Semicolon, BraceStart, BraceEnd}
 use Rattle.grammar_model.specs.Input.{Input, kind_of, from_of, next}
-use Rattle.grammar_model.specs.Spanned.{SpannedTree, Cascade, Assign, Brace, SpannedTrees, NoTrees, MoreTrees, one_tree, SpannedMessages, NoMessages, MoreMessages, plain_tree, plain_trees, plain_messages}
-use Rattle.grammar_model.specs.Chain.{Chain, Alone, whole}
+use Rattle.grammar_model.specs.Spanned.{Cascade, Assign, Brace, SpannedTrees, NoTrees, MoreTrees, one_tree, SpannedMessages, NoMessages, MoreMessages, plain_trees, plain_messages}
+use Rattle.grammar_model.specs.Chain.{Alone}
 use Rattle.grammar_model.specs.Ahead.{Any}
-use Rattle.grammar_model.specs.Grammar.{Expression, Assigned, Simple, BraceOperand, NoUnaries, Cascaded, OneCascade, Messages, OneMessage, LastMessage, Message, UnaryMessage, BinaryMessage, KeywordMessage, Items, NoItems, OneItem, FurtherItems, NextItem, LastItem}
-use Rattle.reread_law.proofs.Good.{IsWord, FitsArguments, FitsNone, FitsOne, FitsParts, IsValue, NoReturn, AreTwo}
+use Rattle.grammar_model.specs.Grammar.{Assigned, Simple, BraceOperand, NoUnaries, Cascaded, OneCascade, Messages, OneMessage, LastMessage, Message, UnaryMessage, BinaryMessage, KeywordMessage, Items, NoItems, OneItem, FurtherItems, NextItem, LastItem}
+use Rattle.reread_law.proofs.Good.{IsWord, FitsArguments, FitsNone, FitsOne, FitsParts, IsValue, AreTwo}
 use Rattle.reread_law.proofs.Made.{value_returns}
 use Rattle.reread_law.proofs.Bytes.{ends, ends_all}
 use Rattle.reread_law.proofs.Words.{semicolon_word, period_word, caret_word, assign_word, brace_open_word, brace_close_word}
@@ -24,7 +22,7 @@ use Rattle.reread_law.proofs.Steps.{World, Here, Fresh, step, blank_step, held_a
 use Rattle.reread_law.proofs.ReadsLiterals.{step_name, step_operator}
 use Rattle.reread_law.proofs.Selectors.{unary_text, binary_text}
 use Rattle.reread_law.proofs.Operands.{UnaryRead, ExpressionRead, ReturnRead, Reads, IsReturn, CanRead, can_unary, operand_unary, as_argument}
-use Rattle.reread_law.proofs.Messages.{CanReadAll, reads_parts, binary_precedence, keyword_precedence, IsTold, send_text, sends}
+use Rattle.reread_law.proofs.Messages.{CanReadAll, reads_parts, binary_precedence, keyword_precedence, sends}
 
 -- messages whose arguments are read as they are
 abbrev pub CanReadMessages : MessagesOf Text → Type 0
@@ -84,8 +82,12 @@ reads_messages (more_messages s xs ms) can w n k i h q e le f a =
     let y = reads_message s xs can.0 can.1 w n k (next i) h (rest ++ q) (ends_semicoloned (message_texts k ms) q e) (omega arith) (text_as ((m ++ rest) ++ q) (m ++ (rest ++ q)) (append_assoc m rest q) (held_as x.held x.fresh.here)) in
     let z = reads_messages ms can.2 w n k y.stop h q e (omega arith) y.held y.fresh in
     record {
-      messages = MoreMessages s y.arguments z.messages; stop = z.stop; read = OneMessage {m = y.stop} {j = z.stop} {xs = y.arguments} {ms = z.messages} x.kind y.message z.read;
-      plain = λ j. more_messages s (y.plain j) (z.plain j); held = z.held; fresh = z.fresh
+      messages = MoreMessages s y.arguments z.messages;
+      stop = z.stop;
+      read = OneMessage {m = y.stop} {j = z.stop} {xs = y.arguments} {ms = z.messages} x.kind y.message z.read;
+      plain = λ j. more_messages s (y.plain j) (z.plain j);
+      held = z.held;
+      fresh = z.fresh;
     }
 
 -- messages begin with a semicolon
@@ -99,7 +101,7 @@ can_loose t p non r = record {
   unary = λ e f. cc;
   binary = λ e f. absurd (false≢true (sym e ∙ ap (λ p. is_looser p loose.Binary) p));
   expression = λ v. r;
-  returned = λ x. absurd (non x)
+  returned = λ x. absurd (non x);
 }
 
 -- a cascade
@@ -117,9 +119,12 @@ reads_cascade r s xs t ys ms can v all w n k i h q e le a =
     let tree = Cascade told.from y.stop.last told.receiver (MoreMessages s told.arguments y.messages) in
     let cascaded : Cascaded Any x.read.last x.read.stop tree y.stop = subst (λ c. Cascaded Any c x.read.stop tree y.stop) (sym told.is) (OneCascade begins y.read) in
     record {
-      tree = tree; stop = y.stop; expression = Simple tt x.read.operand x.read.unaries x.read.binaries x.read.keywords cascaded;
+      tree = tree;
+      stop = y.stop;
+      expression = Simple tt x.read.operand x.read.unaries x.read.binaries x.read.keywords cascaded;
       plain = (λ j. cascade (told.plain_receiver j) (more_messages s (told.plain_arguments j) (y.plain j)));
-      held = y.held; fresh = y.fresh
+      held = y.held;
+      fresh = y.fresh;
     }
 
 -- a cascade is read as it is

@@ -1,18 +1,14 @@
 -- What the grammar spells on well-formed tokens is a good tree.
-use Rattle.std.proofs.Common.{◌≡◌, ℕ, Bool, true, false, List, [], ◌∷◌, ◌++◌, Option, Some, None, refl, ap, sym, subst, ◌∙◌}
-use Rattle.std.specs.Prelude.{codes, if◌then◌else◌, nat_le}
+use Rattle.std.proofs.Common.{◌≡◌, ℕ, Bool, true, false, List, [], ◌∷◌, ◌++◌, refl, sym, subst}
+use Rattle.std.specs.Prelude.{if◌then◌else◌, nat_le}
 use Rattle.std.specs.List.{list_all}
-use Rattle.std.specs.Str.{bytes_eq}
 use Rattle.std.specs.Str.Parse.{digits_value}
 use Rattle.token_model.specs.Bytes.{is_digit}
-use Rattle.token_model.specs.declared.kind.Dialect.{Dialect}
-use Rattle.tree_model.specs.Tree.{Notes, LiteralOf, number, str, symbol, char, array, bytes, word, LiteralsOf, no_literals, more_literals, TreeOf, var, literal, send, cascade, assign, block, brace, return, TreesOf, no_trees, more_trees, MessagesOf, no_messages, more_messages, StatementsOf, no_statements, more_statements}
-use Rattle.text_model.specs.Literals.{is_operator}
-use Rattle.grammar_model.specs.Terminal.{Text, NameKind, Ordinary, Super, KeywordKind, BinaryKind, Sign, NumeralKind, SmallDigits, LargeDigits, OtherNumeral, Terminal, Name, Keyword, Binary, Numeral, Constant, Semicolon}
+use Rattle.tree_model.specs.Tree.{Notes, LiteralOf, number, str, symbol, char, array, bytes, word, LiteralsOf, TreeOf, var, return, StatementsOf}
+use Rattle.grammar_model.specs.Terminal.{Text, SmallDigits, LargeDigits, OtherNumeral, Numeral, Constant, Semicolon}
 use Rattle.grammar_model.specs.Words.{is_literal_word}
 use Rattle.grammar_model.specs.Input.{Input, kind_of, next}
-use Rattle.grammar_model.specs.Lexemes.{numeral_of}
-use Rattle.grammar_model.specs.Spanned.{Declared, SpannedTree, Var, Literal, Send, Cascade, Assign, Block, Brace, Return, SpannedTrees, NoTrees, MoreTrees, one_tree, SpannedMessages, NoMessages, MoreMessages, SpannedStatements, NoStatements, MoreStatements, names_of, plain_tree, plain_trees, plain_messages, plain_statements}
+use Rattle.grammar_model.specs.Spanned.{Declared, SpannedTree, SpannedTrees, NoTrees, one_tree, SpannedMessages, MoreMessages, SpannedStatements, names_of, plain_tree, plain_trees, plain_messages, plain_statements}
 use Rattle.grammar_model.specs.Chain.{Chain, Waiting, Alone, Told, whole, sent, IsWhole}
 use Rattle.grammar_model.specs.Ahead.{Longest, IsDigits, NoSemicolon}
 use Rattle.grammar_model.specs.Literals.{word_or_symbol, KeywordRow, LastKeyword, JoinedKeyword, ByteElements, OneByte, NoBytes, LiteralAt, Unsigned, Negative, Fixed, Array, ByteArray, Element, LiteralElement, InnerArray, InnerBytes, NameElement, KeywordElement, BinaryElement, Elements, OneElement, NoElements}

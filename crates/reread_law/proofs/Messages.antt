@@ -1,29 +1,26 @@
 -- The canonical texts of messages, sends and cascades are read as they are.
-use Rattle.std.proofs.Common.{◌≡◌, ℕ, ◌+◌, ◌≤◌, Bool, true, false, List, [], ◌∷◌, ◌++◌, max, arith, refl, ap, sym, subst, ◌∙◌, append_assoc}
-use Rattle.std.specs.Prelude.{codes, flat_map, if◌then◌else◌}
+use Rattle.std.proofs.Common.{◌≡◌, ℕ, ◌+◌, ◌≤◌, true, [], ◌∷◌, ◌++◌, max, arith, refl, ap, sym, ◌∙◌, append_assoc}
 use Rattle.std.proofs.lemmas.Bool.{false≢true}
-use Rattle.tree_model.specs.Tree.{Notes, TreeOf, send, cascade, return, TreesOf, no_trees, more_trees, MessagesOf, no_messages, more_messages}
-use Rattle.tree_model.specs.Measure.{height, trees_height, messages_height}
+use Rattle.tree_model.specs.Tree.{Notes, TreeOf, send, TreesOf, no_trees, more_trees}
+use Rattle.tree_model.specs.Measure.{height, trees_height}
 use Rattle.text_model.specs.declared.precedence.Precedence.{Precedence}
 use Rattle.text_model.specs.declared.precedence.Precedence.TheVariants as loose
-use Rattle.text_model.specs.Precedences.{precedence_of, is_looser, operand_text, message_precedence, receiver_limit, argument_limit}
-use Rattle.text_model.specs.Pieces.{has_colon, pieces_joined}
+use Rattle.text_model.specs.Precedences.{precedence_of, is_looser, operand_text, message_precedence, receiver_limit}
 use Rattle.text_model.specs.Literals.{is_operator}
-use Rattle.text_model.specs.Expressions.{expression_text, argument_texts, message_text, message_texts}
-use Rattle.grammar_model.specs.Terminal.{Text, Semicolon}
-use Rattle.grammar_model.specs.Input.{Input, kind_of, from_of, next}
-use Rattle.grammar_model.specs.Spanned.{SpannedTree, Cascade, SpannedTrees, NoTrees, MoreTrees, one_tree, SpannedMessages, NoMessages, MoreMessages, plain_tree, plain_trees, plain_messages}
+use Rattle.text_model.specs.Expressions.{expression_text, argument_texts, message_text}
+use Rattle.grammar_model.specs.Terminal.{Text}
+use Rattle.grammar_model.specs.Input.{Input, from_of, next}
+use Rattle.grammar_model.specs.Spanned.{SpannedTree, SpannedTrees, NoTrees, MoreTrees, one_tree, plain_tree, plain_trees}
 use Rattle.grammar_model.specs.Chain.{Chain, Told, whole, sent}
 use Rattle.grammar_model.specs.Ahead.{Any}
-use Rattle.grammar_model.specs.Grammar.{Expression, Simple, Keywords, OneKeywords, Parts, LastPart, FurtherPart, Cascaded, OneCascade, Messages, OneMessage, LastMessage, Message, UnaryMessage, BinaryMessage, KeywordMessage}
+use Rattle.grammar_model.specs.Grammar.{OneKeywords, Parts, LastPart, FurtherPart}
 use Rattle.reread_law.proofs.Good.{IsWord, GoodParts, LastOne, OneBefore, FitsArguments, FitsNone, FitsOne, FitsParts, IsValue, NoReturn}
 use Rattle.reread_law.proofs.Made.{value_returns}
 use Rattle.reread_law.proofs.Bytes.{ends, ends_all}
-use Rattle.reread_law.proofs.Words.{semicolon_word}
-use Rattle.reread_law.proofs.Steps.{World, Here, Fresh, step, blank_step, held_as, text_as}
+use Rattle.reread_law.proofs.Steps.{World, Here, Fresh, blank_step, held_as, text_as}
 use Rattle.reread_law.proofs.ReadsLiterals.{step_name, step_keyword, step_operator}
 use Rattle.reread_law.proofs.Selectors.{operator_colon, parts_colon, unary_text, binary_text, last_text, before_text}
-use Rattle.reread_law.proofs.Operands.{UnaryRead, BinaryRead, KeywordRead, ExpressionRead, to_binary, to_keyword, to_expression, Reads, IsReturn, CanRead, can_unary, operand_unary, operand_binary, sent_plain, sent_whole, sent_told, unaries_more, binaries_more, as_argument, as_keyword_argument}
+use Rattle.reread_law.proofs.Operands.{UnaryRead, BinaryRead, KeywordRead, to_binary, to_keyword, to_expression, CanRead, can_unary, operand_unary, operand_binary, sent_plain, sent_whole, sent_told, unaries_more, binaries_more, as_argument, as_keyword_argument}
 
 -- arguments whose texts are read as they are
 abbrev pub CanReadAll : TreesOf Text → Type 0
@@ -103,13 +100,18 @@ send_unary r s can kept g w n k i h q e le a =
     let to = (next y.stop).last in
     record {
       read = record {
-        first = y.first; middle = y.middle; last = sent f to y.last s NoTrees; stop = next y.stop; operand = y.operand;
+        first = y.first;
+        middle = y.middle;
+        last = sent f to y.last s NoTrees;
+        stop = next y.stop;
+        operand = y.operand;
         unaries = unaries_more y.unaries z.1.kind;
         plain = sent_plain f to y.last s NoTrees ∙ ap (λ u. send u s no_trees) y.plain;
         value = λ v. sent_whole f to y.last s NoTrees;
-        held = z.1.held; fresh = z.1.fresh
+        held = z.1.held;
+        fresh = z.1.fresh;
       };
-      told = λ v. record { from = f; to = to; receiver = whole y.last; arguments = NoTrees; is = sent_told f to y.last s NoTrees (y.value v); plain_receiver = y.plain; plain_arguments = refl }
+      told = λ v. record { from = f; to = to; receiver = whole y.last; arguments = NoTrees; is = sent_told f to y.last s NoTrees (y.value v); plain_receiver = y.plain; plain_arguments = refl };
     }
 
 -- a binary send
@@ -126,13 +128,21 @@ send_binary r s x can kept g arg val w n k i h q e le a =
     let to = v.stop.last in
     record {
       read = record {
-        first = y.first; middle = y.middle; second = y.second; later = y.later; last = sent f to y.last s (one_tree v.tree); stop = v.stop; operand = y.operand; unaries = y.unaries;
+        first = y.first;
+        middle = y.middle;
+        second = y.second;
+        later = y.later;
+        last = sent f to y.last s (one_tree v.tree);
+        stop = v.stop;
+        operand = y.operand;
+        unaries = y.unaries;
         binaries = binaries_more y.binaries z.1.kind v.argument;
         plain = sent_plain f to y.last s (one_tree v.tree) ∙ (λ j. send (y.plain j) s (more_trees (v.plain j) no_trees));
         value = λ v. sent_whole f to y.last s (one_tree _);
-        held = v.held; fresh = v.fresh
+        held = v.held;
+        fresh = v.fresh;
       };
-      told = λ w. record { from = f; to = to; receiver = whole y.last; arguments = one_tree v.tree; is = sent_told f to y.last s (one_tree v.tree) (y.value w); plain_receiver = y.plain; plain_arguments = ap (λ u. more_trees u no_trees) v.plain }
+      told = λ w. record { from = f; to = to; receiver = whole y.last; arguments = one_tree v.tree; is = sent_told f to y.last s (one_tree v.tree) (y.value w); plain_receiver = y.plain; plain_arguments = ap (λ u. more_trees u no_trees) v.plain };
     }
 
 -- a keyword send
@@ -146,13 +156,24 @@ send_keyword r s xs can kept g args w n k i h q e le a =
     let to = v.stop.last in
     record {
       read = record {
-        first = y.first; middle = y.middle; second = y.second; later = y.later; third = y.last; latest = y.stop; last = sent f to y.last s v.arguments; stop = v.stop; operand = y.operand; unaries = y.unaries; binaries = y.binaries;
+        first = y.first;
+        middle = y.middle;
+        second = y.second;
+        later = y.later;
+        third = y.last;
+        latest = y.stop;
+        last = sent f to y.last s v.arguments;
+        stop = v.stop;
+        operand = y.operand;
+        unaries = y.unaries;
+        binaries = y.binaries;
         keywords = OneKeywords v.parts;
         plain = sent_plain f to y.last s v.arguments ∙ (λ j. send (y.plain j) s (v.plain j));
         value = λ w. sent_whole f to y.last s v.arguments;
-        held = v.held; fresh = v.fresh
+        held = v.held;
+        fresh = v.fresh;
       };
-      told = λ w. record { from = f; to = to; receiver = whole y.last; arguments = v.arguments; is = sent_told f to y.last s v.arguments (y.value w); plain_receiver = y.plain; plain_arguments = v.plain }
+      told = λ w. record { from = f; to = to; receiver = whole y.last; arguments = v.arguments; is = sent_told f to y.last s v.arguments (y.value w); plain_receiver = y.plain; plain_arguments = v.plain };
     }
 
 -- the precedence of a message with arguments
@@ -182,7 +203,7 @@ can_send r s xs can kept (FitsOne {x} g) args =
       unary = λ u f. cc;
       binary = λ u f w n k i h q e le a. (send_binary r s x can kept g args.0 args.1 w n k i h q e (omega arith) (text_as _ _ (text k q) a)).read;
       expression = λ v w n k i h q e le a. to_expression v (to_keyword (send_binary r s x can kept g args.0 args.1 w n k i h q e (omega arith) (text_as _ _ (text k q) a)).read);
-      returned = λ x. absurd x
+      returned = λ x. absurd x;
     }
 can_send r s xs can kept (FitsParts g) args =
     let p = keyword_precedence s xs g in
@@ -190,5 +211,5 @@ can_send r s xs can kept (FitsParts g) args =
       unary = λ u f. cc;
       binary = λ u f. absurd (false≢true (sym u ∙ ap (λ p. is_looser p loose.Binary) p));
       expression = λ v w n k i h q e le a. to_expression v (send_keyword r s xs can kept g args w n k i h q e (omega arith) (text_as _ _ (ap (λ p. send_text k p r s xs ++ q) p) a)).read;
-      returned = λ x. absurd x
+      returned = λ x. absurd x;
     }

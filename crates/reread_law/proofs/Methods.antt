@@ -1,25 +1,23 @@
 -- The canonical text of a method spells it.
-use Rattle.std.proofs.Common.{◌≡◌, ℕ, ◌+◌, ◌≤◌, Bool, true, false, List, [], ◌∷◌, ◌++◌, Option, Some, None, arith, refl, ap, sym, subst, ◌∙◌, append_assoc}
+use Rattle.std.proofs.Common.{◌≡◌, ℕ, ◌≤◌, Bool, true, List, [], ◌∷◌, ◌++◌, Option, Some, None, arith, refl, ap, sym, subst, ◌∙◌, append_assoc}
 use Rattle.std.specs.Prelude.{codes}
 use Rattle.std.specs.Fmt.{decimal}
-use Rattle.std.specs.Str.Parse.{digits_value}
 use Rattle.std.proofs.lemmas.List.{append-nil}
 use Rattle.token_model.specs.declared.kind.Dialect.TheVariants.{Second}
 use Rattle.tree_model.specs.Tree.{Notes, TreeOf, StatementsOf, no_statements, more_statements, SequenceOf, MethodOf}
 use Rattle.tree_model.specs.Measure.{statements_height, sequence_height}
-use Rattle.tree_model.specs.Normal.{leading_of, without_leading_of, normal_by, normal, IsNormal}
-use Rattle.text_model.specs.Pieces.{pieces_joined}
-use Rattle.text_model.specs.Expressions.{line_of, note_lines, temporary_lines, statement_lines}
+use Rattle.tree_model.specs.Normal.{leading_of, without_leading_of, normal_by, normal}
+use Rattle.text_model.specs.Expressions.{note_lines, temporary_lines, statement_lines}
 use Rattle.text_model.specs.Whole.{sequence_lines, pattern_text, primitive_lines, canonical_method}
-use Rattle.grammar_model.specs.Terminal.{Text, Binary, Keyword, Numeral, Bar, Less, Greater, PrimitiveKeyword, SmallDigits}
-use Rattle.grammar_model.specs.Input.{Input, beginning, kind_of, next, clear}
+use Rattle.grammar_model.specs.Terminal.{Text, Numeral}
+use Rattle.grammar_model.specs.Input.{Input, beginning, next, clear}
 use Rattle.grammar_model.specs.Ahead.{Longest, Any}
 use Rattle.grammar_model.specs.Spanned.{Declared, SpannedStatements, NoStatements, SpannedMethod, names_of, plain_statements, plain_sequence, plain_method}
-use Rattle.grammar_model.specs.Whole.{MethodBody, WithBars, WithoutBars, Primitive, OnePrimitive, Behind, Plainly, Primitively, IsMethod}
+use Rattle.grammar_model.specs.Whole.{WithBars, WithoutBars, Primitive, OnePrimitive, Behind, Plainly, Primitively, IsMethod}
 use Rattle.grammar_model.specs.Spelling.{SpellsMethod}
 use Rattle.grammar_model.proofs.Limits.{limit_Method, normal_Method}
 use Rattle.grammar_model.proofs.Rows.{longest_IsMethod}
-use Rattle.reread_law.proofs.Good.{IsWord, IsKeywordText, AllNotes, AllWords, GoodStatements}
+use Rattle.reread_law.proofs.Good.{IsKeywordText, AllNotes, AllWords, GoodStatements}
 use Rattle.reread_law.proofs.Sound.{Sound, sound_kind, sound_next, sound_clear, notes_append, sound_lexed}
 use Rattle.reread_law.proofs.Made.{made_Names, made_Statements}
 use Rattle.reread_law.proofs.PlainFaults.{sound_Method}
@@ -126,9 +124,14 @@ reads_plain ss e can notes f w kernel i head le a =
     let y = reads_statements ss can w 0 1 i head (note_lines 1 e) [] refl (omega arith) a in
     let z = reads_notes 1 e notes (left_after head ss) [] [] (text_as _ _ (ap (λ y. joined_lines y ++ []) (sym (append-nil (note_lines 1 e)))) y.here) in
     record {
-      opening = []; names = []; statements = y.statements; tail = left_after head ss ++ e; stop = y.stop; read = Plainly (WithoutBars tt y.read);
+      opening = [];
+      names = [];
+      statements = y.statements;
+      tail = left_after head ss ++ e;
+      stop = y.stop;
+      read = Plainly (WithoutBars tt y.read);
       plain = λ s xs. ap (λ x. normal (method_of s xs [] None [] x (left_after head ss ++ e))) y.plain ∙ normal_again s xs head None ss e f;
-      here = z
+      here = z;
     }
 
 -- a body with temporaries
@@ -143,9 +146,14 @@ reads_barred x ns ss e words can notes w kernel i head le a =
     let u = reads_statements ss can w 0 1 (next z.stop) [] (note_lines 1 e) [] refl (omega arith) (line_break ls [] (held_as v.held v.fresh.here)) in
     let r = reads_notes 1 e notes (left_after [] ss) [] [] (text_as _ _ (ap (λ y. joined_lines y ++ []) (sym (append-nil (note_lines 1 e)))) u.here) in
     record {
-      opening = (next i).held; names = z.names; statements = u.statements; tail = e; stop = u.stop; read = Plainly (WithBars y.kind z.read v.kind u.read);
+      opening = (next i).held;
+      names = z.names;
+      statements = u.statements;
+      tail = e;
+      stop = u.stop;
+      read = Plainly (WithBars y.kind z.read v.kind u.read);
       plain = λ s xs j. normal (method_of s xs (y.held j) None (z.plain j) ((u.plain ∙ first_none ss) j) e);
-      here = held_as (ap (λ x. x ++ e) (left_none ss)) r
+      here = held_as (ap (λ x. x ++ e) (left_none ss)) r;
     }
 
 -- the keyword of primitives
@@ -207,7 +215,7 @@ method_again kernel t m h =
         lexed = b.lexed f.clean;
         shallow = f.shallow;
         grammar = longest_IsMethod kernel b.world.tokens u grammar;
-        sound = sound_Method h.spanned u (sym h.same ∙ sym same) h.spells.sound
+        sound = sound_Method h.spanned u (sym h.same ∙ sym same) h.spells.sound;
       };
-      same = sym same
+      same = sym same;
     }

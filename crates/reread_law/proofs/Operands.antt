@@ -1,15 +1,14 @@
 -- What it is to read an expression, and operands in parentheses or without.
-use Rattle.std.proofs.Common.{◌≡◌, ℕ, ◌+◌, ◌≤◌, Bool, true, false, List, [], ◌∷◌, ◌++◌, arith, refl, ap, sym, subst, ◌∙◌, append_assoc}
+use Rattle.std.proofs.Common.{◌≡◌, ℕ, ◌+◌, ◌≤◌, Bool, true, false, [], ◌∷◌, ◌++◌, arith, refl, ap, sym, append_assoc}
 use Rattle.std.specs.Prelude.{codes, if◌then◌else◌}
 use Rattle.std.proofs.lemmas.Bool.{false≢true}
-use Rattle.tree_model.specs.Tree.{Notes, TreeOf, var, literal, send, cascade, assign, block, brace, return, TreesOf, no_trees, more_trees, MessagesOf, no_messages, more_messages, StatementsOf, no_statements, more_statements}
+use Rattle.tree_model.specs.Tree.{Notes, TreeOf, var, literal, send, cascade, assign, block, brace, return}
 use Rattle.tree_model.specs.Measure.{height}
 use Rattle.text_model.specs.declared.precedence.Precedence.{Precedence}
 use Rattle.text_model.specs.declared.precedence.Precedence.TheVariants as loose
-use Rattle.text_model.specs.Precedences.{precedence_of, is_looser, operand_text, message_precedence}
-use Rattle.text_model.specs.Pieces.{has_colon}
+use Rattle.text_model.specs.Precedences.{precedence_of, is_looser, operand_text}
 use Rattle.text_model.specs.Expressions.{expression_text}
-use Rattle.grammar_model.specs.Terminal.{Text, NameKind, BinaryKind, Name, Binary, Opens, Closes, Group, GroupEnd, Caret}
+use Rattle.grammar_model.specs.Terminal.{Text, NameKind, BinaryKind, Name, Binary, Group, GroupEnd, Caret}
 use Rattle.grammar_model.specs.Input.{Input, kind_of, from_of, next}
 use Rattle.grammar_model.specs.Spanned.{SpannedTree, SpannedTrees, NoTrees, one_tree, plain_tree, plain_trees}
 use Rattle.grammar_model.specs.Chain.{Chain, Waiting, Alone, Told, whole, sent, IsWhole}
@@ -121,7 +120,7 @@ can_unary t non r = record {
   unary = λ e f. r;
   binary = λ e f w n k i h s g le a. to_binary (r w n k i h s g le a);
   expression = λ v w n k i h s g le a. to_expression v (to_keyword (to_binary (r w n k i h s g le a)));
-  returned = λ x. absurd (non x)
+  returned = λ x. absurd (non x);
 }
 
 -- only a variable or a return is no value, and both hold together

@@ -1,18 +1,18 @@
 -- The canonical text of a method's pattern is read as that pattern.
-use Rattle.std.proofs.Common.{◌≡◌, ◌≢◌, ℕ, ◌+◌, ◌≤◌, Bool, true, false, List, [], ◌∷◌, ◌++◌, arith, refl, ap, sym, subst, ◌∙◌, append_assoc}
+use Rattle.std.proofs.Common.{◌≡◌, ℕ, true, List, [], ◌∷◌, ◌++◌, arith, refl, ap, sym, ◌∙◌, append_assoc}
 use Rattle.std.specs.Prelude.{codes}
 use Rattle.std.proofs.lemmas.List.{append-nil}
 use Rattle.tree_model.specs.Tree.{Notes}
-use Rattle.text_model.specs.Pieces.{pieces_joined, pieces_in_turn, keywords_of}
+use Rattle.text_model.specs.Pieces.{pieces_joined, pieces_in_turn}
 use Rattle.text_model.specs.Literals.{is_operator}
 use Rattle.text_model.specs.Expressions.{message_text}
 use Rattle.text_model.specs.Whole.{pattern_text}
-use Rattle.grammar_model.specs.Terminal.{Text, Name, Keyword, Binary}
-use Rattle.grammar_model.specs.Input.{Input, kind_of, from_of, next}
+use Rattle.grammar_model.specs.Terminal.{Text}
+use Rattle.grammar_model.specs.Input.{Input, from_of, next}
 use Rattle.grammar_model.specs.Spanned.{Declared, names_of}
 use Rattle.grammar_model.specs.Ahead.{Longest, Any}
 use Rattle.grammar_model.specs.Whole.{PatternParts, LastPatternPart, FurtherPatternPart, Pattern, UnaryPattern, BinaryPattern, KeywordPattern}
-use Rattle.reread_law.proofs.Good.{IsWord, IsKeywordText, AllWords}
+use Rattle.reread_law.proofs.Good.{IsWord, IsKeywordText}
 use Rattle.reread_law.proofs.Sound.{Sound, sound_kind, sound_next}
 use Rattle.reread_law.proofs.Bytes.{ends, ends_all}
 use Rattle.reread_law.proofs.Steps.{World, Here, Fresh, blank_step, held_as, text_as}

@@ -1,6 +1,6 @@
 -- Strings and symbols of canonical texts are tokens.
-use Rattle.std.proofs.Common.{◌≡◌, ◌≢◌, ℕ, suc, ◌+◌, ◌-◌, ◌<◌, ◌≤◌, ◌⊎◌, inl, inr, Bool, true, false, ◌&&◌, ◌||◌, List, [], ◌∷◌, ◌++◌, length, get_or, take, drop, Some, arith, refl, ap, sym, subst, ◌∙◌, append_assoc}
-use Rattle.std.specs.Prelude.{slice_range, ◌==◌, if◌then◌else◌}
+use Rattle.std.proofs.Common.{◌≡◌, ◌≢◌, ℕ, suc, ◌+◌, ◌-◌, ◌⊎◌, inl, inr, Bool, true, false, ◌&&◌, ◌||◌, [], ◌∷◌, ◌++◌, length, get_or, take, Some, arith, refl, ap, sym, subst, ◌∙◌, append_assoc}
+use Rattle.std.specs.Prelude.{◌==◌, if◌then◌else◌}
 use Rattle.std.specs.List.{list_all}
 use Rattle.std.proofs.lemmas.Bool.{and_parts, and_from, or_cases, cases_Bool, eqb-true, eqb-false, ne_eqb, false≢true}
 use Rattle.std.proofs.lemmas.List.{length-append, take_at, append-nil}
@@ -13,12 +13,11 @@ use Rattle.token_model.specs.Tokens.{IsKeyword, IsString, IsKeywordRow, Last, Mo
 use Rattle.token_model.specs.declared.kind.TokenKind.TheVariants as kinds
 use Rattle.token_model.proofs.Leads.{other_byte}
 use Rattle.tree_model.specs.Tree.{str, symbol}
-use Rattle.text_model.specs.Pieces.{is_colon, keywords_of}
+use Rattle.text_model.specs.Pieces.{is_colon}
 use Rattle.text_model.specs.Literals.{is_identifier, is_keyword_row, is_operator, is_selector, quoted_text, symbol_text}
 use Rattle.text_model.proofs.KeywordRows.{are_keywords, keywords_row}
 use Rattle.grammar_model.specs.Terminal.{Text, Constant}
 use Rattle.grammar_model.specs.Lexemes.{singled, unquoted}
-use Rattle.grammar_model.specs.Lexemes as lexemes
 use Rattle.reread_law.proofs.Good.{IsWord, IsKeywordText}
 use Rattle.reread_law.proofs.Bytes.{At, behind, same_bytes, byte_at, first_at, range_at, Ends}
 use Rattle.reread_law.proofs.Words.{IsWordOf, name_at, keyword_at, binary_at}
@@ -63,7 +62,7 @@ string_at {t} {i} x s n a =
       inside = subst (IsPaired 39) (sym (range_at d (39 ∷ s) inner)) (paired_doubled x);
       closes = first_at last;
       alone = λ is. n (sym (byte_at last 1) ∙ is);
-      end = omega (arith, length-append d (39 ∷ []))
+      end = omega (arith, length-append d (39 ∷ []));
     }
 
 -- a string
@@ -72,7 +71,7 @@ string_word x s n = record {
   token = λ t i a. string_at x s n a;
   inner = λ is. cc;
   dark = refl;
-  seen = λ f d. ap (λ y. Some (Constant (str y))) (unquoted-quoted x)
+  seen = λ f d. ap (λ y. Some (Constant (str y))) (unquoted-quoted x);
 }
 
 -- keywords joined
@@ -204,7 +203,7 @@ plain_symbol x s h e = record {
       (first_at a, subst (IsSymbolName t (i + 1)) f (selector_at x s h e (behind (35 ∷ []) (x ++ s) a)));
   inner = λ is. cc;
   dark = refl;
-  seen = λ f d. ap (λ y. Some (Constant (symbol y))) (rw (ne_eqb (get_or x 0 0) 39 (selector_no_quote x h)) refl)
+  seen = λ f d. ap (λ y. Some (Constant (symbol y))) (rw (ne_eqb (get_or x 0 0) 39 (selector_no_quote x h)) refl);
 }
 
 -- a symbol with quotes
@@ -215,7 +214,7 @@ quoted_symbol x s e = record {
       (first_at a, subst (IsSymbolName t (i + 1)) f (Quoted (string_at x s e.quote (behind (35 ∷ []) (quoted_text x ++ s) a))));
   inner = λ is. cc;
   dark = refl;
-  seen = λ f d. ap (λ y. Some (Constant (symbol y))) (unquoted-quoted x)
+  seen = λ f d. ap (λ y. Some (Constant (symbol y))) (unquoted-quoted x);
 }
 
 -- a symbol

@@ -1,5 +1,5 @@
 -- The canonical text of a literal is read as that literal.
-use Rattle.std.proofs.Common.{◌≡◌, ◌≢◌, ℕ, get_or, ◌+◌, ◌≤◌, Bool, true, false, List, [], ◌∷◌, ◌++◌, max, arith, refl, ap, sym, subst, ◌∙◌, append_assoc}
+use Rattle.std.proofs.Common.{◌≡◌, ◌≢◌, ℕ, get_or, ◌+◌, ◌≤◌, Bool, true, false, List, [], ◌∷◌, ◌++◌, arith, refl, sym, subst, append_assoc}
 use Rattle.std.specs.Prelude.{codes, flat_map, nat_le, if◌then◌else◌}
 use Rattle.std.specs.List.{list_all}
 use Rattle.std.specs.Str.{bytes_eq}
@@ -10,7 +10,7 @@ use Rattle.tree_model.specs.Tree.{Notes, LiteralOf, number, str, symbol, char, a
 use Rattle.tree_model.specs.Measure.{literal_height, literals_height}
 use Rattle.text_model.specs.Pieces.{pieces_joined}
 use Rattle.text_model.specs.Literals.{is_operator, literal_text, literal_texts}
-use Rattle.grammar_model.specs.Terminal.{Text, Terminal, NameKind, Ordinary, Super, KeywordKind, AnyKeyword, PrimitiveKeyword, BinaryKind, Name, Keyword, Binary, Numeral, SmallDigits, LargeDigits, OtherNumeral, GroupEnd, BlockEnd, ArrayStart, BytesStart, Closes}
+use Rattle.grammar_model.specs.Terminal.{Text, Terminal, NameKind, Ordinary, Super, KeywordKind, AnyKeyword, PrimitiveKeyword, BinaryKind, Name, Keyword, Binary, Numeral, SmallDigits, LargeDigits, GroupEnd, BlockEnd, ArrayStart, BytesStart}
 use Rattle.grammar_model.specs.Words.{is_literal_word}
 use Rattle.grammar_model.specs.Input.{Input, kind_of, next}
 use Rattle.grammar_model.specs.Ahead.{Any, IsDigits}
@@ -20,7 +20,7 @@ use Rattle.reread_law.proofs.Good.{IsWord, IsKeywordText, Plain, Minus, GoodByte
 use Rattle.reread_law.proofs.Bytes.{ends, Ends, ends_all}
 use Rattle.reread_law.proofs.Words.{IsWordOf, name_word, keyword_word, operator_word, numeral_word, char_word, close_word, block_close_word, array_open_word, bytes_open_word}
 use Rattle.reread_law.proofs.Quoted.{string_word, symbol_word}
-use Rattle.reread_law.proofs.Steps.{World, Here, Fresh, Stepped, Counts, blank_step, step, step_minus, held_as, text_as, counts_open, counts_close}
+use Rattle.reread_law.proofs.Steps.{World, Here, Fresh, Stepped, blank_step, step, step_minus, held_as, text_as, counts_open, counts_close}
 
 -- the class of an identifier
 pub named : (n : Text) → (c : NameKind) × (name_of n ≡ Name c n)

@@ -1,14 +1,14 @@
 -- The texts of messages and patterns, by the selectors' kinds.
-use Rattle.std.proofs.Common.{◌≡◌, ℕ, Bool, true, false, ◌&&◌, ◌||◌, List, [], ◌∷◌, ◌++◌, inl, inr, refl, ap, sym, subst, ◌∙◌, append_assoc}
+use Rattle.std.proofs.Common.{◌≡◌, ℕ, Bool, true, false, ◌||◌, List, [], ◌∷◌, ◌++◌, inl, inr, refl, ap, sym, subst, ◌∙◌, append_assoc}
 use Rattle.std.specs.Prelude.{◌==◌}
-use Rattle.std.specs.List.{list_all, list_any}
+use Rattle.std.specs.List.{list_all}
 use Rattle.std.proofs.lemmas.Bool.{and_parts, or_cases, or_from, or_right, or_left, eqb-true, ne_eqb, false≢true}
 use Rattle.std.proofs.lemmas.List.{append-nil}
 use Rattle.std.proofs.lemmas.List.Folds.{list_any-append}
 use Rattle.token_model.specs.Bytes.{is_letter, is_word, is_binary, is_second}
 use Rattle.token_model.proofs.Leads.{other_byte}
-use Rattle.tree_model.specs.Tree.{TreeOf, TreesOf, no_trees, more_trees}
-use Rattle.text_model.specs.Pieces.{pieces_joined, pieces_behind, pieces_in_turn, is_colon, keywords_of, has_colon}
+use Rattle.tree_model.specs.Tree.{TreesOf}
+use Rattle.text_model.specs.Pieces.{pieces_behind, pieces_in_turn, is_colon, keywords_of, has_colon}
 use Rattle.text_model.specs.Literals.{is_operator}
 use Rattle.text_model.specs.Expressions.{message_text}
 use Rattle.text_model.proofs.PieceLemmas.{keywords_of-colon, keywords_of-plain}

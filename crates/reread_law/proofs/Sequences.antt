@@ -1,23 +1,22 @@
 -- The lines of a sequence are read as its temporaries, its statements and its comments.
-use Rattle.std.proofs.Common.{◌≡◌, ℕ, zero, suc, ◌+◌, ◌≤◌, ◌⊎◌, inl, inr, Bool, true, false, List, [], ◌∷◌, ◌++◌, replicate, max, arith, refl, ap, sym, subst, ◌∙◌, append_assoc}
-use Rattle.std.specs.Prelude.{codes, flat_map, map}
-use Rattle.std.proofs.lemmas.Bool.{false≢true}
+use Rattle.std.proofs.Common.{◌≡◌, ℕ, zero, suc, ◌+◌, ◌≤◌, ◌⊎◌, inl, inr, true, List, [], ◌∷◌, ◌++◌, replicate, arith, refl, ap, sym, ◌∙◌, append_assoc}
+use Rattle.std.specs.Prelude.{codes, flat_map}
 use Rattle.std.proofs.lemmas.List.{append-nil}
 use Rattle.tree_model.specs.Tree.{Notes, TreeOf, var, literal, send, cascade, assign, block, brace, return, StatementsOf, no_statements, more_statements}
 use Rattle.tree_model.specs.Measure.{height, statements_height}
 use Rattle.text_model.specs.Pieces.{pieces_joined}
-use Rattle.text_model.specs.Expressions.{line_of, note_lines, temporary_lines, period_before, expression_text, statement_lines}
-use Rattle.grammar_model.specs.Terminal.{Text, NameKind, Name, Binary, Bar}
-use Rattle.grammar_model.specs.Input.{Input, kind_of, from_of, next, clear}
-use Rattle.grammar_model.specs.Spanned.{Declared, SpannedTree, Return, SpannedStatements, NoStatements, MoreStatements, names_of, plain_tree, plain_statements}
+use Rattle.text_model.specs.Expressions.{line_of, note_lines, temporary_lines, expression_text, statement_lines}
+use Rattle.grammar_model.specs.Terminal.{Text}
+use Rattle.grammar_model.specs.Input.{Input, from_of, next, clear}
+use Rattle.grammar_model.specs.Spanned.{Declared, Return, SpannedStatements, NoStatements, MoreStatements, names_of, plain_statements}
 use Rattle.grammar_model.specs.Ahead.{Any}
 use Rattle.grammar_model.specs.Grammar.{Names, OneName, NoNames, Temporaries, Declares, DeclaresNone, Sequence, Sequenced, Statements, NoMore, Returned, OneStatement, Ended, Unended, UnendedReturn}
 use Rattle.reread_law.proofs.Good.{AllNotes, AllWords, IsValue, IsStatement}
 use Rattle.reread_law.proofs.Bytes.{ends, ends_all}
 use Rattle.reread_law.proofs.Words.{bar_word, period_word}
-use Rattle.reread_law.proofs.Steps.{World, Here, Fresh, step, blank_step, note_step, held_as, text_as, fresh_clear}
+use Rattle.reread_law.proofs.Steps.{World, Here, step, blank_step, note_step, held_as, text_as, fresh_clear}
 use Rattle.reread_law.proofs.ReadsLiterals.{step_name, blanked}
-use Rattle.reread_law.proofs.Operands.{ExpressionRead, ReturnRead, IsReturn, CanRead}
+use Rattle.reread_law.proofs.Operands.{IsReturn, CanRead}
 
 -- lines, each behind a line feed
 abbrev pub lined : List Text → Text
@@ -128,14 +127,20 @@ reads_last t can g w n k i h s e le a = elim (statement_cases t no_statements g)
   | inl r ↦
       let z = can.returned r.0 w n k i h s e le a in
       record {
-        statements = MoreStatements z.stop.held (from_of i) (Return (from_of i) z.stop.last z.tree) NoStatements; stop = clear z.stop;
-        read = Returned z.kind z.expression (UnendedReturn tt); plain = (λ j. more_statements (z.held j) (z.plain j) no_statements); here = (fresh_clear z.fresh).here
+        statements = MoreStatements z.stop.held (from_of i) (Return (from_of i) z.stop.last z.tree) NoStatements;
+        stop = clear z.stop;
+        read = Returned z.kind z.expression (UnendedReturn tt);
+        plain = (λ j. more_statements (z.held j) (z.plain j) no_statements);
+        here = (fresh_clear z.fresh).here;
       }
   | inr v ↦
       let z = can.expression v w n k i h s e le a in
       record {
-        statements = MoreStatements z.stop.held (from_of i) z.tree NoStatements; stop = clear z.stop;
-        read = OneStatement z.expression (Unended tt); plain = (λ j. more_statements (z.held j) (z.plain j) no_statements); here = (fresh_clear z.fresh).here
+        statements = MoreStatements z.stop.held (from_of i) z.tree NoStatements;
+        stop = clear z.stop;
+        read = OneStatement z.expression (Unended tt);
+        plain = (λ j. more_statements (z.held j) (z.plain j) no_statements);
+        here = (fresh_clear z.fresh).here;
       }
 ]
 
@@ -197,10 +202,11 @@ reads_statements (more_statements c t (more_statements d v ss)) can w n k i h ls
     let p = step n (46 ∷ []) after (period_word after) (λ c f e ts. refl) (held_as y.held y.fresh.here) in
     let z = reads_statements (more_statements d v ss) can.3 w n k (clear (next y.stop)) [] ls s e (omega arith) (line_break (more ++ ls) s (fresh_clear p.fresh).here) in
     record {
-      statements = MoreStatements (next y.stop).held (from_of i) y.tree z.statements; stop = z.stop;
+      statements = MoreStatements (next y.stop).held (from_of i) y.tree z.statements;
+      stop = z.stop;
       read = OneStatement {m = y.stop} {j = z.stop} {t = y.tree} {ss = z.statements} y.expression (Ended p.kind z.read);
       plain = (λ j. more_statements (p.held j) (y.plain j) ((z.plain ∙ first_none rest) j));
-      here = held_as (left_none rest) z.here
+      here = held_as (left_none rest) z.here;
     }
 
 -- a sequence was read

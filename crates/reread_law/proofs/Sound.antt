@@ -1,10 +1,9 @@
 -- The tokens of a text are well formed: what the grammar sees of them can be written again.
-use Rattle.std.proofs.Common.{◌≡◌, ◌≢◌, ℕ, zero, suc, ◌+◌, ◌-◌, ◌<◌, ◌≤◌, inl, inr, Bool, true, false, List, [], ◌∷◌, ◌++◌, length, get_or, take, drop, Option, Some, None, arith, refl, ap, sym, subst, ◌∙◌, le_refl}
-use Rattle.std.specs.Prelude.{slice_range, codes, ◌&&◌, if◌then◌else◌, nat_le}
+use Rattle.std.proofs.Common.{◌≡◌, ℕ, zero, suc, ◌+◌, ◌-◌, ◌<◌, ◌≤◌, inl, inr, Bool, true, false, List, [], ◌∷◌, ◌++◌, length, get_or, take, drop, Option, Some, None, arith, refl, ap, sym, subst, ◌∙◌, le_refl}
+use Rattle.std.specs.Prelude.{slice_range, codes, ◌&&◌, if◌then◌else◌}
 use Rattle.std.specs.List.{list_all}
 use Rattle.std.specs.Option.{option_map_or}
 use Rattle.std.specs.Str.{bytes_eq}
-use Rattle.std.specs.Str.Parse.{digits_value}
 use Rattle.std.proofs.lemmas.Bool.{and_from, and_parts}
 use Rattle.std.proofs.lemmas.List.{take-take, get_or_past, drop_more}
 use Rattle.std.proofs.lemmas.List.Edits.{get_or-between, length-between, between_more}
@@ -16,12 +15,12 @@ use Rattle.token_model.specs.declared.kind.Dialect.{Dialect}
 use Rattle.token_model.specs.declared.kind.TokenKind.{TokenKind}
 use Rattle.token_model.specs.declared.kind.TokenKind.TheVariants as token
 use Rattle.token_model.specs.declared.fault.LexFault.{LexFault}
-use Rattle.token_model.proofs.Spans.{IsSpan, IsName-span, IsKeyword-span, IsBinary-span, IsToken-inside}
-use Rattle.tree_model.specs.Tree.{Notes, LiteralOf, str, symbol, char}
+use Rattle.token_model.proofs.Spans.{IsName-span, IsKeyword-span, IsBinary-span, IsToken-inside}
+use Rattle.tree_model.specs.Tree.{Notes, str, symbol, char}
 use Rattle.text_model.specs.Literals.{is_identifier, is_operator}
 use Rattle.grammar_model.specs.Terminal.{Text, NameKind, Ordinary, Super, KeywordKind, BinaryKind, Common, Sign, Less, Greater, Bar, NumeralKind, Terminal, Name, Keyword, Binary, Numeral, Constant, Opens, Closes, Assignment, Colon, Semicolon, Period, Caret}
 use Rattle.grammar_model.specs.Input.{Lexeme, lex, Input, beginning, kind_of, next, clear, back, first_kind, first_notes, others}
-use Rattle.grammar_model.specs.Lexemes.{name_of, keyword_of, binary_of, numeral_of, terminal_of, begins_numeral, lexemes_of, IsLexed, unquoted, symbol_text}
+use Rattle.grammar_model.specs.Lexemes.{name_of, keyword_of, binary_of, numeral_of, terminal_of, begins_numeral, lexemes_of, IsLexed}
 use Rattle.reread_law.proofs.Good.{IsWord, IsKeywordText, IsNote, IsUnsigned, AllNotes}
 use Rattle.reread_law.proofs.Copies.{IsCopy, EndsNumeral, numeral_copy, comment_copy}
 
@@ -90,7 +89,7 @@ slice_copy t i j le in_text = record {
   ranges = λ k le.
       let e : 0 + k - 0 ≡ k = omega arith in
       let f : i + k - i ≡ k = omega arith in
-      ap (λ m. take m (slice_range t i j)) e ∙ take-take k (j - i) (drop i t) le ∙ ap (λ m. take m (drop i t)) (sym f)
+      ap (λ m. take m (slice_range t i j)) e ∙ take-take k (j - i) (drop i t) le ∙ ap (λ m. take m (drop i t)) (sym f);
 }
 
 -- past the end of a text no numeral goes on
@@ -102,7 +101,7 @@ ends_at_end t n le =
       radix = ap (λ b. Rattle.token_model.specs.Bytes.is_radix_digit b) e;
       no_r = λ h. omega (arith, e, h);
       no_e = λ h. omega (arith, e, h);
-      no_fraction = λ h. omega (arith, e, h.0)
+      no_fraction = λ h. omega (arith, e, h.0);
     }
 
 -- the bytes of a numeral
@@ -151,7 +150,7 @@ keyword_good t i j h =
     record {
       name = slice_range t i h.colon;
       is = ap (λ m. slice_range t i m) h.end ∙ between_more t i h.colon 0 (omega (arith, name.some)) (omega (arith, span.inside, h.end)) ∙ ap (λ b. slice_range t i h.colon ++ b ∷ []) h.has_colon.0;
-      word = name_good t i h.colon h.name
+      word = name_good t i h.colon h.name;
     }
 
 -- one byte of a text

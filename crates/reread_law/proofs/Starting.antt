@@ -1,19 +1,18 @@
 -- The beginning of a text, and the whole of a do-it.
-use Rattle.std.proofs.Common.{◌≡◌, ℕ, ◌≤◌, Bool, List, [], ◌∷◌, ◌++◌, length, Option, Some, None, arith, refl, ap, sym, subst, ◌∙◌}
+use Rattle.std.proofs.Common.{◌≡◌, ◌≤◌, [], ◌++◌, None, arith, refl, ap, sym, subst, ◌∙◌}
 use Rattle.std.proofs.lemmas.List.{append-nil}
 use Rattle.token_model.specs.TokenLists.{HasTokens}
 use Rattle.token_model.specs.declared.kind.Dialect.TheVariants.{Second}
 use Rattle.token_model.proofs.Begins.{lists}
-use Rattle.tree_model.specs.Tree.{Notes, StatementsOf, SequenceOf}
+use Rattle.tree_model.specs.Tree.{Notes, SequenceOf}
 use Rattle.tree_model.specs.Measure.{sequence_height}
 use Rattle.text_model.specs.Whole.{canonical_doit}
-use Rattle.grammar_model.specs.Terminal.{Text, Closes, TextEnd}
-use Rattle.grammar_model.specs.Input.{Lexeme, lex, Input, beginning}
-use Rattle.grammar_model.specs.Ahead.{Longest, Any}
+use Rattle.grammar_model.specs.Terminal.{Text}
+use Rattle.grammar_model.specs.Input.{Input, beginning}
+use Rattle.grammar_model.specs.Ahead.{Any}
 use Rattle.grammar_model.specs.Lexemes.{lexemes_of, IsLexed}
 use Rattle.grammar_model.specs.Spanned.{SpannedSequence, plain_sequence}
 use Rattle.grammar_model.specs.Whole.{IsOver, IsDoIt}
-use Rattle.grammar_model.specs.Checks.{first_deep}
 use Rattle.grammar_model.specs.Spelling.{SpellsDoIt}
 use Rattle.grammar_model.proofs.Limits.{limit_DoIt}
 use Rattle.grammar_model.proofs.Rows.{longest_IsDoIt}
@@ -21,8 +20,8 @@ use Rattle.reread_law.proofs.Good.{AllNotes, AllWords, GoodStatements}
 use Rattle.reread_law.proofs.Sound.{GoodLexemes, Sound, notes_append, sound_lexed}
 use Rattle.reread_law.proofs.Made.{made_Sequence}
 use Rattle.reread_law.proofs.PlainFaults.{sound_DoIt}
-use Rattle.reread_law.proofs.Steps.{World, Here, finish, text_as, held_as}
-use Rattle.reread_law.proofs.Sequences.{with_first, left_after, first_none, left_none, reads_sequence}
+use Rattle.reread_law.proofs.Steps.{World, Here, finish, text_as}
+use Rattle.reread_law.proofs.Sequences.{left_after, first_none, left_none, reads_sequence}
 use Rattle.reread_law.proofs.Trees.{can_read_statements}
 
 -- the comments before the end of a text
@@ -46,7 +45,7 @@ begun t =
       world = w;
       text_is = refl;
       here = record { at = 0; place = record { front = []; split = refl; place = refl }; pieces = l.0; pending = []; read = l.2; same = refl; total = refl; depth = refl };
-      lexed = λ clean. record { pieces = l.0; read = subst (HasTokens Second t 0 l.0) clean l.2; same = refl }
+      lexed = λ clean. record { pieces = l.0; read = subst (HasTokens Second t 0 l.0) clean l.2; same = refl };
     }
 
 -- a sequence of which some text is a do-it
@@ -82,7 +81,7 @@ doit_again t s h =
         lexed = b.lexed f.clean;
         shallow = f.shallow;
         grammar = longest_IsDoIt b.world.tokens u grammar;
-        sound = sound_DoIt h.spanned u (sym h.same ∙ sym same) h.spells.sound
+        sound = sound_DoIt h.spanned u (sym h.same ∙ sym same) h.spells.sound;
       };
-      same = sym same
+      same = sym same;
     }

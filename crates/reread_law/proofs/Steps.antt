@@ -1,12 +1,12 @@
 -- What is left to read, and the bytes of the text from there on, step by step.
-use Rattle.std.proofs.Common.{◌≡◌, ◌≢◌, ℕ, ◌+◌, ◌-◌, ◌<◌, ◌≤◌, inl, inr, Bool, true, false, ◌&&◌, List, [], ◌∷◌, ◌++◌, length, get_or, Option, Some, None, arith, refl, ap, sym, subst, ◌∙◌, append_assoc, le_refl}
-use Rattle.std.specs.Prelude.{slice_range, codes, ◌==◌, nat_le}
+use Rattle.std.proofs.Common.{◌≡◌, ◌≢◌, ℕ, ◌+◌, ◌-◌, ◌≤◌, inl, inr, Bool, true, false, List, [], ◌∷◌, ◌++◌, length, get_or, Option, Some, None, arith, refl, ap, sym, subst, ◌∙◌, append_assoc}
+use Rattle.std.specs.Prelude.{slice_range, ◌==◌}
 use Rattle.std.specs.Option.{option_map_or}
-use Rattle.std.proofs.lemmas.Bool.{and_parts, and_from, cases_lt, eqb-true, eq-eqb, ne_eqb, lt-leb, false≢true}
+use Rattle.std.proofs.lemmas.Bool.{and_parts, cases_lt, eqb-true, eq-eqb, ne_eqb, lt-leb, false≢true}
 use Rattle.std.proofs.lemmas.List.{append-nil}
 use Rattle.token_model.specs.Bytes.{is_blank, is_digit, is_second, Passes, Fails, IsRun}
 use Rattle.token_model.specs.Tokens.{IsToken, IsNumeral}
-use Rattle.token_model.specs.TokenLists.{Piece, IsNext, IsNextFault, HasTokens, Ended, Stopped, Further}
+use Rattle.token_model.specs.TokenLists.{Piece, IsNext, HasTokens, Ended, Stopped, Further}
 use Rattle.token_model.specs.declared.kind.Dialect.TheVariants.{Second}
 use Rattle.token_model.specs.declared.kind.TokenKind.{TokenKind}
 use Rattle.token_model.specs.declared.kind.TokenKind.TheVariants as kinds
@@ -54,7 +54,7 @@ run_skip p t i j h r = record {
     | inr le ↦ let e : j ≡ i = omega (arith, r.order) in absurd (false≢true (sym (subst (Fails p t) e r.stops) ∙ h))
   ];
   all = λ k a b. r.all k (omega arith) b;
-  stops = r.stops
+  stops = r.stops;
 }
 
 -- tokens behind one blank
@@ -73,7 +73,7 @@ blank_step {w} {n} {i} {h} b s e x = record {
   read = skip_blank w.text x.at x.pieces w.fault (ap is_blank (first_at x.place) ∙ e) x.read;
   same = x.same;
   total = x.total;
-  depth = x.depth
+  depth = x.depth;
 }
 
 -- the token at a place is the next one
@@ -143,10 +143,10 @@ step_seen {w} {n} {i} {h} m kind k x s a dark inner token seen counts =
           read = taken.read;
           same = ap others rest;
           total = sym (append-nil (next i).held);
-          depth = ap (λ ts. first_deep m (others ts)) rest ∙ sym (counts a.pending a.at to ls) ∙ ap (first_deep n) (sym rest) ∙ a.depth
+          depth = ap (λ ts. first_deep m (others ts)) rest ∙ sym (counts a.pending a.at to ls) ∙ ap (first_deep n) (sym rest) ∙ a.depth;
         };
-        none = refl
-      }
+        none = refl;
+      };
     }
 
 -- one word is read
@@ -176,8 +176,8 @@ step_minus {w} {n} {i} {h} x s u e a =
     let token : IsNumeral w.text (a.at + 1) (a.at + 1 + length x) = word.token w.text (a.at + 1) after in
     let digit : is_digit (get_or (x ++ s) 0 0) ≡ true = ap is_digit (sym (first_at after)) ∙ token.digits.0 in
     let one : Stepped w n i h (Binary Sign (45 ∷ [])) (x ++ s) =
-        step_seen n kinds.Binary (Binary Sign (45 ∷ [])) (45 ∷ []) (x ++ s) a refl (λ is. cc) (minus_at (x ++ s) (no_second (get_or (x ++ s) 0 0) digit) a.place)
-        (λ ps r. ap (λ b. terminal_of kinds.Binary (45 ∷ []) b) (flag ps r word.dark token after)) (λ c f e ts. refl)
+    step_seen n kinds.Binary (Binary Sign (45 ∷ [])) (45 ∷ []) (x ++ s) a refl (λ is. cc) (minus_at (x ++ s) (no_second (get_or (x ++ s) 0 0) digit) a.place)
+    (λ ps r. ap (λ b. terminal_of kinds.Binary (45 ∷ []) b) (flag ps r word.dark token after)) (λ c f e ts. refl)
     in
     let two = step n x s word (λ c f e ts. refl) one.fresh.here in
     record { first = one.kind; second = two.kind; held = two.held ∙ one.held; fresh = two.fresh }
@@ -202,7 +202,7 @@ note_step {w} {n} {i} {h} c s g a =
       read = taken.read;
       same = a.same ∙ ap (lexemes_of w.text a.pending) taken.is ∙ ap (λ y. lexemes_of w.text (a.pending ++ y ∷ []) taken.rest) (range_at c s a.place);
       total = ap (λ x. x ++ c ∷ []) a.total ∙ append_assoc i.held a.pending (c ∷ []);
-      depth = a.depth
+      depth = a.depth;
     }
 
 -- the end of the text, without any fault
@@ -226,7 +226,7 @@ finish {w} {n} {i} {h} a =
     record {
       over = record { notes = a.pending; from = a.at; to = a.at; over = rest; tail_is = a.total };
       clean = last.1;
-      shallow = sym a.depth ∙ ap (first_deep n) rest
+      shallow = sym a.depth ∙ ap (first_deep n) rest;
     }
 
 -- the comments that are held, given another way
@@ -241,14 +241,14 @@ text_as {w} {n} {i} {h} r s e a = subst (Here w n i h) e a
 pub fresh_clear : {w : World} {n : ℕ} {i : Input} {s : Text} → Fresh w n i s → Fresh w n (clear i) s
 fresh_clear {w} {n} {i} {s} f = record {
   here = record { at = f.here.at; place = f.here.place; pieces = f.here.pieces; pending = f.here.pending; read = f.here.read; same = f.here.same; total = sym f.none; depth = f.here.depth };
-  none = f.none
+  none = f.none;
 }
 
 -- behind a block
 pub fresh_back : {w : World} {n : ℕ} (o : Input) {i : Input} {s : Text} → Fresh w n i s → Fresh w n (back o i) s
 fresh_back {w} {n} o {i} {s} f = record {
   here = record { at = f.here.at; place = f.here.place; pieces = f.here.pieces; pending = f.here.pending; read = f.here.read; same = f.here.same; total = sym (append-nil o.held) ∙ ap (λ x. o.held ++ x) (sym f.none); depth = f.here.depth };
-  none = f.none
+  none = f.none;
 }
 
 -- an opening bracket before which fewer than 400 stand open

@@ -1,30 +1,25 @@
 -- The words of canonical texts are tokens.
-use Rattle.std.proofs.Common.{◌≡◌, ◌≢◌, ℕ, zero, suc, ◌+◌, ◌-◌, ◌<◌, ◌≤◌, ◌⊎◌, inl, inr, Bool, true, false, ◌&&◌, ◌||◌, List, [], ◌∷◌, ◌++◌, length, get_or, take, drop, Option, Some, None, arith, refl, ap, sym, subst, ◌∙◌, append_assoc, le_refl}
-use Rattle.std.specs.Prelude.{slice_range, codes, not, ◌==◌, if◌then◌else◌}
+use Rattle.std.proofs.Common.{◌≡◌, ◌≢◌, ℕ, ◌+◌, inl, inr, Bool, true, false, ◌&&◌, [], ◌∷◌, ◌++◌, length, get_or, Some, arith, refl, ap, sym, subst, ◌∙◌, append_assoc}
+use Rattle.std.specs.Prelude.{codes, ◌==◌, if◌then◌else◌}
 use Rattle.std.specs.List.{list_all}
 use Rattle.std.specs.Str.{bytes_eq}
-use Rattle.std.proofs.lemmas.Bool.{and_parts, or_cases, cases_Bool, eqb-true, ne_eqb, false≢true}
-use Rattle.std.proofs.lemmas.List.{length-append, get_or_append_left, append-nil}
+use Rattle.std.proofs.lemmas.Bool.{and_parts, or_cases, eqb-true, false≢true}
+use Rattle.std.proofs.lemmas.List.{length-append, get_or_append_left}
 use Rattle.std.proofs.lemmas.Slice.Eq.{bytes_eq-Decides}
-use Rattle.rb_base.specs.Doubling.{IsPaired, Empty, Byte, Pair, doubled}
-use Rattle.token_model.specs.Bytes.{is_blank, is_digit, is_letter, is_word, is_binary, is_second, Has, Passes, Fails, IsRun}
-use Rattle.token_model.specs.Tokens.{IsToken, IsByte, IsBytePair, IsName, HasColon, IsIdentifier, IsKeyword, IsBinary, IsString, IsComment, IsKeywordRow, Last, More, IsSymbolName, Name, Keywords, Selector, Stroke, Quoted, IsSymbol, IsNumeral}
+use Rattle.token_model.specs.Bytes.{is_blank, is_digit, is_letter, is_word, is_binary, is_second}
+use Rattle.token_model.specs.Tokens.{IsToken, IsByte, IsBytePair, IsName, IsKeyword, IsBinary, IsComment, IsNumeral}
 use Rattle.token_model.specs.declared.kind.Dialect.TheVariants.{Second}
 use Rattle.token_model.specs.declared.kind.TokenKind.{TokenKind}
 use Rattle.token_model.specs.declared.kind.TokenKind.TheVariants as kinds
-use Rattle.token_model.proofs.Leads.{other_byte}
 use Rattle.token_model.proofs.RunLemmas.{Passes-inside}
-use Rattle.tree_model.specs.Tree.{str, symbol, char}
-use Rattle.text_model.specs.Pieces.{is_colon, keywords_of}
-use Rattle.text_model.specs.Literals.{is_identifier, is_keyword_row, is_operator, is_selector, quoted_text}
-use Rattle.text_model.specs.Literals as text_literals
-use Rattle.text_model.proofs.KeywordRows.{are_keywords, keywords_row}
+use Rattle.tree_model.specs.Tree.{char}
+use Rattle.text_model.specs.Literals.{is_operator}
 use Rattle.grammar_model.specs.Terminal.{Text, BinaryKind, Common, Sign, Less, Greater, Bar, Terminal, Numeral, Constant}
 use Rattle.grammar_model.specs.Terminal as grammar
-use Rattle.grammar_model.specs.Lexemes.{singled, unquoted, symbol_text, name_of, keyword_of, binary_of, numeral_of, terminal_of}
+use Rattle.grammar_model.specs.Lexemes.{name_of, keyword_of, binary_of, numeral_of, terminal_of}
 use Rattle.reread_law.proofs.Good.{IsWord, IsKeywordText, IsNote, IsUnsigned}
 use Rattle.reread_law.proofs.Copies.{EndsNumeral, numeral_copy, comment_copy}
-use Rattle.reread_law.proofs.Bytes.{At, behind, same_bytes, byte_at, first_at, length_at, range_at, run_at, all_at, first_behind, copy_at, ends, Ends, no_blank, ends_numeral}
+use Rattle.reread_law.proofs.Bytes.{At, behind, same_bytes, byte_at, first_at, length_at, run_at, all_at, first_behind, copy_at, Ends, no_blank, ends_numeral}
 
 -- These bytes in front of those are a token of the kind, and the grammar sees it so. The flag of a binary selector says that a numeral begins behind it, and then a digit does.
 pub record IsWordOf (kind : TokenKind) (k : Terminal) (w s : Text) : Type 0 where
@@ -61,7 +56,7 @@ name_word n s h e = record {
   token = λ t i a. (name_at n s h e.word a, λ c. e.colon (sym (first_at (behind n s a)) ∙ c.0));
   inner = λ is. cc;
   dark = word_dark n s h;
-  seen = λ b d. refl
+  seen = λ b d. refl;
 }
 
 -- a keyword in a text
@@ -73,7 +68,7 @@ keyword_at {t} {i} k s h e a =
       colon = i + length h.name;
       name = name_at h.name (58 ∷ s) h.word refl place;
       has_colon = (first_at colon, λ is. e (sym (byte_at colon 1) ∙ is));
-      end = omega (arith, ap length h.is, length-append h.name (58 ∷ []))
+      end = omega (arith, ap length h.is, length-append h.name (58 ∷ []));
     }
 
 -- the first byte of a keyword is dark
@@ -142,7 +137,7 @@ mark kind k b s h inner dark seen = record {
   token = λ t i a. h t i (first_at a, refl);
   inner = inner;
   dark = dark;
-  seen = λ f d. seen f
+  seen = λ f d. seen f;
 }
 
 -- a mark of two bytes
@@ -151,7 +146,7 @@ pair kind k b c s h inner dark seen = record {
   token = λ t i a. h t i (first_at a, byte_at a 1, refl);
   inner = inner;
   dark = dark;
-  seen = λ f d. seen f
+  seen = λ f d. seen f;
 }
 
 -- |
@@ -212,7 +207,7 @@ colon_word s n = record {
   token = λ t i a. ((first_at a, λ is. n (sym (byte_at a 1) ∙ is)), refl);
   inner = λ is. cc;
   dark = refl;
-  seen = λ f d. refl
+  seen = λ f d. refl;
 }
 
 -- a binary selector before a byte that is neither a digit nor a second character
@@ -230,8 +225,8 @@ operator_word w s h e d = go (bytes_eq w (124 ∷ [])) refl
         token = λ t i a. binary_at w s h (λ bar. false≢true (sym is ∙ (bytes_eq-Decides w (124 ∷ [])).1 bar)) e a;
         inner = λ is. cc;
         dark = operator_dark w s h;
-        seen = λ b f. ap Some (ap (binary_of w) (no_flag b (get_or s 0 0) d f) ∙ binary_class w)
-      }
+        seen = λ b f. ap Some (ap (binary_of w) (no_flag b (get_or s 0 0) d f) ∙ binary_class w);
+      };
     }
 
 -- the minus before a numeral
@@ -244,7 +239,7 @@ numeral_before w s h e = record {
   token = λ t i a. let f : 0 + length w ≡ length w = omega arith in numeral_copy t i w 0 (length w) (copy_at w s a) (e t (i + length w) (behind w s a)) (subst (IsNumeral w 0) (sym f) h);
   inner = λ is. cc;
   dark = ap is_blank (get_or_append_left w s 0 0 (Passes-inside is_digit w 0 refl h.digits.0)) ∙ no_blank is_digit (get_or w 0 0) h.digits.0 refl refl refl refl refl;
-  seen = λ f d. refl
+  seen = λ f d. refl;
 }
 
 -- a numeral
@@ -273,5 +268,5 @@ char_word b s = record {
   token = λ t i a. (first_at a, omega (arith, length_at a), refl);
   inner = λ is. cc;
   dark = refl;
-  seen = λ f d. refl
+  seen = λ f d. refl;
 }
