@@ -19,3 +19,4 @@ pub mod Starting
 pub mod Decimals
 pub mod Patterns
 pub mod Methods
+pub mod Again

@@ -1,15 +1,32 @@
-// The law on canonical texts. The function does nothing; its contract is the law.
-ghost use Rattle.std.specs.Prelude.{Bool};
+// The laws on canonical texts. Each function does nothing; its contract is the law.
+ghost use Rattle.std.specs.Prelude.{◌≡◌, Bool};
 ghost use Rattle.tree_model.specs.Tree.{SequenceOf, MethodOf};
+ghost use Rattle.token_model.specs.declared.kind.Dialect.{Dialect};
 ghost use Rattle.token_model.specs.declared.kind.Dialect.TheVariants.{Second};
 ghost use Rattle.grammar_model.specs.Terminal.{Text};
-ghost use Rattle.grammar_model.specs.Spelling.{SpellsDoIt, SpellsMethod};
+ghost use Rattle.grammar_model.specs.Whole.{DoIt, Method};
+ghost use Rattle.grammar_model.specs.Checks.{Fault};
+ghost use Rattle.grammar_model.specs.Spelling.{SpellsDoIt, SpellsMethod, HasFirstFault};
 ghost use Rattle.text_model.specs.Whole.{canonical_method, canonical_doit};
 
-/// What a text spells its canonical text spells too: the same tree with the same comments.
+/// The canonical text of a tree that some text spells, in either dialect, spells the same tree with
+/// the same comments in the second dialect, which has brace arrays; a method stays one of the kernel
+/// or of a user.
 pub fn spells_the_tree_again()
-    ensures doit { (text : Text) (tree : SequenceOf Text) →
-        SpellsDoIt Second text tree → SpellsDoIt Second (canonical_doit tree) tree }
-    ensures method { (kernel : Bool) (text : Text) (tree : MethodOf Text) →
-        SpellsMethod Second kernel text tree → SpellsMethod Second kernel (canonical_method tree) tree }
+    ensures doit { (dialect : Dialect) (text : Text) (tree : SequenceOf Text) →
+        SpellsDoIt dialect text tree → SpellsDoIt Second (canonical_doit tree) tree }
+    ensures method { (dialect : Dialect) (kernel : Bool) (text : Text) (tree : MethodOf Text) →
+        SpellsMethod dialect kernel text tree → SpellsMethod Second kernel (canonical_method tree) tree }
+{}
+
+/// Such a canonical text has no fault, and trees with one canonical text are one.
+pub fn tells_trees_apart()
+    ensures no_fault_in_doit { (dialect : Dialect) (text : Text) (tree : SequenceOf Text) (fault : Fault) →
+        SpellsDoIt dialect text tree → ¬ HasFirstFault Second DoIt (canonical_doit tree) fault }
+    ensures no_fault_in_method { (dialect : Dialect) (kernel : Bool) (text : Text) (tree : MethodOf Text) (fault : Fault) →
+        SpellsMethod dialect kernel text tree → ¬ HasFirstFault Second (Method kernel) (canonical_method tree) fault }
+    ensures one_doit { (dialect other : Dialect) (text source : Text) (tree copy : SequenceOf Text) →
+        SpellsDoIt dialect text tree → SpellsDoIt other source copy → canonical_doit tree ≡ canonical_doit copy → tree ≡ copy }
+    ensures one_method { (dialect other : Dialect) (kernel : Bool) (text source : Text) (tree copy : MethodOf Text) →
+        SpellsMethod dialect kernel text tree → SpellsMethod other kernel source copy → canonical_method tree ≡ canonical_method copy → tree ≡ copy }
 {}

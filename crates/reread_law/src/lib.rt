@@ -6,4 +6,4 @@
 
 mod laws;
 
-pub use laws::spells_the_tree_again;
+pub use laws::{spells_the_tree_again, tells_trees_apart};
