@@ -1,5 +1,5 @@
 -- What stands right below a node of the program, and the abstract tree of a node with another part there.
-use Rattle.std.proofs.Common.{◌≡◌, ℕ, zero, suc, ◌-◌, Bool, true, false, List, [], ◌∷◌, length, refl, sym, ◌∙◌, ap, arith, Option, Some, None, slice_get, slice_set, nat_lt, cond}
+use Rattle.std.proofs.Common.{◌≡◌, ℕ, zero, suc, ◌-◌, Bool, true, false, List, [], ◌∷◌, length, refl, sym, ◌∙◌, ap, arith, Some, slice_get, slice_set, nat_lt, cond}
 use Rattle.std.proofs.lemmas.Bool.{lt-ltb, le-ltb}
 use Rattle.tree_model.specs.Tree.{TreeOf, send, cascade, block, brace, more_messages, more_statements, trees_of}
 use Rattle.tree_model.specs.Path.{nth, statement_trees, child, with_child, with_argument, with_statement, with_nth}

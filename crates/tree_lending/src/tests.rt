@@ -1,4 +1,4 @@
-// What no clause says: the parts to which some paths lead, read by hand, and that a path of 200 steps is gone.
+// What no clause says: the parts to which some paths lead, read by hand, and that a path of 200 steps is followed.
 use super::*;
 use rb_base::{Ids, Memory, NameId};
 use st_tree::{
@@ -211,7 +211,7 @@ fn a_part_is_put(rt: HostRuntime) -> Result<(), Fail> {
 }
 
 #[test]
-fn a_path_of_200_steps_is_gone(rt: HostRuntime) -> Result<(), Fail> {
+fn a_path_of_200_steps_is_followed(rt: HostRuntime) -> Result<(), Fail> {
     let mut nodes = Nodes::new(rt.alloc());
     nodes.push(nested_blocks(rt.alloc(), 199)?)?;
     let mut body = body_of(rt.alloc(), nodes)?;
