@@ -22,8 +22,8 @@ fn inner_part_mut<'m>(body: &'m mut Sequence, first: usize, rest: &[usize]) -> O
     child_mut(Any::lend(statement_mut(body, first)?, way)?, step)
 }
 
-/// The node of the do-it where the path leads, to be changed in place; None exactly where it leads to no node. The do-it
-/// ends with what is left behind the result in place of that node, and everything else stays.
+/// The node of the do-it where the path leads, to be changed in place; None exactly where it leads to no node. The
+/// do-it ends with what is left behind the result in place of that node, and everything else stays.
 pub fn part_mut_doit<'m>(body: &'m mut Sequence, path: &Path) -> Option<&'m mut Node>
     ensures* writes_back { sem 𝓛 (LendsPartOfDoit body.entry path.now result) }
     ensures value { option_copied_mut result ≡ part_in (sequence_of body.old) path.now }
@@ -44,8 +44,8 @@ pub fn part_mut<'m>(method: &'m mut Method, path: &Path) -> Option<&'m mut Node>
     part_mut_doit(&mut method.body, path)
 }
 
-/// Puts the part where the path leads in the do-it, and drops what was there. Answers false exactly where the path leads
-/// to no node; then the do-it stays as it is and the part is dropped.
+/// Puts the part where the path leads in the do-it, and drops what was there. Answers false exactly where the path
+/// leads to no node; then the do-it stays as it is and the part is dropped.
 pub fn put_at_doit(body: &mut Sequence, path: &Path, part: Node) -> bool
     ensures after { sequence_of body.new ≡ replaced_in (sequence_of body.old) path.now part }
     ensures found { result ≡ is_some (part_in (sequence_of body.old) path.now) }
@@ -59,8 +59,8 @@ pub fn put_at_doit(body: &mut Sequence, path: &Path, part: Node) -> bool
     }
 }
 
-/// Puts the part where the path leads in the method, and drops what was there. Answers false exactly where the path leads
-/// to no node; then the method stays as it is and the part is dropped.
+/// Puts the part where the path leads in the method, and drops what was there. Answers false exactly where the path
+/// leads to no node; then the method stays as it is and the part is dropped.
 pub fn put_at(method: &mut Method, path: &Path, part: Node) -> bool
     ensures after { method_of method.new ≡ method_replaced (method_of method.old) path.now part }
     ensures found { result ≡ is_some (part_in (method_of method.old).body path.now) }

@@ -1,5 +1,5 @@
-// One step down a tree, lent. A part that is always there is lent as an option too, since the checker proves a loan of a
-// part of a loan where `?` takes the first one.
+// One step down a tree, lent. A part that is always there is lent as an option too, since the checker proves a loan of
+// a part of a loan where `?` takes the first one.
 ghost use Rattle.std.specs.Prelude.{◌≡◌, ◌<◌, length, Some, option_map, IfNone, IfSome};
 ghost use Rattle.std.specs.Option.{option_copied_mut};
 ghost use Rattle.std.specs.Borrow.{sem};

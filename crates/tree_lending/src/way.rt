@@ -1,6 +1,6 @@
-// From a node down along a path, lent. The checker writes no proof for a recursion that hands on a loan, nor for a loop
-// that moves one down. So the path is taken in halves: a type that lends along paths of some length gives one that lends
-// along paths twice as long, and no function calls itself.
+// From a node down along a path, lent. The checker writes no proof for a recursion that hands on a loan, nor for a
+// loop that moves one down. So the path is taken in halves: a type that lends along paths of some length gives one that
+// lends along paths twice as long, and no function calls itself.
 ghost use Rattle.std.specs.Prelude.{◌≡◌, ◌<◌, ◌*◌, ℕ, length, option_map};
 ghost use Rattle.std.specs.Borrow.{sem};
 ghost use Rattle.tree_model.specs.Path.{part_at};
