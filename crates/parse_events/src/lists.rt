@@ -1,0 +1,84 @@
+// The lists of declarations and events.
+ghost use Rattle.std.specs.Prelude.{◌≡◌, [], ◌∷◌, ◌++◌, length, OnOk, OnErr, IfSome, IfNone};
+
+use crate::event::{Declaration, Declarations, Event, Events};
+use rb_base::Memory;
+use std::alloc::Global;
+
+impl Declarations {
+    /// No declarations, which takes no memory.
+    pub fn new(alloc: Global) -> Declarations
+        ensures { result ≡ [] }
+    {
+        Declarations {
+            items: Vec::new(alloc),
+        }
+    }
+
+    /// The declarations.
+    pub fn as_slice(&self) -> &[Declaration]
+        ensures { result.now ≡ self.now }
+    {
+        self.items.as_slice()
+    }
+
+    /// The declarations, which are not copied.
+    pub fn into_vec(self) -> Vec<Declaration>
+        ensures { result.items ≡ self }
+    {
+        let Declarations { items } = self;
+        items
+    }
+
+    /// Appends a declaration; on want of memory it is dropped.
+    pub fn push(&mut self, item: Declaration) -> Result<(), Memory>
+        ensures ok { OnOk result (self.new ≡ self.old ++ item ∷ []) }
+        ensures err { OnErr result (self.new ≡ self.old) }
+    {
+        self.items.push(item)?;
+        Ok(())
+    }
+}
+
+impl Events {
+    /// No events, which takes no memory.
+    pub fn new(alloc: Global) -> Events
+        ensures { result ≡ [] }
+    {
+        Events {
+            items: Vec::new(alloc),
+        }
+    }
+
+    /// The events.
+    pub fn as_slice(&self) -> &[Event]
+        ensures { result.now ≡ self.now }
+    {
+        self.items.as_slice()
+    }
+
+    /// The events, which are not copied.
+    pub fn into_vec(self) -> Vec<Event>
+        ensures { result.items ≡ self }
+    {
+        let Events { items } = self;
+        items
+    }
+
+    /// Appends an event; on want of memory it is dropped.
+    pub fn push(&mut self, item: Event) -> Result<(), Memory>
+        ensures ok { OnOk result (self.new ≡ self.old ++ item ∷ []) }
+        ensures err { OnErr result (self.new ≡ self.old) }
+    {
+        self.items.push(item)?;
+        Ok(())
+    }
+
+    /// Takes the last event off.
+    pub fn pop(&mut self) -> Option<Event>
+        ensures some { IfSome result (λ item. self.old ≡ self.new ++ item ∷ []) }
+        ensures none { IfNone result (self.old ≡ []) }
+    {
+        self.items.pop()
+    }
+}
