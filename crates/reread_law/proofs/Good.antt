@@ -50,6 +50,7 @@ pub data GoodBytes : LiteralsOf Text → Type 0 where
 
 -- a literal, or nil, true or false in an array
 abbrev mutual
+  -- a literal
   pub GoodLiteral : LiteralOf Text → Type 0
   GoodLiteral (number t) = GoodNumber t
   GoodLiteral (str t) = Unit {0}
@@ -59,6 +60,7 @@ abbrev mutual
   GoodLiteral (bytes ls) = GoodBytes ls
   GoodLiteral (word n) = IsWord n × (is_literal_word n ≡ true)
 
+  -- literals
   pub GoodLiterals : LiteralsOf Text → Type 0
   GoodLiterals no_literals = Unit {0}
   GoodLiterals (more_literals l ls) = GoodLiteral l × GoodLiterals ls
@@ -104,6 +106,7 @@ AreTwo (more_messages s xs (more_messages t ys ms)) = Unit {0}
 
 -- a tree that some text spells
 abbrev mutual
+  -- a tree
   pub Good : TreeOf Text → Type 0
   Good (var n) = IsWord n
   Good (literal l) = GoodLiteral l × NoWord l
@@ -114,14 +117,17 @@ abbrev mutual
   Good (brace ts) = GoodTrees ts
   Good (return t) = Good t × IsValue t
 
+  -- arguments, or the items of a brace array
   pub GoodTrees : TreesOf Text → Type 0
   GoodTrees no_trees = Unit {0}
   GoodTrees (more_trees t ts) = Good t × IsValue t × GoodTrees ts
 
+  -- messages of a cascade
   pub GoodMessages : MessagesOf Text → Type 0
   GoodMessages no_messages = Unit {0}
   GoodMessages (more_messages s xs ms) = FitsArguments s xs × GoodTrees xs × GoodMessages ms
 
+  -- statements
   pub GoodStatements : StatementsOf Text → Type 0
   GoodStatements no_statements = Unit {0}
   GoodStatements (more_statements c t ss) = AllNotes c × Good t × IsStatement t ss × GoodStatements ss

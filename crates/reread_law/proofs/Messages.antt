@@ -180,6 +180,7 @@ send_keyword r s xs can kept g args w n k i h q e le a =
 pub binary_precedence : (s : Text) (x : TreeOf Text) → is_operator s ≡ true → message_precedence s (more_trees x no_trees) ≡ loose.Binary
 binary_precedence s x g = rw (operator_colon s g) refl
 
+-- the precedence of a message of keywords
 pub keyword_precedence : (s : Text) (xs : TreesOf Text) → GoodParts s xs → message_precedence s xs ≡ loose.Keyword
 keyword_precedence s xs (LastOne {x} g) = let c = parts_colon {xs = more_trees x no_trees} s (LastOne g) in rw c refl
 keyword_precedence s xs (OneBefore {k} {s = p} {x} {xs = ys} g d) = let c = parts_colon {xs = more_trees x ys} (k ++ p) (OneBefore g d) in rw c refl

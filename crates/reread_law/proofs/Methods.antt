@@ -77,6 +77,7 @@ fits_first : (kernel : Bool) (p : Option ℕ) (ts : List Text) (c : Notes) (t : 
 fits_first kernel None ts c t ss h = tt
 fits_first kernel (Some n) ts c t ss h = let e : more_statements c t ss ≡ no_statements = h.3 in cc
 
+-- it is good where the sequence is
 good_without : (kernel : Bool) (p : Option ℕ) (ts : List Text) (ss : StatementsOf Text) (tail : Notes) → AllWords ts → GoodStatements ss → AllNotes tail → FitsPrimitive kernel p ts ss → GoodWithout kernel p (leading_of ss tail) (without_leading_of ts ss tail)
 good_without kernel p ts no_statements tail w g n f = record { leading = n; words = w; statements = tt; tail = tt; primitive = f }
 good_without kernel p ts (more_statements c t ss) tail w g n f = record { leading = g.0; words = w; statements = (tt, g.1, g.2, g.3); tail = n; primitive = fits_first kernel p ts c t ss f }

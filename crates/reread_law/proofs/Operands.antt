@@ -201,6 +201,7 @@ pub record ArgumentRead (w : World) (n : ℕ) (i : Input) (h : Notes) (t : TreeO
   pub held : stop.held ≡ h
   pub fresh : Fresh w n stop s
 
+-- an operand with unary messages is such an argument
 pub as_argument : {w : World} {n : ℕ} {i : Input} {h : Notes} {t : TreeOf Text} {s : Text} → IsValue t → UnaryRead w n i h t s → ArgumentRead w n i h t s
 as_argument v r = record { tree = whole r.last; stop = r.stop; argument = BinaryArgument r.operand r.unaries (r.value v); plain = r.plain; held = r.held; fresh = r.fresh }
 
@@ -213,5 +214,6 @@ pub record KeywordArgumentRead (w : World) (n : ℕ) (i : Input) (h : Notes) (t 
   pub held : stop.held ≡ h
   pub fresh : Fresh w n stop s
 
+-- an operand with unary and binary messages is such an argument
 pub as_keyword_argument : {w : World} {n : ℕ} {i : Input} {h : Notes} {t : TreeOf Text} {s : Text} → IsValue t → BinaryRead w n i h t s → KeywordArgumentRead w n i h t s
 as_keyword_argument v r = record { tree = whole r.last; stop = r.stop; argument = ArgumentOfKeyword r.operand r.unaries r.binaries (r.value v); plain = r.plain; held = r.held; fresh = r.fresh }

@@ -36,6 +36,7 @@ made_PatternParts (LastPatternPart e f g) s = (LastName (sound_kind s e) (sound_
 made_PatternParts (FurtherPatternPart e f r) s =
     let g = made_PatternParts r (sound_next (sound_next s)) in (MoreNames (sound_kind s e) (sound_kind (sound_next s) f).0 g.0, g.1)
 
+-- so is a pattern
 pub made_Pattern : {i j : Input} {s : Text} {ds : List Declared} → Pattern Longest i s ds j → Sound i → GoodPattern s (names_of ds) × Sound j
 made_Pattern (UnaryPattern e) s = (ByName (sound_kind s e).0, sound_next s)
 made_Pattern (BinaryPattern e f) s = (ByOperator (sound_kind s e).0 (sound_kind (sound_next s) f).0, sound_next (sound_next s))

@@ -50,6 +50,7 @@ names-append ps ds = map-append (λ (d : Declared). d.name) ps ds
 
 -- whether a list in a tree declares a name twice
 abbrev mutual
+  -- in a tree
   has_duplicate : TreeOf Text → Bool
   has_duplicate (var n) = false
   has_duplicate (literal l) = false
@@ -60,14 +61,17 @@ abbrev mutual
   has_duplicate (brace ts) = has_duplicate_trees ts
   has_duplicate (return t) = has_duplicate t
 
+  -- in trees
   has_duplicate_trees : TreesOf Text → Bool
   has_duplicate_trees no_trees = false
   has_duplicate_trees (more_trees t ts) = has_duplicate t || has_duplicate_trees ts
 
+  -- in messages
   has_duplicate_messages : MessagesOf Text → Bool
   has_duplicate_messages no_messages = false
   has_duplicate_messages (more_messages s xs ms) = has_duplicate_trees xs || has_duplicate_messages ms
 
+  -- in statements
   has_duplicate_statements : StatementsOf Text → Bool
   has_duplicate_statements no_statements = false
   has_duplicate_statements (more_statements c t ss) = has_duplicate t || has_duplicate_statements ss
@@ -89,14 +93,17 @@ mutual
   some_duplicate (Brace f e ts) = some_duplicate_trees ts
   some_duplicate (Return f e t) = some_duplicate t
 
+  -- in trees
   some_duplicate_trees : (ts : SpannedTrees) → is_some (duplicate_in_trees ts) ≡ has_duplicate_trees (plain_trees ts)
   some_duplicate_trees NoTrees = refl
   some_duplicate_trees (MoreTrees t ts) = both_or _ _ _ _ (some_duplicate t) (some_duplicate_trees ts)
 
+  -- in messages
   some_duplicate_messages : (ms : SpannedMessages) → is_some (duplicate_in_messages ms) ≡ has_duplicate_messages (plain_messages ms)
   some_duplicate_messages NoMessages = refl
   some_duplicate_messages (MoreMessages s xs ms) = both_or _ _ _ _ (some_duplicate_trees xs) (some_duplicate_messages ms)
 
+  -- in statements
   some_duplicate_statements : (ss : SpannedStatements) → is_some (duplicate_in_statements ss) ≡ has_duplicate_statements (plain_statements ss)
   some_duplicate_statements NoStatements = refl
   some_duplicate_statements (MoreStatements c f t ss) = both_or _ _ _ _ (some_duplicate t) (some_duplicate_statements ss)
@@ -116,6 +123,7 @@ known_of-names ps ds = λ i. known_map true ps i ++ known_map false ds i
 
 -- whether a name is assigned that can not be
 abbrev mutual
+  -- in a tree
   assigns_fixed : List Known → TreeOf Text → Bool
   assigns_fixed ks (var n) = false
   assigns_fixed ks (literal l) = false
@@ -126,14 +134,17 @@ abbrev mutual
   assigns_fixed ks (brace ts) = assigns_fixed_trees ks ts
   assigns_fixed ks (return t) = assigns_fixed ks t
 
+  -- in trees
   assigns_fixed_trees : List Known → TreesOf Text → Bool
   assigns_fixed_trees ks no_trees = false
   assigns_fixed_trees ks (more_trees t ts) = assigns_fixed ks t || assigns_fixed_trees ks ts
 
+  -- in messages
   assigns_fixed_messages : List Known → MessagesOf Text → Bool
   assigns_fixed_messages ks no_messages = false
   assigns_fixed_messages ks (more_messages s xs ms) = assigns_fixed_trees ks xs || assigns_fixed_messages ks ms
 
+  -- in statements
   assigns_fixed_statements : List Known → StatementsOf Text → Bool
   assigns_fixed_statements ks no_statements = false
   assigns_fixed_statements ks (more_statements c t ss) = assigns_fixed ks t || assigns_fixed_statements ks ss
@@ -152,14 +163,17 @@ mutual
   some_fixed ks (Brace f e ts) = some_fixed_trees ks ts
   some_fixed ks (Return f e t) = some_fixed ks t
 
+  -- in trees
   some_fixed_trees : (ks : List Known) (ts : SpannedTrees) → is_some (fixed_in_trees ks ts) ≡ assigns_fixed_trees ks (plain_trees ts)
   some_fixed_trees ks NoTrees = refl
   some_fixed_trees ks (MoreTrees t ts) = both_or _ _ _ _ (some_fixed ks t) (some_fixed_trees ks ts)
 
+  -- in messages
   some_fixed_messages : (ks : List Known) (ms : SpannedMessages) → is_some (fixed_in_messages ks ms) ≡ assigns_fixed_messages ks (plain_messages ms)
   some_fixed_messages ks NoMessages = refl
   some_fixed_messages ks (MoreMessages s xs ms) = both_or _ _ _ _ (some_fixed_trees ks xs) (some_fixed_messages ks ms)
 
+  -- in statements
   some_fixed_statements : (ks : List Known) (ss : SpannedStatements) → is_some (fixed_in_statements ks ss) ≡ assigns_fixed_statements ks (plain_statements ss)
   some_fixed_statements ks NoStatements = refl
   some_fixed_statements ks (MoreStatements c f t ss) = both_or _ _ _ _ (some_fixed ks t) (some_fixed_statements ks ss)

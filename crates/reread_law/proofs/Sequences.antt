@@ -159,6 +159,7 @@ pub first_none : (ss : StatementsOf Text) → with_first [] ss ≡ ss
 first_none no_statements = refl
 first_none (more_statements c t ss) = refl
 
+-- no comments are left where there were none
 pub left_none : (ss : StatementsOf Text) → left_after [] ss ≡ []
 left_none no_statements = refl
 left_none (more_statements c t ss) = refl

@@ -37,6 +37,7 @@ pub record Begun (t : Text) : Type 0 where
   pub here : Here world 0 (beginning world.tokens) [] t
   pub lexed : world.fault ≡ None → IsLexed Second t world.tokens
 
+-- each text has such a beginning
 pub begun : (t : Text) → Begun t
 begun t =
     let l = lists Second t 0 (omega arith) in

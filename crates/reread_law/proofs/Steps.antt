@@ -82,6 +82,7 @@ record Taken (t : Text) (p : Piece) (ps : List Piece) (f : Option LexFault) : Ty
   is : ps ≡ p ∷ rest
   read : HasTokens Second t p.to rest f
 
+-- the first of the tokens is taken
 take_piece : (t : Text) (at : ℕ) (p : Piece) (ps : List Piece) (f : Option LexFault) → IsNext Second t at p → p.kind ≢ kinds.End → HasTokens Second t at ps f → Taken t p ps f
 take_piece t at p ps f x inner (Ended here q n e) = absurd (inner (ap (λ (r : Piece). r.kind) (IsNext-same Second t here p q x n) ∙ e))
 take_piece t at p ps f x inner (Stopped here g n) = absurd (next_or_fault Second t here p g x n)
@@ -169,6 +170,7 @@ pub record SteppedTwice (w : World) (n : ℕ) (i : Input) (h : Notes) (k l : Ter
   pub held : (next (next i)).held ≡ h
   pub fresh : Fresh w n (next (next i)) s
 
+-- a sign and its numeral
 pub step_minus : {w : World} {n : ℕ} {i : Input} {h : Notes} (x s : Text) → IsUnsigned x → Ends s → Here w n i h (45 ∷ (x ++ s)) → SteppedTwice w n i h (Binary Sign (45 ∷ [])) (Numeral (numeral_of x) x) s
 step_minus {w} {n} {i} {h} x s u e a =
     let word = numeral_word x s u e in
