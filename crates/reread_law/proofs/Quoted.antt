@@ -70,7 +70,7 @@ pub string_word : (x s : Text) → get_or s 0 0 ≢ 39 → IsWordOf kinds.String
 string_word x s n = record {
   token = λ t i a. string_at x s n a;
   inner = λ is. cc;
-  dark = refl;
+  begins = refl;
   seen = λ f d. ap (λ y. Some (Constant (str y))) (unquoted-quoted x);
 }
 
@@ -202,7 +202,7 @@ plain_symbol x s h e = record {
       let f : i + 1 + length x ≡ i + length (35 ∷ x) = omega arith in
       (first_at a, subst (IsSymbolName t (i + 1)) f (selector_at x s h e (behind (35 ∷ []) (x ++ s) a)));
   inner = λ is. cc;
-  dark = refl;
+  begins = refl;
   seen = λ f d. ap (λ y. Some (Constant (symbol y))) (rw (ne_eqb (get_or x 0 0) 39 (selector_no_quote x h)) refl);
 }
 
@@ -213,7 +213,7 @@ quoted_symbol x s e = record {
       let f : i + 1 + length (quoted_text x) ≡ i + length (35 ∷ quoted_text x) = omega arith in
       (first_at a, subst (IsSymbolName t (i + 1)) f (Quoted (string_at x s e.quote (behind (35 ∷ []) (quoted_text x ++ s) a))));
   inner = λ is. cc;
-  dark = refl;
+  begins = refl;
   seen = λ f d. ap (λ y. Some (Constant (symbol y))) (unquoted-quoted x);
 }
 

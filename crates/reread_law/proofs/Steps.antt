@@ -22,7 +22,7 @@ use Rattle.grammar_model.specs.Whole.{IsOver}
 use Rattle.grammar_model.specs.Checks.{first_deep}
 use Rattle.reread_law.proofs.Good.{IsUnsigned, IsNote}
 use Rattle.reread_law.proofs.Bytes.{At, behind, first_at, length_at, range_at, Ends}
-use Rattle.reread_law.proofs.Words.{IsWordOf, minus_at, numeral_word, note_at, note_dark}
+use Rattle.reread_law.proofs.Words.{IsWordOf, minus_at, numeral_word, note_at, note_no_blank}
 
 -- a text, its first lexical fault, and all its tokens as the grammar sees them
 pub record World : Type 0 where
@@ -117,15 +117,15 @@ Counts n m k = (c : Notes) (f e : ℕ) (ts : List Lexeme) → first_deep n (lex 
 
 -- the next token
 next_piece : (t : Text) (at : ℕ) (kind : TokenKind) (x s : Text) → At t at (x ++ s) → is_blank (get_or (x ++ s) 0 0) ≡ false → IsToken Second kind t at (at + length x) → IsNext Second t at (record { kind = kind; from = at; to = at + length x })
-next_piece t at kind x s a dark token = record { blanks = IsRun-none is_blank t at (ap is_blank (first_at a) ∙ dark); token = token }
+next_piece t at kind x s a begins token = record { blanks = IsRun-none is_blank t at (ap is_blank (first_at a) ∙ begins); token = token }
 
 -- one token is read
 step_seen : {w : World} {n : ℕ} {i : Input} {h : Notes} (m : ℕ) (kind : TokenKind) (k : Terminal) (x s : Text) → (a : Here w n i h (x ++ s)) → is_blank (get_or (x ++ s) 0 0) ≡ false → kind ≢ kinds.End → IsToken Second kind w.text a.at (a.at + length x) →
     ((ps : List Piece) → HasTokens Second w.text (a.at + length x) ps w.fault → terminal_of kind x (begins_numeral (a.at + length x) ps) ≡ Some k) → Counts n m k → Stepped w m i h k s
-step_seen {w} {n} {i} {h} m kind k x s a dark inner token seen counts =
+step_seen {w} {n} {i} {h} m kind k x s a begins inner token seen counts =
     let to = a.at + length x in
     let p : Piece = record { kind = kind; from = a.at; to = to } in
-    let taken = take_piece w.text a.at p a.pieces w.fault (next_piece w.text a.at kind x s a.place dark token) inner a.read in
+    let taken = take_piece w.text a.at p a.pieces w.fault (next_piece w.text a.at kind x s a.place begins token) inner a.read in
     let ls = lexemes_of w.text [] taken.rest in
     let b = begins_numeral to taken.rest in
     let later = lexemes_of w.text (a.pending ++ slice_range w.text a.at to ∷ []) taken.rest in
@@ -153,7 +153,7 @@ step_seen {w} {n} {i} {h} m kind k x s a dark inner token seen counts =
 -- one word is read
 pub step : {w : World} {n : ℕ} {i : Input} {h : Notes} (m : ℕ) {kind : TokenKind} {k : Terminal} (x s : Text) → IsWordOf kind k x s → Counts n m k → Here w n i h (x ++ s) → Stepped w m i h k s
 step {w} {n} {i} {h} m {kind} {k} x s word counts a =
-    step_seen m kind k x s a word.dark word.inner (word.token w.text a.at a.place)
+    step_seen m kind k x s a word.begins word.inner (word.token w.text a.at a.place)
     (λ ps r. word.seen (begins_numeral (a.at + length x) ps) (λ b. sym (ap is_digit (first_at (behind x s a.place))) ∙ numeral_digit w.text (a.at + length x) ps w.fault r b)) counts
 
 -- no digit is a second character of a binary selector
@@ -179,15 +179,15 @@ step_minus {w} {n} {i} {h} x s u e a =
     let digit : is_digit (get_or (x ++ s) 0 0) ≡ true = ap is_digit (sym (first_at after)) ∙ token.digits.0 in
     let one : Stepped w n i h (Binary Sign (45 ∷ [])) (x ++ s) =
     step_seen n kinds.Binary (Binary Sign (45 ∷ [])) (45 ∷ []) (x ++ s) a refl (λ is. cc) (minus_at (x ++ s) (no_second (get_or (x ++ s) 0 0) digit) a.place)
-    (λ ps r. ap (λ b. terminal_of kinds.Binary (45 ∷ []) b) (flag ps r word.dark token after)) (λ c f e ts. refl)
+    (λ ps r. ap (λ b. terminal_of kinds.Binary (45 ∷ []) b) (flag ps r word.begins token after)) (λ c f e ts. refl)
     in
     let two = step n x s word (λ c f e ts. refl) one.fresh.here in
     record { first = one.kind; second = two.kind; held = two.held ∙ one.held; fresh = two.fresh }
   where
     flag : (ps : List Piece) → HasTokens Second w.text (a.at + 1) ps w.fault → is_blank (get_or (x ++ s) 0 0) ≡ false → IsNumeral w.text (a.at + 1) (a.at + 1 + length x) → At w.text (a.at + 1) (x ++ s) → begins_numeral (a.at + 1) ps ≡ true
-    flag ps r dark token after =
+    flag ps r begins token after =
         let p : Piece = record { kind = kinds.Numeral; from = a.at + 1; to = a.at + 1 + length x } in
-        let taken = take_piece w.text (a.at + 1) p ps w.fault (next_piece w.text (a.at + 1) kinds.Numeral x s after dark token) (λ is. cc) r in
+        let taken = take_piece w.text (a.at + 1) p ps w.fault (next_piece w.text (a.at + 1) kinds.Numeral x s after begins token) (λ is. cc) r in
         ap (begins_numeral (a.at + 1)) taken.is ∙ eq-eqb (a.at + 1) (a.at + 1) refl
 
 -- one comment is passed
@@ -195,7 +195,7 @@ pub note_step : {w : World} {n : ℕ} {i : Input} {h : Notes} (c s : Text) → I
 note_step {w} {n} {i} {h} c s g a =
     let to = a.at + length c in
     let p : Piece = record { kind = kinds.Comment; from = a.at; to = to } in
-    let taken = take_piece w.text a.at p a.pieces w.fault (next_piece w.text a.at kinds.Comment c s a.place (note_dark c s g) (note_at c s g a.place)) (λ is. cc) a.read in
+    let taken = take_piece w.text a.at p a.pieces w.fault (next_piece w.text a.at kinds.Comment c s a.place (note_no_blank c s g) (note_at c s g a.place)) (λ is. cc) a.read in
     record {
       at = to;
       place = behind c s a.place;

@@ -25,13 +25,8 @@ use Rattle.reread_law.proofs.Bytes.{At, behind, same_bytes, byte_at, first_at, l
 pub record IsWordOf (kind : TokenKind) (k : Terminal) (w s : Text) : Type 0 where
   pub token : (t : Text) (i : ℕ) → At t i (w ++ s) → IsToken Second kind t i (i + length w)
   pub inner : kind ≢ kinds.End
-  pub dark : is_blank (get_or (w ++ s) 0 0) ≡ false
+  pub begins : is_blank (get_or (w ++ s) 0 0) ≡ false
   pub seen : (b : Bool) → (b ≡ true → is_digit (get_or s 0 0) ≡ true) → terminal_of kind w b ≡ Some k
-
--- an identifier has a letter in front
-word_front : (n : Text) → IsWord n → (b : ℕ) × (w : Text) × (n ≡ b ∷ w) × (is_letter b ≡ true) × (list_all is_word w ≡ true)
-word_front [] h = absurd (false≢true h)
-word_front (b ∷ w) h = let p = and_parts (is_letter b) (list_all is_word w) h in (b, w, refl, p.0, p.1)
 
 -- a letter is part of a word
 letter_word : (b : ℕ) → is_letter b ≡ true → is_word b ≡ true
@@ -45,17 +40,17 @@ name_at (b ∷ w) s h e a =
     let all : list_all is_word (b ∷ w) ≡ true = rw (letter_word b p.0, p.1) refl in
     (ap is_letter (first_at a) ∙ p.0, run_at is_word a 1 (length (b ∷ w)) (omega arith) (λ k x y. all_at is_word (b ∷ w) s k all y) (ap is_word (first_behind (b ∷ w) s) ∙ e))
 
--- the first byte of an identifier is dark
-word_dark : (n s : Text) → IsWord n → is_blank (get_or (n ++ s) 0 0) ≡ false
-word_dark [] s h = absurd (false≢true h)
-word_dark (b ∷ w) s h = no_blank is_letter b (and_parts (is_letter b) (list_all is_word w) h).0 refl refl refl refl refl
+-- an identifier begins with no blank
+word_no_blank : (n s : Text) → IsWord n → is_blank (get_or (n ++ s) 0 0) ≡ false
+word_no_blank [] s h = absurd (false≢true h)
+word_no_blank (b ∷ w) s h = no_blank is_letter b (and_parts (is_letter b) (list_all is_word w) h).0 refl refl refl refl refl
 
 -- an identifier
 pub name_word : (n s : Text) → IsWord n → Ends s → IsWordOf kinds.Identifier (name_of n) n s
 name_word n s h e = record {
   token = λ t i a. (name_at n s h e.word a, λ c. e.colon (sym (first_at (behind n s a)) ∙ c.0));
   inner = λ is. cc;
-  dark = word_dark n s h;
+  begins = word_no_blank n s h;
   seen = λ b d. refl;
 }
 
@@ -71,13 +66,13 @@ keyword_at {t} {i} k s h e a =
       end = omega (arith, ap length h.is, length-append h.name (58 ∷ []));
     }
 
--- the first byte of a keyword is dark
-keyword_dark : (k s : Text) → IsKeywordText k → is_blank (get_or (k ++ s) 0 0) ≡ false
-keyword_dark k s h = ap (λ x. is_blank (get_or x 0 0)) (ap (λ x. x ++ s) h.is ∙ append_assoc h.name (58 ∷ []) s) ∙ word_dark h.name (58 ∷ s) h.word
+-- a keyword begins with no blank
+keyword_no_blank : (k s : Text) → IsKeywordText k → is_blank (get_or (k ++ s) 0 0) ≡ false
+keyword_no_blank k s h = ap (λ x. is_blank (get_or x 0 0)) (ap (λ x. x ++ s) h.is ∙ append_assoc h.name (58 ∷ []) s) ∙ word_no_blank h.name (58 ∷ s) h.word
 
 -- a keyword
 pub keyword_word : (k s : Text) → IsKeywordText k → get_or s 0 0 ≢ 61 → IsWordOf kinds.Keyword (keyword_of k) k s
-keyword_word k s h e = record { token = λ t i a. keyword_at k s h e a; inner = λ is. cc; dark = keyword_dark k s h; seen = λ b d. refl }
+keyword_word k s h e = record { token = λ t i a. keyword_at k s h e a; inner = λ is. cc; begins = keyword_no_blank k s h; seen = λ b d. refl }
 
 -- one binary character, or two
 pub binary_at : {t : Text} {i : ℕ} (w s : Text) → is_operator w ≡ true → (w ≡ 124 ∷ [] → ⊥) → is_second (get_or s 0 0) ≡ false → At t i (w ++ s) → IsBinary t i (i + length w)
@@ -120,32 +115,32 @@ no_flag : (b : Bool) (d : ℕ) → is_digit d ≡ false → (b ≡ true → is_d
 no_flag true d e h = absurd (false≢true (sym e ∙ h refl))
 no_flag false d e h = refl
 
--- the first byte of a binary selector is dark
-operator_dark : (w s : Text) → is_operator w ≡ true → is_blank (get_or (w ++ s) 0 0) ≡ false
-operator_dark [] s h = absurd (false≢true h)
-operator_dark (b ∷ []) s h =
+-- a binary selector begins with no blank
+operator_no_blank : (w s : Text) → is_operator w ≡ true → is_blank (get_or (w ++ s) 0 0) ≡ false
+operator_no_blank [] s h = absurd (false≢true h)
+operator_no_blank (b ∷ []) s h =
     elim (or_cases (is_binary b) (b == 124) h) [
       | inl g ↦ no_blank is_binary b g refl refl refl refl refl
       | inr g ↦ ap is_blank (eqb-true b 124 g)
     ]
-operator_dark (b ∷ c ∷ []) s h = no_blank is_binary b (and_parts (is_binary b) (is_second c) h).0 refl refl refl refl refl
-operator_dark (b ∷ c ∷ d ∷ w) s h = absurd (false≢true h)
+operator_no_blank (b ∷ c ∷ []) s h = no_blank is_binary b (and_parts (is_binary b) (is_second c) h).0 refl refl refl refl refl
+operator_no_blank (b ∷ c ∷ d ∷ w) s h = absurd (false≢true h)
 
 -- a mark of one byte
 mark : (kind : TokenKind) (k : Terminal) (b : ℕ) (s : Text) → ((t : Text) (i : ℕ) → IsByte b t i (i + 1) → IsToken Second kind t i (i + 1)) → kind ≢ kinds.End → is_blank b ≡ false → ((f : Bool) → terminal_of kind (b ∷ []) f ≡ Some k) → IsWordOf kind k (b ∷ []) s
-mark kind k b s h inner dark seen = record {
+mark kind k b s h inner begins seen = record {
   token = λ t i a. h t i (first_at a, refl);
   inner = inner;
-  dark = dark;
+  begins = begins;
   seen = λ f d. seen f;
 }
 
 -- a mark of two bytes
 pair : (kind : TokenKind) (k : Terminal) (b c : ℕ) (s : Text) → ((t : Text) (i : ℕ) → IsBytePair b c t i (i + 2) → IsToken Second kind t i (i + 2)) → kind ≢ kinds.End → is_blank b ≡ false → ((f : Bool) → terminal_of kind (b ∷ c ∷ []) f ≡ Some k) → IsWordOf kind k (b ∷ c ∷ []) s
-pair kind k b c s h inner dark seen = record {
+pair kind k b c s h inner begins seen = record {
   token = λ t i a. h t i (first_at a, byte_at a 1, refl);
   inner = inner;
-  dark = dark;
+  begins = begins;
   seen = λ f d. seen f;
 }
 
@@ -206,7 +201,7 @@ pub colon_word : (s : Text) → get_or s 0 0 ≢ 61 → IsWordOf kinds.Colon gra
 colon_word s n = record {
   token = λ t i a. ((first_at a, λ is. n (sym (byte_at a 1) ∙ is)), refl);
   inner = λ is. cc;
-  dark = refl;
+  begins = refl;
   seen = λ f d. refl;
 }
 
@@ -224,7 +219,7 @@ operator_word w s h e d = go (bytes_eq w (124 ∷ [])) refl
       word = record {
         token = λ t i a. binary_at w s h (λ bar. false≢true (sym is ∙ (bytes_eq-Decides w (124 ∷ [])).1 bar)) e a;
         inner = λ is. cc;
-        dark = operator_dark w s h;
+        begins = operator_no_blank w s h;
         seen = λ b f. ap Some (ap (binary_of w) (no_flag b (get_or s 0 0) d f) ∙ binary_class w);
       };
     }
@@ -238,7 +233,7 @@ pub numeral_before : (w s : Text) → IsUnsigned w → ((t : Text) (i : ℕ) →
 numeral_before w s h e = record {
   token = λ t i a. let f : 0 + length w ≡ length w = omega arith in numeral_copy t i w 0 (length w) (copy_at w s a) (e t (i + length w) (behind w s a)) (subst (IsNumeral w 0) (sym f) h);
   inner = λ is. cc;
-  dark = ap is_blank (get_or_append_left w s 0 0 (Passes-inside is_digit w 0 refl h.digits.0)) ∙ no_blank is_digit (get_or w 0 0) h.digits.0 refl refl refl refl refl;
+  begins = ap is_blank (get_or_append_left w s 0 0 (Passes-inside is_digit w 0 refl h.digits.0)) ∙ no_blank is_digit (get_or w 0 0) h.digits.0 refl refl refl refl refl;
   seen = λ f d. refl;
 }
 
@@ -248,25 +243,25 @@ numeral_word w s h e = numeral_before w s h (λ t i a. ends_numeral a e)
 
 -- < before a letter
 pub less_word : (s : Text) → is_second (get_or s 0 0) ≡ false → IsWordOf kinds.Binary (grammar.Binary Less (60 ∷ [])) (60 ∷ []) s
-less_word s e = record { token = λ t i a. binary_at (60 ∷ []) s refl (λ is. cc) e a; inner = λ is. cc; dark = refl; seen = λ f d. refl }
+less_word s e = record { token = λ t i a. binary_at (60 ∷ []) s refl (λ is. cc) e a; inner = λ is. cc; begins = refl; seen = λ f d. refl }
 
 -- >
 pub greater_word : (s : Text) → is_second (get_or s 0 0) ≡ false → IsWordOf kinds.Binary (grammar.Binary Greater (62 ∷ [])) (62 ∷ []) s
-greater_word s e = record { token = λ t i a. binary_at (62 ∷ []) s refl (λ is. cc) e a; inner = λ is. cc; dark = refl; seen = λ f d. refl }
+greater_word s e = record { token = λ t i a. binary_at (62 ∷ []) s refl (λ is. cc) e a; inner = λ is. cc; begins = refl; seen = λ f d. refl }
 
 -- a comment
 pub note_at : {t : Text} {i : ℕ} (w s : Text) → IsNote w → At t i (w ++ s) → IsComment t i (i + length w)
 note_at {t} {i} w s h a = let e : 0 + length w ≡ length w = omega arith in comment_copy t i w 0 (length w) (copy_at w s a) (subst (IsComment w 0) (sym e) h)
 
--- the first byte of a comment is dark
-pub note_dark : (w s : Text) → IsNote w → is_blank (get_or (w ++ s) 0 0) ≡ false
-note_dark w s h = ap is_blank (get_or_append_left w s 0 0 (omega (arith, h.order, h.end)) ∙ h.opens)
+-- a comment begins with no blank
+pub note_no_blank : (w s : Text) → IsNote w → is_blank (get_or (w ++ s) 0 0) ≡ false
+note_no_blank w s h = ap is_blank (get_or_append_left w s 0 0 (omega (arith, h.order, h.end)) ∙ h.opens)
 
 -- a character
 pub char_word : (b : ℕ) (s : Text) → IsWordOf kinds.Character (Constant (char b)) (36 ∷ b ∷ []) s
 char_word b s = record {
   token = λ t i a. (first_at a, omega (arith, length_at a), refl);
   inner = λ is. cc;
-  dark = refl;
+  begins = refl;
   seen = λ f d. refl;
 }
