@@ -14,7 +14,7 @@ use Rattle.grammar_model.specs.Spanned.{Declared, Block, SpannedStatements, NoSt
 use Rattle.grammar_model.specs.Chain.{Alone}
 use Rattle.grammar_model.specs.Ahead.{Any}
 use Rattle.grammar_model.specs.Grammar.{Parameters, OneParameter, NoParameters, DeclaresNone, BlockBody, WithoutParameters, WithParameters, BlockOperand, NoUnaries, Sequenced, NoMore}
-use Rattle.reread_law.proofs.Good.{AllNotes, AllWords}
+use Rattle.reread_law.specs.WellFormed.{AllNotes, AllWords}
 use Rattle.reread_law.proofs.Bytes.{ends, ends_all}
 use Rattle.reread_law.proofs.Words.{bar_word, colon_word, block_open_word, block_close_word}
 use Rattle.reread_law.proofs.Quoted.{word_letter}

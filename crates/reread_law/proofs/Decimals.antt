@@ -12,7 +12,7 @@ use Rattle.token_model.specs.Bytes.{is_digit, is_radix_digit}
 use Rattle.token_model.specs.Tokens.{Plain, Unscaled}
 use Rattle.grammar_model.specs.Terminal.{Text, SmallDigits, LargeDigits, OtherNumeral}
 use Rattle.grammar_model.specs.Lexemes.{numeral_of}
-use Rattle.reread_law.proofs.Good.{IsUnsigned}
+use Rattle.reread_law.specs.WellFormed.{IsUnsigned}
 use Rattle.reread_law.proofs.Bytes.{At, all_at, first_at}
 use Rattle.reread_law.proofs.Copies.{EndsNumeral}
 

@@ -14,7 +14,7 @@ use Rattle.grammar_model.specs.Spanned.{Cascade, Assign, Brace, SpannedTrees, No
 use Rattle.grammar_model.specs.Chain.{Alone}
 use Rattle.grammar_model.specs.Ahead.{Any}
 use Rattle.grammar_model.specs.Grammar.{Assigned, Simple, BraceOperand, NoUnaries, Cascaded, OneCascade, Messages, OneMessage, LastMessage, Message, UnaryMessage, BinaryMessage, KeywordMessage, Items, NoItems, OneItem, FurtherItems, NextItem, LastItem}
-use Rattle.reread_law.proofs.Good.{IsWord, FitsArguments, FitsNone, FitsOne, FitsParts, IsValue, AreTwo}
+use Rattle.reread_law.specs.WellFormed.{IsWord, FitsArguments, FitsNone, FitsOne, FitsParts, IsValue, AreTwo}
 use Rattle.reread_law.proofs.Made.{value_returns}
 use Rattle.reread_law.proofs.Bytes.{ends, ends_all}
 use Rattle.reread_law.proofs.Words.{semicolon_word, period_word, caret_word, assign_word, brace_open_word, brace_close_word}

@@ -13,7 +13,7 @@ use Rattle.grammar_model.specs.Chain.{Chain, Waiting, Alone, Told, whole, sent, 
 use Rattle.grammar_model.specs.Ahead.{Longest, IsDigits, NoSemicolon}
 use Rattle.grammar_model.specs.Literals.{word_or_symbol, KeywordRow, LastKeyword, JoinedKeyword, ByteElements, OneByte, NoBytes, LiteralAt, Unsigned, Negative, Fixed, Array, ByteArray, Element, LiteralElement, InnerArray, InnerBytes, NameElement, KeywordElement, BinaryElement, Elements, OneElement, NoElements}
 use Rattle.grammar_model.specs.Grammar.{Periods, OnePeriod, NoPeriods, Names, OneName, NoNames, Parameters, OneParameter, NoParameters, Temporaries, Declares, DeclaresNone, Expression, Assigned, Simple, Operand, Variable, SuperName, LiteralOperand, Grouped, BlockOperand, BraceOperand, Unaries, OneUnary, NoUnaries, Binaries, OneBinary, NoBinaries, Keywords, OneKeywords, NoKeywords, Parts, LastPart, FurtherPart, Argument, BinaryArgument, KeywordArgument, ArgumentOfKeyword, Cascaded, NoCascade, OneCascade, Messages, OneMessage, LastMessage, Message, UnaryMessage, BinaryMessage, KeywordMessage, Items, NoItems, OneItem, FurtherItems, NextItem, LastItem, BlockBody, WithoutParameters, ParametersAlone, WithParameters, Sequence, Sequenced, Statements, BlankPeriod, NoMore, Returned, OneStatement, After, Ended, Unended, Finish, EndedReturn, UnendedReturn}
-use Rattle.reread_law.proofs.Good.{IsWord, IsUnsigned, Plain, Minus, GoodNumber, AllNotes, AllWords, GoodBytes, NoneLeft, OneMore, GoodLiteral, GoodLiterals, NoWord, GoodParts, LastOne, OneBefore, FitsArguments, FitsNone, FitsOne, FitsParts, IsValue, NoReturn, IsStatement, AreTwo, Good, GoodTrees, GoodMessages, GoodStatements}
+use Rattle.reread_law.specs.WellFormed.{IsWord, IsUnsigned, Plain, Minus, IsNumber, AllNotes, AllWords, AreBytes, NoneLeft, OneMore, WellFormedLiteral, WellFormedLiterals, NoWord, AreParts, LastOne, OneBefore, FitsArguments, FitsNone, FitsOne, FitsParts, IsValue, NoReturn, IsStatement, AreTwo, WellFormed, WellFormedTrees, WellFormedMessages, WellFormedStatements}
 use Rattle.reread_law.proofs.Sound.{GoodTerminal, Sound, sound_kind, sound_next, sound_clear, sound_back}
 
 -- a row of keywords leaves the rest well formed
@@ -27,7 +27,7 @@ digits_all t true e h = e
 digits_all t false e h = absurd h
 
 -- byte arrays
-made_Bytes : {i j : Input} {ls : LiteralsOf Text} → ByteElements Longest i ls j → Sound i → GoodBytes ls × Sound j
+made_Bytes : {i j : Input} {ls : LiteralsOf Text} → ByteElements Longest i ls j → Sound i → AreBytes ls × Sound j
 made_Bytes (OneByte {c} {t} e d r) s =
     let g = sound_kind s e in
     let later = made_Bytes r (sound_next s) in
@@ -35,7 +35,7 @@ made_Bytes (OneByte {c} {t} e d r) s =
 made_Bytes (NoBytes n) s = (NoneLeft, s)
 
 -- a string, a character or a symbol
-constant_good : (l : LiteralOf Text) → GoodTerminal (Constant l) → GoodLiteral l × NoWord l
+constant_good : (l : LiteralOf Text) → GoodTerminal (Constant l) → WellFormedLiteral l × NoWord l
 constant_good (str t) h = (tt, tt)
 constant_good (symbol t) h = (tt, tt)
 constant_good (char b) h = (tt, tt)
@@ -45,20 +45,20 @@ constant_good (bytes ls) h = absurd h
 constant_good (word n) h = absurd h
 
 -- a word in an array
-word_good : (n : Text) → IsWord n → GoodLiteral (word_or_symbol n)
+word_good : (n : Text) → IsWord n → WellFormedLiteral (word_or_symbol n)
 word_good n h = go (is_literal_word n) refl
   where
-    go : (b : Bool) → is_literal_word n ≡ b → GoodLiteral (if b then word n else symbol n)
+    go : (b : Bool) → is_literal_word n ≡ b → WellFormedLiteral (if b then word n else symbol n)
     go true e = (h, e)
     go false e = tt
 
 -- a sign before a numeral
-minus_good : (s t : Text) → s ≡ 45 ∷ [] → IsUnsigned t → GoodNumber (s ++ t)
-minus_good s t e h = subst (λ s. GoodNumber (s ++ t)) (sym e) (Minus h)
+minus_good : (s t : Text) → s ≡ 45 ∷ [] → IsUnsigned t → IsNumber (s ++ t)
+minus_good s t e h = subst (λ s. IsNumber (s ++ t)) (sym e) (Minus h)
 
 mutual
   -- a literal
-  made_LiteralAt : {i j : Input} {l : LiteralOf Text} → LiteralAt Longest i l j → Sound i → GoodLiteral l × NoWord l × Sound j
+  made_LiteralAt : {i j : Input} {l : LiteralOf Text} → LiteralAt Longest i l j → Sound i → WellFormedLiteral l × NoWord l × Sound j
   made_LiteralAt (Unsigned e) s = (Plain (sound_kind s e).0, tt, sound_next s)
   made_LiteralAt (Negative {s = m} {t} e f) s = (minus_good m t ((sound_kind s e).1 refl) (sound_kind (sound_next s) f).0, tt, sound_next (sound_next s))
   made_LiteralAt (Fixed {l} e) s = let c = constant_good l (sound_kind s e) in (c.0, c.1, sound_next s)
@@ -66,7 +66,7 @@ mutual
   made_LiteralAt (ByteArray e r c) s = let g = made_Bytes r (sound_next s) in (g.0, tt, sound_next g.1)
 
   -- an element of an array
-  made_Element : {i j : Input} {l : LiteralOf Text} → Element Longest i l j → Sound i → GoodLiteral l × Sound j
+  made_Element : {i j : Input} {l : LiteralOf Text} → Element Longest i l j → Sound i → WellFormedLiteral l × Sound j
   made_Element (LiteralElement d) s = let g = made_LiteralAt d s in (g.0, g.2)
   made_Element (InnerArray e r c) s = let g = made_Elements r (sound_next s) in (g.0, sound_next g.1)
   made_Element (InnerBytes e r c) s = let g = made_Bytes r (sound_next s) in (g.0, sound_next g.1)
@@ -75,7 +75,7 @@ mutual
   made_Element (BinaryElement e n) s = (tt, sound_next s)
 
   -- elements
-  made_Elements : {i j : Input} {ls : LiteralsOf Text} → Elements Longest i ls j → Sound i → GoodLiterals ls × Sound j
+  made_Elements : {i j : Input} {ls : LiteralsOf Text} → Elements Longest i ls j → Sound i → WellFormedLiterals ls × Sound j
   made_Elements (OneElement x r) s = let g = made_Element x s in let h = made_Elements r g.1 in ((g.0, h.0), h.1)
   made_Elements (NoElements n) s = (tt, s)
 
@@ -103,8 +103,8 @@ made_Temporaries (DeclaresNone n) s = (tt, s)
 -- a receiver and its messages
 abbrev GoodChain : Chain → Type 0
 GoodChain (Waiting f e n) = IsWord n
-GoodChain (Alone t) = Good (plain_tree t) × IsValue (plain_tree t)
-GoodChain (Told f e r s xs) = Good (plain_tree r) × IsValue (plain_tree r) × FitsArguments s (plain_trees xs) × GoodTrees (plain_trees xs)
+GoodChain (Alone t) = WellFormed (plain_tree t) × IsValue (plain_tree t)
+GoodChain (Told f e r s xs) = WellFormed (plain_tree r) × IsValue (plain_tree r) × FitsArguments s (plain_trees xs) × WellFormedTrees (plain_trees xs)
 
 -- what has a value is no return
 pub value_returns : (t : TreeOf Text) → IsValue t → NoReturn t
@@ -113,13 +113,13 @@ value_returns (var n) h = tt
 value_returns t h = tt
 
 -- one more message
-sent_good : (f e : ℕ) (r : Chain) (s : Text) (xs : SpannedTrees) → GoodChain r → FitsArguments s (plain_trees xs) → GoodTrees (plain_trees xs) → GoodChain (sent f e r s xs)
+sent_good : (f e : ℕ) (r : Chain) (s : Text) (xs : SpannedTrees) → GoodChain r → FitsArguments s (plain_trees xs) → WellFormedTrees (plain_trees xs) → GoodChain (sent f e r s xs)
 sent_good f e (Waiting g h n) s xs c fits args = ((c, tt, fits, args), tt)
 sent_good f e (Alone t) s xs c fits args = (c.0, c.1, fits, args)
 sent_good f e (Told g h r t ys) s xs c fits args = ((c.0, value_returns (plain_tree r) c.1, c.2, c.3), tt, fits, args)
 
 -- the tree so far
-whole_good : (c : Chain) → IsWhole c → GoodChain c → Good (plain_tree (whole c)) × IsValue (plain_tree (whole c))
+whole_good : (c : Chain) → IsWhole c → GoodChain c → WellFormed (plain_tree (whole c)) × IsValue (plain_tree (whole c))
 whole_good (Waiting f e n) w c = absurd w
 whole_good (Alone t) w c = c
 whole_good (Told f e r s xs) w c = ((c.0, value_returns (plain_tree r) c.1, c.2, c.3), tt)
@@ -137,7 +137,7 @@ expression_statement t ss h = h
 
 mutual
   -- an expression
-  pub made_Expression : {i j : Input} {t : SpannedTree} → Expression Longest i t j → Sound i → Good (plain_tree t) × IsValue (plain_tree t) × Sound j
+  pub made_Expression : {i j : Input} {t : SpannedTree} → Expression Longest i t j → Sound i → WellFormed (plain_tree t) × IsValue (plain_tree t) × Sound j
   made_Expression (Assigned e f d) s =
       let g = made_Expression d (sound_next (sound_next s)) in (((sound_kind s e).0, g.0, g.1), tt, g.2)
   made_Expression (Simple plain o u b k c) s =
@@ -178,7 +178,7 @@ mutual
   made_Keywords (NoKeywords n) c s = (c, s)
 
   -- keywords with their arguments
-  made_Parts : {i j : Input} {s : Text} {xs : SpannedTrees} → Parts Longest i s xs j → Sound i → GoodParts s (plain_trees xs) × GoodTrees (plain_trees xs) × Sound j
+  made_Parts : {i j : Input} {s : Text} {xs : SpannedTrees} → Parts Longest i s xs j → Sound i → AreParts s (plain_trees xs) × WellFormedTrees (plain_trees xs) × Sound j
   made_Parts (LastPart e x n) s = let g = made_KeywordArgument x (sound_next s) in (LastOne (sound_kind s e), (g.0, g.1, tt), g.2)
   made_Parts (FurtherPart e x d) s =
       let g = made_KeywordArgument x (sound_next s) in
@@ -186,7 +186,7 @@ mutual
       (OneBefore (sound_kind s e) h.0, (g.0, g.1, h.1), h.2)
 
   -- the argument of a binary message
-  made_Argument : {i j : Input} {t : SpannedTree} → Argument Longest i t j → Sound i → Good (plain_tree t) × IsValue (plain_tree t) × Sound j
+  made_Argument : {i j : Input} {t : SpannedTree} → Argument Longest i t j → Sound i → WellFormed (plain_tree t) × IsValue (plain_tree t) × Sound j
   made_Argument (BinaryArgument {u} o d w) s =
       let first = made_Operand o s in
       let second = made_Unaries d first.0 first.1 in
@@ -194,7 +194,7 @@ mutual
       (g.0, g.1, second.1)
 
   -- the argument of a keyword
-  made_KeywordArgument : {i j : Input} {t : SpannedTree} → KeywordArgument Longest i t j → Sound i → Good (plain_tree t) × IsValue (plain_tree t) × Sound j
+  made_KeywordArgument : {i j : Input} {t : SpannedTree} → KeywordArgument Longest i t j → Sound i → WellFormed (plain_tree t) × IsValue (plain_tree t) × Sound j
   made_KeywordArgument (ArgumentOfKeyword {b} o d c w) s =
       let first = made_Operand o s in
       let second = made_Unaries d first.0 first.1 in
@@ -203,13 +203,13 @@ mutual
       (g.0, g.1, third.1)
 
   -- a cascade or none
-  made_Cascaded : {r : Chain} {i j : Input} {t : SpannedTree} → Cascaded Longest r i t j → GoodChain r → Sound i → Good (plain_tree t) × IsValue (plain_tree t) × Sound j
+  made_Cascaded : {r : Chain} {i j : Input} {t : SpannedTree} → Cascaded Longest r i t j → GoodChain r → Sound i → WellFormed (plain_tree t) × IsValue (plain_tree t) × Sound j
   made_Cascaded (NoCascade {r} w n) c s = let g = whole_good r w c in (g.0, g.1, s)
   made_Cascaded (OneCascade {s = p} {xs} e d) c s =
       let g = made_Messages d s in ((c.0, c.1, more_after p xs d e, (c.2, c.3, g.0)), tt, g.1)
 
   -- the messages of a cascade
-  made_Messages : {i j : Input} {ms : SpannedMessages} → Messages Longest i ms j → Sound i → GoodMessages (plain_messages ms) × Sound j
+  made_Messages : {i j : Input} {ms : SpannedMessages} → Messages Longest i ms j → Sound i → WellFormedMessages (plain_messages ms) × Sound j
   made_Messages (OneMessage e m d) s =
       let g = made_Message m (sound_next s) in
       let h = made_Messages d g.2 in
@@ -217,13 +217,13 @@ mutual
   made_Messages (LastMessage n) s = (tt, s)
 
   -- one message of a cascade
-  made_Message : {i j : Input} {s : Text} {xs : SpannedTrees} → Message Longest i s xs j → Sound i → FitsArguments s (plain_trees xs) × GoodTrees (plain_trees xs) × Sound j
+  made_Message : {i j : Input} {s : Text} {xs : SpannedTrees} → Message Longest i s xs j → Sound i → FitsArguments s (plain_trees xs) × WellFormedTrees (plain_trees xs) × Sound j
   made_Message (UnaryMessage e) s = (FitsNone (sound_kind s e).0, tt, sound_next s)
   made_Message (BinaryMessage e x) s = let g = made_Argument x (sound_next s) in (FitsOne (sound_kind s e).0, (g.0, g.1, tt), g.2)
   made_Message (KeywordMessage d) s = let g = made_Parts d s in (FitsParts g.0, g.1, g.2)
 
   -- the items of a brace array
-  made_Items : {i j : Input} {ts : SpannedTrees} → Items Longest i ts j → Sound i → GoodTrees (plain_trees ts) × Sound j
+  made_Items : {i j : Input} {ts : SpannedTrees} → Items Longest i ts j → Sound i → WellFormedTrees (plain_trees ts) × Sound j
   made_Items (NoItems n) s = (tt, s)
   made_Items (OneItem d r) s =
       let g = made_Expression d s in
@@ -231,12 +231,12 @@ mutual
       ((g.0, g.1, h.0), h.1)
 
   -- what stands behind an item
-  made_FurtherItems : {i j : Input} {ts : SpannedTrees} → FurtherItems Longest i ts j → Sound i → GoodTrees (plain_trees ts) × Sound j
+  made_FurtherItems : {i j : Input} {ts : SpannedTrees} → FurtherItems Longest i ts j → Sound i → WellFormedTrees (plain_trees ts) × Sound j
   made_FurtherItems (NextItem e d) s = made_Items d (sound_next s)
   made_FurtherItems (LastItem n) s = (tt, s)
 
   -- what stands between the brackets of a block
-  made_BlockBody : {i j : Input} {ps ds : List Declared} {ss : SpannedStatements} → BlockBody Longest i ps ds ss j → Sound i → AllWords (names_of ps) × AllWords (names_of ds) × GoodStatements (plain_statements ss) × Sound j
+  made_BlockBody : {i j : Input} {ps ds : List Declared} {ss : SpannedStatements} → BlockBody Longest i ps ds ss j → Sound i → AllWords (names_of ps) × AllWords (names_of ds) × WellFormedStatements (plain_statements ss) × Sound j
   made_BlockBody (WithoutParameters n d) s = let g = made_Sequence d s in (tt, g.0, g.1, g.2)
   made_BlockBody (ParametersAlone e p c) s = let g = made_Parameters p s in (g.0, tt, tt, g.1)
   made_BlockBody (WithParameters e p c d) s =
@@ -245,14 +245,14 @@ mutual
       (g.0, h.0, h.1, h.2)
 
   -- a sequence
-  pub made_Sequence : {i j : Input} {ds : List Declared} {ss : SpannedStatements} → Sequence Longest i ds ss j → Sound i → AllWords (names_of ds) × GoodStatements (plain_statements ss) × Sound j
+  pub made_Sequence : {i j : Input} {ds : List Declared} {ss : SpannedStatements} → Sequence Longest i ds ss j → Sound i → AllWords (names_of ds) × WellFormedStatements (plain_statements ss) × Sound j
   made_Sequence (Sequenced t b) s =
       let g = made_Temporaries t s in
       let h = made_Statements b g.1 in
       (g.0, h.0, h.1)
 
   -- statements
-  pub made_Statements : {i j : Input} {ss : SpannedStatements} → Statements Longest i ss j → Sound i → GoodStatements (plain_statements ss) × Sound j
+  pub made_Statements : {i j : Input} {ss : SpannedStatements} → Statements Longest i ss j → Sound i → WellFormedStatements (plain_statements ss) × Sound j
   made_Statements (BlankPeriod e b) s = made_Statements b (sound_next s)
   made_Statements (NoMore n) s = (tt, s)
   made_Statements (Returned e d f) s =
@@ -265,7 +265,7 @@ mutual
       ((h.0, g.0, expression_statement (plain_tree t) (plain_statements ss) g.1, h.1), h.2)
 
   -- what stands behind a statement
-  made_After : {i j : Input} {n : Notes} {ss : SpannedStatements} → After Longest i n ss j → Sound i → AllNotes n × GoodStatements (plain_statements ss) × Sound j
+  made_After : {i j : Input} {n : Notes} {ss : SpannedStatements} → After Longest i n ss j → Sound i → AllNotes n × WellFormedStatements (plain_statements ss) × Sound j
   made_After (Ended e b) s =
       let after = sound_next s in
       let g = made_Statements b (sound_clear after) in

@@ -14,7 +14,7 @@ use Rattle.grammar_model.specs.Spanned.{SpannedTree, SpannedTrees, NoTrees, More
 use Rattle.grammar_model.specs.Chain.{Chain, Told, whole, sent}
 use Rattle.grammar_model.specs.Ahead.{Any}
 use Rattle.grammar_model.specs.Grammar.{OneKeywords, Parts, LastPart, FurtherPart}
-use Rattle.reread_law.proofs.Good.{IsWord, GoodParts, LastOne, OneBefore, FitsArguments, FitsNone, FitsOne, FitsParts, IsValue, NoReturn}
+use Rattle.reread_law.specs.WellFormed.{IsWord, AreParts, LastOne, OneBefore, FitsArguments, FitsNone, FitsOne, FitsParts, IsValue, NoReturn}
 use Rattle.reread_law.proofs.Made.{value_returns}
 use Rattle.reread_law.proofs.Bytes.{ends, ends_all}
 use Rattle.reread_law.proofs.Steps.{World, Here, Fresh, blank_step, held_as, text_as}
@@ -37,13 +37,13 @@ pub record PartsRead (w : World) (n : ℕ) (i : Input) (h : Notes) (s : Text) (x
   pub fresh : Fresh w n stop r
 
 -- keywords begin with a blank
-parts_end : (k : ℕ) (r s : Text) (xs : TreesOf Text) → GoodParts s xs → ends (message_text s (argument_texts k loose.Keyword xs) ++ r) ≡ true
+parts_end : (k : ℕ) (r s : Text) (xs : TreesOf Text) → AreParts s xs → ends (message_text s (argument_texts k loose.Keyword xs) ++ r) ≡ true
 parts_end k r s xs (LastOne {x} g) = ap (λ y. ends (y ++ r)) (last_text s (operand_text loose.Binary (precedence_of x) (expression_text k x)) g)
 parts_end k r s xs (OneBefore {k = q} {s = p} {x} {xs = ys} g d) =
     ap (λ y. ends (y ++ r)) (before_text q p (operand_text loose.Binary (precedence_of x) (expression_text k x)) (argument_texts k loose.Keyword ys) g)
 
 -- keywords with their arguments
-pub reads_parts : (s : Text) (xs : TreesOf Text) → GoodParts s xs → CanReadAll xs → (w : World) (n k : ℕ) (i : Input) (h : Notes) (r : Text) → ends r ≡ true → n + trees_height xs + 1 ≤ 400 → Here w n i h (message_text s (argument_texts k loose.Keyword xs) ++ r) → PartsRead w n i h s xs r
+pub reads_parts : (s : Text) (xs : TreesOf Text) → AreParts s xs → CanReadAll xs → (w : World) (n k : ℕ) (i : Input) (h : Notes) (r : Text) → ends r ≡ true → n + trees_height xs + 1 ≤ 400 → Here w n i h (message_text s (argument_texts k loose.Keyword xs) ++ r) → PartsRead w n i h s xs r
 reads_parts s xs (LastOne {x} g) can w n k i h r e le a =
     let t = operand_text loose.Binary (precedence_of x) (expression_text k x) in
     let b = blank_step 32 ((s ++ 32 ∷ t) ++ r) refl (text_as _ (32 ∷ ((s ++ 32 ∷ t) ++ r)) (ap (λ y. y ++ r) (last_text s t g)) a) in
@@ -146,7 +146,7 @@ send_binary r s x can kept g arg val w n k i h q e le a =
     }
 
 -- a keyword send
-send_keyword : (r : TreeOf Text) (s : Text) (xs : TreesOf Text) → CanRead r → NoReturn r → GoodParts s xs → CanReadAll xs → (w : World) (n k : ℕ) (i : Input) (h : Notes) (q : Text) → ends q ≡ true → n + max (height r) (trees_height xs) + 1 ≤ 400 → Here w n i h (send_text k loose.Keyword r s xs ++ q) → Sent w n i h r s xs q
+send_keyword : (r : TreeOf Text) (s : Text) (xs : TreesOf Text) → CanRead r → NoReturn r → AreParts s xs → CanReadAll xs → (w : World) (n k : ℕ) (i : Input) (h : Notes) (q : Text) → ends q ≡ true → n + max (height r) (trees_height xs) + 1 ≤ 400 → Here w n i h (send_text k loose.Keyword r s xs ++ q) → Sent w n i h r s xs q
 send_keyword r s xs can kept g args w n k i h q e le a =
     let t = operand_text loose.Binary (precedence_of r) (expression_text k r) in
     let m = message_text s (argument_texts k loose.Keyword xs) in
@@ -181,7 +181,7 @@ pub binary_precedence : (s : Text) (x : TreeOf Text) → is_operator s ≡ true 
 binary_precedence s x g = rw (operator_colon s g) refl
 
 -- the precedence of a message of keywords
-pub keyword_precedence : (s : Text) (xs : TreesOf Text) → GoodParts s xs → message_precedence s xs ≡ loose.Keyword
+pub keyword_precedence : (s : Text) (xs : TreesOf Text) → AreParts s xs → message_precedence s xs ≡ loose.Keyword
 keyword_precedence s xs (LastOne {x} g) = let c = parts_colon {xs = more_trees x no_trees} s (LastOne g) in rw c refl
 keyword_precedence s xs (OneBefore {k} {s = p} {x} {xs = ys} g d) = let c = parts_colon {xs = more_trees x ys} (k ++ p) (OneBefore g d) in rw c refl
 

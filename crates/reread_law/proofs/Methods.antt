@@ -17,10 +17,11 @@ use Rattle.grammar_model.specs.Whole.{WithBars, WithoutBars, Primitive, OnePrimi
 use Rattle.grammar_model.specs.Spelling.{SpellsMethod}
 use Rattle.grammar_model.proofs.Limits.{limit_Method, normal_Method}
 use Rattle.grammar_model.proofs.Rows.{longest_IsMethod}
-use Rattle.reread_law.proofs.Good.{IsKeywordText, AllNotes, AllWords, GoodStatements}
+use Rattle.reread_law.specs.WholeTrees.{FitsPrimitive, IsPattern, WellFormedSequence, WellFormedMethod}
+use Rattle.reread_law.specs.WellFormed.{IsKeywordText, AllNotes, AllWords, WellFormedStatements}
 use Rattle.reread_law.proofs.Sound.{Sound, sound_kind, sound_next, sound_clear, notes_append, sound_lexed}
 use Rattle.reread_law.proofs.Made.{made_Names, made_Statements}
-use Rattle.reread_law.proofs.PlainFaults.{sound_Method}
+use Rattle.reread_law.proofs.PlainFaults.{IsSound, sound_Method, no_fault_Method}
 use Rattle.reread_law.proofs.Words.{bar_word, less_word, greater_word, keyword_word, numeral_before}
 use Rattle.reread_law.proofs.Steps.{World, Here, step, blank_step, held_as, text_as, fresh_clear, finish}
 use Rattle.reread_law.proofs.ReadsLiterals.{word_as, blanked}
@@ -28,19 +29,14 @@ use Rattle.reread_law.proofs.Sequences.{lined, joined_lines, ends_lined, line_br
 use Rattle.reread_law.proofs.Trees.{can_read_statements}
 use Rattle.reread_law.proofs.Starting.{over_notes, begun}
 use Rattle.reread_law.proofs.Decimals.{decimal_unsigned, decimal_value, decimal_kind, greater_ends, small_value}
-use Rattle.reread_law.proofs.Patterns.{GoodPattern, made_Pattern, reads_pattern}
-
--- a primitive stands in the kernel alone, with nothing beside it
-abbrev FitsPrimitive : Bool → Option ℕ → List Text → StatementsOf Text → Type 0
-FitsPrimitive kernel None ts ss = Unit {0}
-FitsPrimitive kernel (Some n) ts ss = (kernel ≡ true) × (n ≤ 65535) × (ts ≡ []) × (ss ≡ no_statements)
+use Rattle.reread_law.proofs.Patterns.{made_Pattern, reads_pattern}
 
 -- a method that some text spells
 record GoodMethod (kernel : Bool) (m : MethodOf Text) : Type 0 where
-  pattern : GoodPattern m.selector m.arguments
+  pattern : IsPattern m.selector m.arguments
   head : AllNotes m.head
   words : AllWords m.body.temporaries
-  statements : GoodStatements m.body.statements
+  statements : WellFormedStatements m.body.statements
   tail : AllNotes m.body.tail
   primitive : FitsPrimitive kernel m.primitive m.body.temporaries m.body.statements
 
@@ -48,7 +44,7 @@ record GoodMethod (kernel : Bool) (m : MethodOf Text) : Type 0 where
 record GoodBehind (kernel : Bool) (c : Notes) (p : Option ℕ) (ts : List Text) (ss : StatementsOf Text) (j : Input) : Type 0 where
   opening : AllNotes c
   words : AllWords ts
-  statements : GoodStatements ss
+  statements : WellFormedStatements ss
   primitive : FitsPrimitive kernel p ts ss
   sound : Sound j
 
@@ -68,7 +64,7 @@ made_Behind (Primitively (OnePrimitive {t} e f g h)) s =
 record GoodWithout (kernel : Bool) (p : Option ℕ) (first : Notes) (b : SequenceOf Text) : Type 0 where
   leading : AllNotes first
   words : AllWords b.temporaries
-  statements : GoodStatements b.statements
+  statements : WellFormedStatements b.statements
   tail : AllNotes b.tail
   primitive : FitsPrimitive kernel p b.temporaries b.statements
 
@@ -78,7 +74,7 @@ fits_first kernel None ts c t ss h = tt
 fits_first kernel (Some n) ts c t ss h = let e : more_statements c t ss ≡ no_statements = h.3 in cc
 
 -- it is good where the sequence is
-good_without : (kernel : Bool) (p : Option ℕ) (ts : List Text) (ss : StatementsOf Text) (tail : Notes) → AllWords ts → GoodStatements ss → AllNotes tail → FitsPrimitive kernel p ts ss → GoodWithout kernel p (leading_of ss tail) (without_leading_of ts ss tail)
+good_without : (kernel : Bool) (p : Option ℕ) (ts : List Text) (ss : StatementsOf Text) (tail : Notes) → AllWords ts → WellFormedStatements ss → AllNotes tail → FitsPrimitive kernel p ts ss → GoodWithout kernel p (leading_of ss tail) (without_leading_of ts ss tail)
 good_without kernel p ts no_statements tail w g n f = record { leading = n; words = w; statements = tt; tail = tt; primitive = f }
 good_without kernel p ts (more_statements c t ss) tail w g n f = record { leading = g.0; words = w; statements = (tt, g.1, g.2, g.3); tail = n; primitive = fits_first kernel p ts c t ss f }
 
@@ -98,6 +94,19 @@ good_method kernel t m h =
     let b = made_Behind h.spells.grammar.behind p.1 in
     let good : GoodMethod kernel raw = record { pattern = p.0; head = b.opening; words = b.words; statements = b.statements; tail = over_notes h.spells.grammar.over b.sound; primitive = b.primitive } in
     subst (GoodMethod kernel) (sym h.same) (good_normal kernel (names_of u.body.temporaries) raw good)
+
+-- and well formed
+pub well_formed_method : (kernel : Bool) (t : Text) (m : MethodOf Text) → SpellsMethod Second kernel t m → WellFormedMethod kernel m
+well_formed_method kernel t m h =
+    let g = good_method kernel t m h in
+    let f = subst (λ (m : MethodOf Text). IsSound m.arguments m.body.temporaries m.body.statements) (sym h.same) (sound_Method h.spanned h.spells.sound) in
+    record {
+      pattern = g.pattern;
+      head = g.head;
+      body = record { words = g.words; statements = g.statements; notes = g.tail; height = limit_Method Second kernel t m h; once = f.once; once_inside = f.once_inside; assigned = f.assigned };
+      primitive = g.primitive;
+      normal = normal_Method Second kernel t m h;
+    }
 
 -- a method by its parts
 abbrev method_of : Text → List Text → Notes → Option ℕ → List Text → StatementsOf Text → Notes → MethodOf Text
@@ -177,7 +186,7 @@ reads_primitive n le w i head a =
     record { opening = []; names = []; statements = NoStatements; tail = head; stop = stop; read = Primitively spelled; plain = λ s xs. refl; here = held_as v.held v.fresh.here }
 
 -- what stands behind a pattern
-reads_behind : (kernel : Bool) (p : Option ℕ) (ts : List Text) (ss : StatementsOf Text) (e : Notes) → FitsPrimitive kernel p ts ss → AllWords ts → GoodStatements ss → AllNotes e → (ts ≡ [] → leading_of ss e ≡ []) → (w : World) (i : Input) (head : Notes) → statements_height ss ≤ 200 → Here w 0 i head (joined_lines (primitive_lines p ++ ((temporary_lines 1 ts ++ statement_lines 1 ss) ++ note_lines 1 e)) ++ []) → BehindRead w kernel i head p ts ss e
+reads_behind : (kernel : Bool) (p : Option ℕ) (ts : List Text) (ss : StatementsOf Text) (e : Notes) → FitsPrimitive kernel p ts ss → AllWords ts → WellFormedStatements ss → AllNotes e → (ts ≡ [] → leading_of ss e ≡ []) → (w : World) (i : Input) (head : Notes) → statements_height ss ≤ 200 → Here w 0 i head (joined_lines (primitive_lines p ++ ((temporary_lines 1 ts ++ statement_lines 1 ss) ++ note_lines 1 e)) ++ []) → BehindRead w kernel i head p ts ss e
 reads_behind kernel None [] ss e fits words g notes f w i head le a = reads_plain ss e (can_read_statements ss g) notes (f refl) w kernel i head le a
 reads_behind kernel None (x ∷ ns) ss e fits words g notes f w i head le a =
     reads_barred x ns ss e words (can_read_statements ss g) notes w kernel i head le a
@@ -191,12 +200,11 @@ reads_behind kernel (Some n) ts ss e fits words g notes f w i head le a =
     (subst (λ x. BehindRead w true i head (Some n) [] x e) (sym fits.3)
     (subst (λ x. BehindRead w true i head (Some n) [] no_statements x) (sym last) r)))
 
--- the canonical text of a method spells it
-pub method_again : (kernel : Bool) (t : Text) (m : MethodOf Text) → SpellsMethod Second kernel t m → SpellsMethod Second kernel (canonical_method m) m
-method_again kernel t m h =
-    let g = good_method kernel t m h in
+-- the canonical text of a well-formed method spells it
+pub method_again : (kernel : Bool) (m : MethodOf Text) → WellFormedMethod kernel m → SpellsMethod Second kernel (canonical_method m) m
+method_again kernel m g =
     let b = begun (canonical_method m) in
-    let low : sequence_height m.body ≤ 200 = limit_Method Second kernel t m h in
+    let low : sequence_height m.body ≤ 200 = g.body.height in
     let pattern = pattern_text m.selector m.arguments in
     let notes = note_lines 1 m.head in
     let rest = (notes ++ primitive_lines m.primitive) ++ sequence_lines 1 m.body in
@@ -204,7 +212,7 @@ method_again kernel t m h =
     let x = reads_pattern m.selector m.arguments g.pattern b.world 0 (beginning b.world.tokens) [] (lined rest ++ []) (ends_lined rest [] refl) a in
     let c = text_as _ _ (ap (λ y. joined_lines y ++ []) (append_assoc notes (primitive_lines m.primitive) (sequence_lines 1 m.body))) (line_break rest [] (held_as x.held x.fresh.here)) in
     let d = reads_notes 1 m.head g.head [] (primitive_lines m.primitive ++ sequence_lines 1 m.body) [] c in
-    let r = reads_behind kernel m.primitive m.body.temporaries m.body.statements m.body.tail g.primitive g.words g.statements g.tail (normal_Method Second kernel t m h) b.world x.stop m.head low d in
+    let r = reads_behind kernel m.primitive m.body.temporaries m.body.statements m.body.tail g.primitive g.body.words g.body.statements g.body.notes g.normal b.world x.stop m.head low d in
     let f = finish r.here in
     let u : SpannedMethod = record { selector = m.selector; arguments = x.names; opening = r.opening; primitive = m.primitive; body = record { temporaries = r.names; statements = r.statements; tail = r.tail } } in
     let same : plain_method u ≡ m = ap (λ xs. normal (method_of m.selector xs r.opening m.primitive (names_of r.names) (plain_statements r.statements) r.tail)) x.plain ∙ r.plain m.selector m.arguments in
@@ -216,7 +224,7 @@ method_again kernel t m h =
         lexed = b.lexed f.clean;
         shallow = f.shallow;
         grammar = longest_IsMethod kernel b.world.tokens u grammar;
-        sound = sound_Method h.spanned u (sym h.same ∙ sym same) h.spells.sound;
+        sound = no_fault_Method u (subst (λ (m : MethodOf Text). WellFormedSequence m.arguments m.body) (sym same) g.body);
       };
       same = sym same;
     }

@@ -14,7 +14,7 @@ use Rattle.grammar_model.specs.Spanned.{SpannedTree, SpannedTrees, NoTrees, one_
 use Rattle.grammar_model.specs.Chain.{Chain, Waiting, Alone, Told, whole, sent, IsWhole}
 use Rattle.grammar_model.specs.Ahead.{Any}
 use Rattle.grammar_model.specs.Grammar.{Expression, Simple, Operand, Grouped, Unaries, OneUnary, NoUnaries, Binaries, OneBinary, NoBinaries, Keywords, NoKeywords, Argument, BinaryArgument, KeywordArgument, ArgumentOfKeyword, NoCascade}
-use Rattle.reread_law.proofs.Good.{IsValue, NoReturn}
+use Rattle.reread_law.specs.WellFormed.{IsValue, NoReturn}
 use Rattle.reread_law.proofs.Bytes.{ends}
 use Rattle.reread_law.proofs.Words.{open_word, close_word}
 use Rattle.reread_law.proofs.Steps.{World, Here, Fresh, step, held_as, text_as, counts_open, counts_close}

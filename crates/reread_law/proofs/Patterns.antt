@@ -4,7 +4,6 @@ use Rattle.std.specs.Prelude.{codes}
 use Rattle.std.proofs.lemmas.List.{append-nil}
 use Rattle.tree_model.specs.Tree.{Notes}
 use Rattle.text_model.specs.Pieces.{pieces_joined, pieces_in_turn}
-use Rattle.text_model.specs.Literals.{is_operator}
 use Rattle.text_model.specs.Expressions.{message_text}
 use Rattle.text_model.specs.Whole.{pattern_text}
 use Rattle.grammar_model.specs.Terminal.{Text}
@@ -12,32 +11,22 @@ use Rattle.grammar_model.specs.Input.{Input, from_of, next}
 use Rattle.grammar_model.specs.Spanned.{Declared, names_of}
 use Rattle.grammar_model.specs.Ahead.{Longest, Any}
 use Rattle.grammar_model.specs.Whole.{PatternParts, LastPatternPart, FurtherPatternPart, Pattern, UnaryPattern, BinaryPattern, KeywordPattern}
-use Rattle.reread_law.proofs.Good.{IsWord, IsKeywordText}
+use Rattle.reread_law.specs.WellFormed.{IsKeywordText}
+use Rattle.reread_law.specs.WholeTrees.{AreNamed, LastName, MoreNames, IsPattern, ByName, ByOperator, ByKeywords}
 use Rattle.reread_law.proofs.Sound.{Sound, sound_kind, sound_next}
 use Rattle.reread_law.proofs.Bytes.{ends, ends_all}
 use Rattle.reread_law.proofs.Steps.{World, Here, Fresh, blank_step, held_as, text_as}
 use Rattle.reread_law.proofs.ReadsLiterals.{step_name, step_keyword, step_operator}
 use Rattle.reread_law.proofs.Selectors.{word_colon, operator_colon, one_piece, word_some, operator_some, keyword_piece, keyword_alone, last_text, before_text}
 
--- keywords, each with the name of an argument
-pub data GoodRow : Text → List Text → Type 0 where
-  LastName : {k n : Text} → IsKeywordText k → IsWord n → GoodRow k (n ∷ [])
-  MoreNames : {k s n : Text} {ns : List Text} → IsKeywordText k → IsWord n → GoodRow s ns → GoodRow (k ++ s) (n ∷ ns)
-
--- a selector with the names of its arguments
-pub data GoodPattern : Text → List Text → Type 0 where
-  ByName : {s : Text} → IsWord s → GoodPattern s []
-  ByOperator : {s n : Text} → is_operator s ≡ true → IsWord n → GoodPattern s (n ∷ [])
-  ByKeywords : {s : Text} {ns : List Text} → GoodRow s ns → GoodPattern s ns
-
 -- what the grammar spells is good
-made_PatternParts : {i j : Input} {s : Text} {ds : List Declared} → PatternParts Longest i s ds j → Sound i → GoodRow s (names_of ds) × Sound j
+made_PatternParts : {i j : Input} {s : Text} {ds : List Declared} → PatternParts Longest i s ds j → Sound i → AreNamed s (names_of ds) × Sound j
 made_PatternParts (LastPatternPart e f g) s = (LastName (sound_kind s e) (sound_kind (sound_next s) f).0, sound_next (sound_next s))
 made_PatternParts (FurtherPatternPart e f r) s =
     let g = made_PatternParts r (sound_next (sound_next s)) in (MoreNames (sound_kind s e) (sound_kind (sound_next s) f).0 g.0, g.1)
 
 -- so is a pattern
-pub made_Pattern : {i j : Input} {s : Text} {ds : List Declared} → Pattern Longest i s ds j → Sound i → GoodPattern s (names_of ds) × Sound j
+pub made_Pattern : {i j : Input} {s : Text} {ds : List Declared} → Pattern Longest i s ds j → Sound i → IsPattern s (names_of ds) × Sound j
 made_Pattern (UnaryPattern e) s = (ByName (sound_kind s e).0, sound_next s)
 made_Pattern (BinaryPattern e f) s = (ByOperator (sound_kind s e).0 (sound_kind (sound_next s) f).0, sound_next (sound_next s))
 made_Pattern (KeywordPattern d) s = let g = made_PatternParts d s in (ByKeywords g.0, g.1)
@@ -51,7 +40,7 @@ before_pattern : (k s n : Text) (ns : List Text) → IsKeywordText k → pattern
 before_pattern k s n ns h = ap (λ ps. pieces_joined (codes " ") (pieces_in_turn ps (n ∷ ns))) (keyword_piece k s h)
 
 -- keywords in a message are those of a pattern behind a blank
-row_pattern : (s : Text) (ns : List Text) → GoodRow s ns → message_text s ns ≡ 32 ∷ pattern_text s ns
+row_pattern : (s : Text) (ns : List Text) → AreNamed s ns → message_text s ns ≡ 32 ∷ pattern_text s ns
 row_pattern s ns (LastName {n} h g) = last_text s n h ∙ ap (λ y. 32 ∷ y) (sym (last_pattern s n h))
 row_pattern s ns (MoreNames {k} {s = r} {n} {ns = ms} h g d) = before_text k r n ms h ∙ ap (λ y. 32 ∷ y) (sym (before_pattern k r n ms h))
 
@@ -65,7 +54,7 @@ record RowRead (w : World) (n : ℕ) (i : Input) (h : Notes) (s : Text) (ns : Li
   fresh : Fresh w n stop q
 
 -- keywords of a pattern
-reads_pattern_row : (s : Text) (ns : List Text) → GoodRow s ns → (w : World) (n : ℕ) (i : Input) (h : Notes) (q : Text) → ends q ≡ true → Here w n i h (pattern_text s ns ++ q) → RowRead w n i h s ns q
+reads_pattern_row : (s : Text) (ns : List Text) → AreNamed s ns → (w : World) (n : ℕ) (i : Input) (h : Notes) (q : Text) → ends q ≡ true → Here w n i h (pattern_text s ns ++ q) → RowRead w n i h s ns q
 reads_pattern_row s ns (LastName {n = x} g f) w n i h q e a =
     let b = text_as _ (s ++ 32 ∷ (x ++ q)) (ap (λ y. y ++ q) (last_pattern s x g) ∙ append_assoc s (32 ∷ x) q) a in
     let y = step_keyword s (32 ∷ (x ++ q)) g (λ f. omega arith) b in
@@ -90,7 +79,7 @@ pub record PatternRead (w : World) (n : ℕ) (i : Input) (h : Notes) (s : Text) 
   pub fresh : Fresh w n stop q
 
 -- a pattern
-pub reads_pattern : (s : Text) (ns : List Text) → GoodPattern s ns → (w : World) (n : ℕ) (i : Input) (h : Notes) (q : Text) → ends q ≡ true → Here w n i h (pattern_text s ns ++ q) → PatternRead w n i h s ns q
+pub reads_pattern : (s : Text) (ns : List Text) → IsPattern s ns → (w : World) (n : ℕ) (i : Input) (h : Notes) (q : Text) → ends q ≡ true → Here w n i h (pattern_text s ns ++ q) → PatternRead w n i h s ns q
 reads_pattern s ns (ByName g) w n i h q e a =
     let text : pattern_text s [] ≡ s = ap (λ ps. pieces_joined (codes " ") (pieces_in_turn ps [])) (one_piece s (word_some s g) (word_colon s g)) ∙ append-nil s in
     let z = step_name s q g (ends_all q e) (text_as _ (s ++ q) (ap (λ y. y ++ q) text) a) in

@@ -1,16 +1,19 @@
 -- The faults that stand in a tree depend on the tree without places alone.
-use Rattle.std.proofs.Common.{◌≡◌, Bool, true, false, ◌||◌, List, [], ◌∷◌, ◌++◌, map, Option, Some, None, is_some, refl, ap, sym, ◌∙◌}
+use Rattle.std.proofs.Common.{◌≡◌, ◌≤◌, Bool, true, false, ◌||◌, List, [], ◌∷◌, ◌++◌, map, Option, Some, None, is_some, arith, refl, ap, sym, ◌∙◌}
 use Rattle.std.specs.Prelude.{if◌then◌else◌, nat_lt, option_map}
 use Rattle.std.specs.List.{list_any}
 use Rattle.std.specs.Option.{option_or}
 use Rattle.std.specs.Str.{bytes_eq}
 use Rattle.std.proofs.lemmas.List.{map-append}
-use Rattle.tree_model.specs.Tree.{Notes, TreeOf, var, literal, send, cascade, assign, block, brace, return, TreesOf, no_trees, more_trees, MessagesOf, no_messages, more_messages, StatementsOf, no_statements, more_statements, SequenceOf, MethodOf}
+use Rattle.tree_model.specs.Tree.{Notes, StatementsOf, no_statements, more_statements, SequenceOf, MethodOf}
 use Rattle.tree_model.specs.Normal.{normal_by, without_leading_of}
-use Rattle.tree_model.specs.Measure.{height}
+use Rattle.tree_model.specs.Measure.{height, statements_height}
 use Rattle.grammar_model.specs.Terminal.{Text}
 use Rattle.grammar_model.specs.Words.{is_pseudo}
 use Rattle.grammar_model.specs.Spanned.{Declared, SpannedTree, Var, Literal, Send, Cascade, Assign, Block, Brace, Return, SpannedTrees, NoTrees, MoreTrees, SpannedMessages, NoMessages, MoreMessages, SpannedStatements, NoStatements, MoreStatements, SpannedSequence, SpannedMethod, names_of, plain_tree, plain_trees, plain_messages, plain_statements, plain_sequence, plain_method}
+use Rattle.std.proofs.lemmas.Bool.{or_parts, or_from, le-ltb}
+use Rattle.reread_law.specs.WholeTrees.{WellFormedSequence, WellFormedDoIt}
+use Rattle.reread_law.specs.Declarations.{repeats, has_duplicate, has_duplicate_trees, has_duplicate_messages, has_duplicate_statements, known_names, assigns_fixed, assigns_fixed_trees, assigns_fixed_messages, assigns_fixed_statements}
 use Rattle.grammar_model.specs.Checks.{DuplicateName, AssignsFixed, TooDeep, first_repeat, duplicate_in, duplicate_in_trees, duplicate_in_messages, duplicate_in_statements, Known, known_of, is_fixed, fixed_in, fixed_in_trees, fixed_in_messages, fixed_in_statements, first_tall, sequence_fault, doit_fault, method_fault}
 
 -- whether a choice of two has a value
@@ -28,16 +31,6 @@ some_if : {A : Type 0} (b : Bool) (x : A) (o : Option A) → is_some (if b then 
 some_if true x o = refl
 some_if false x o = refl
 
--- what has no value where another has none
-none_from : {A B : Type 0} (a : Option A) (b : Option B) → is_some a ≡ is_some b → a ≡ None → b ≡ None
-none_from a None e h = refl
-none_from a (Some y) e h = let s : is_some a ≡ false = ap is_some h in cc
-
--- whether a name is declared that was declared before
-abbrev repeats : List Text → List Text → Bool
-repeats seen [] = false
-repeats seen (n ∷ ns) = list_any (λ m. bytes_eq n m) seen || repeats (n ∷ seen) ns
-
 -- that is what the first such declaration says
 some_repeat : (seen : List Text) (ds : List Declared) → is_some (first_repeat seen ds) ≡ repeats seen (names_of ds)
 some_repeat seen [] = refl
@@ -47,34 +40,6 @@ some_repeat seen (d ∷ ds) =
 -- the names of two lists
 names-append : (ps ds : List Declared) → names_of (ps ++ ds) ≡ names_of ps ++ names_of ds
 names-append ps ds = map-append (λ (d : Declared). d.name) ps ds
-
--- whether a list in a tree declares a name twice
-abbrev mutual
-  -- in a tree
-  has_duplicate : TreeOf Text → Bool
-  has_duplicate (var n) = false
-  has_duplicate (literal l) = false
-  has_duplicate (send r s xs) = has_duplicate r || has_duplicate_trees xs
-  has_duplicate (cascade r ms) = has_duplicate r || has_duplicate_messages ms
-  has_duplicate (assign n t) = has_duplicate t
-  has_duplicate (block ps ds ss c) = repeats [] (ps ++ ds) || has_duplicate_statements ss
-  has_duplicate (brace ts) = has_duplicate_trees ts
-  has_duplicate (return t) = has_duplicate t
-
-  -- in trees
-  has_duplicate_trees : TreesOf Text → Bool
-  has_duplicate_trees no_trees = false
-  has_duplicate_trees (more_trees t ts) = has_duplicate t || has_duplicate_trees ts
-
-  -- in messages
-  has_duplicate_messages : MessagesOf Text → Bool
-  has_duplicate_messages no_messages = false
-  has_duplicate_messages (more_messages s xs ms) = has_duplicate_trees xs || has_duplicate_messages ms
-
-  -- in statements
-  has_duplicate_statements : StatementsOf Text → Bool
-  has_duplicate_statements no_statements = false
-  has_duplicate_statements (more_statements c t ss) = has_duplicate t || has_duplicate_statements ss
 
 -- two choices
 both_or : {A : Type 0} (a b : Option A) (x y : Bool) → is_some a ≡ x → is_some b ≡ y → is_some (option_or a b) ≡ (x || y)
@@ -108,10 +73,6 @@ mutual
   some_duplicate_statements NoStatements = refl
   some_duplicate_statements (MoreStatements c f t ss) = both_or _ _ _ _ (some_duplicate t) (some_duplicate_statements ss)
 
--- the known names of one list
-abbrev known_names : List Text → List Text → List Known
-known_names ps ds = map (λ (n : Text). record { name = n; fixed = true }) ps ++ map (λ (n : Text). record { name = n; fixed = false }) ds
-
 -- declared names of one kind
 known_map : (b : Bool) (ds : List Declared) → map {B = Known} (λ (d : Declared). record { name = d.name; fixed = b }) ds ≡ map {B = Known} (λ (n : Text). record { name = n; fixed = b }) (names_of ds)
 known_map b [] = refl
@@ -120,34 +81,6 @@ known_map b (d ∷ ds) = ap (λ (ks : List Known). record { name = d.name; fixed
 -- the known names of declarations
 known_of-names : (ps ds : List Declared) → known_of ps ds ≡ known_names (names_of ps) (names_of ds)
 known_of-names ps ds = λ i. known_map true ps i ++ known_map false ds i
-
--- whether a name is assigned that can not be
-abbrev mutual
-  -- in a tree
-  assigns_fixed : List Known → TreeOf Text → Bool
-  assigns_fixed ks (var n) = false
-  assigns_fixed ks (literal l) = false
-  assigns_fixed ks (send r s xs) = assigns_fixed ks r || assigns_fixed_trees ks xs
-  assigns_fixed ks (cascade r ms) = assigns_fixed ks r || assigns_fixed_messages ks ms
-  assigns_fixed ks (assign n t) = (is_pseudo n || is_fixed ks n) || assigns_fixed ks t
-  assigns_fixed ks (block ps ds ss c) = assigns_fixed_statements (known_names ps ds ++ ks) ss
-  assigns_fixed ks (brace ts) = assigns_fixed_trees ks ts
-  assigns_fixed ks (return t) = assigns_fixed ks t
-
-  -- in trees
-  assigns_fixed_trees : List Known → TreesOf Text → Bool
-  assigns_fixed_trees ks no_trees = false
-  assigns_fixed_trees ks (more_trees t ts) = assigns_fixed ks t || assigns_fixed_trees ks ts
-
-  -- in messages
-  assigns_fixed_messages : List Known → MessagesOf Text → Bool
-  assigns_fixed_messages ks no_messages = false
-  assigns_fixed_messages ks (more_messages s xs ms) = assigns_fixed_trees ks xs || assigns_fixed_messages ks ms
-
-  -- in statements
-  assigns_fixed_statements : List Known → StatementsOf Text → Bool
-  assigns_fixed_statements ks no_statements = false
-  assigns_fixed_statements ks (more_statements c t ss) = assigns_fixed ks t || assigns_fixed_statements ks ss
 
 mutual
   -- the first assignment to a name that can not be assigned is there where there is one
@@ -203,12 +136,6 @@ some_fault ps s =
     (some_map AssignsFixed _ ∙ some_fixed_statements (known_of ps s.temporaries) s.statements ∙ ap (λ (ls : List Known). assigns_fixed_statements ls (plain_statements s.statements)) (known_of-names ps s.temporaries))
     (some_map TooDeep _ ∙ some_tall s.statements))
 
--- do-its with one plain tree have a fault both or neither
-pub sound_DoIt : (s u : SpannedSequence) → plain_sequence s ≡ plain_sequence u → doit_fault s ≡ None → doit_fault u ≡ None
-sound_DoIt s u e h =
-    none_from (doit_fault s) (doit_fault u)
-    (some_fault [] s ∙ ap (λ (b : SequenceOf Text). is_faulty [] b.temporaries b.statements) e ∙ sym (some_fault [] u)) h
-
 -- whether a method has a fault
 abbrev is_faulty_method : MethodOf Text → Bool
 is_faulty_method m = is_faulty m.arguments m.body.temporaries m.body.statements
@@ -236,7 +163,48 @@ some_method_fault w =
     let m : MethodOf Text = record { selector = w.selector; arguments = names_of w.arguments; head = w.opening; primitive = w.primitive; body = plain_sequence w.body } in
     some_fault w.arguments w.body ∙ sym (faulty_normal (names_of w.body.temporaries) m refl)
 
--- methods with one plain tree have a fault both or neither
-pub sound_Method : (w u : SpannedMethod) → plain_method w ≡ plain_method u → method_fault w ≡ None → method_fault u ≡ None
-sound_Method w u e h =
-    none_from (method_fault w) (method_fault u) (some_method_fault w ∙ ap is_faulty_method e ∙ sym (some_method_fault u)) h
+-- no statement is too high in a sequence that is not
+none_tall : (ss : StatementsOf Text) → statements_height ss ≤ 200 → has_tall ss ≡ false
+none_tall no_statements le = refl
+none_tall (more_statements c t ss) le = or_from (nat_lt 200 (height t)) (has_tall ss) (le-ltb 200 (height t) (omega arith)) (none_tall ss (omega arith))
+
+-- what has no value where a test says so
+none_from : {A : Type 0} (o : Option A) (b : Bool) → is_some o ≡ b → b ≡ false → o ≡ None
+none_from None b e h = refl
+none_from (Some x) b e h = let s : true ≡ b = e in cc
+
+-- a sequence that a text spells declares no name twice and assigns none that can not be assigned
+pub record IsSound (ps ts : List Text) (ss : StatementsOf Text) : Type 0 where
+  pub once : repeats [] (ps ++ ts) ≡ false
+  pub once_inside : has_duplicate_statements ss ≡ false
+  pub assigned : assigns_fixed_statements (known_names ps ts) ss ≡ false
+
+-- which is so where it has no fault
+is_sound : (ps ts : List Text) (ss : StatementsOf Text) → is_faulty ps ts ss ≡ false → IsSound ps ts ss
+is_sound ps ts ss e =
+    let p = or_parts (repeats [] (ps ++ ts) || has_duplicate_statements ss) (assigns_fixed_statements (known_names ps ts) ss || has_tall ss) e in
+    let q = or_parts (repeats [] (ps ++ ts)) (has_duplicate_statements ss) p.0 in
+    record { once = q.0; once_inside = q.1; assigned = (or_parts (assigns_fixed_statements (known_names ps ts) ss) (has_tall ss) p.1).0 }
+
+-- and has none where it is no higher than 200
+no_faults : (ps : List Text) (s : SequenceOf Text) → WellFormedSequence ps s → is_faulty ps s.temporaries s.statements ≡ false
+no_faults ps s w =
+    or_from (repeats [] (ps ++ s.temporaries) || has_duplicate_statements s.statements) (assigns_fixed_statements (known_names ps s.temporaries) s.statements || has_tall s.statements)
+    (or_from (repeats [] (ps ++ s.temporaries)) (has_duplicate_statements s.statements) w.once w.once_inside)
+    (or_from (assigns_fixed_statements (known_names ps s.temporaries) s.statements) (has_tall s.statements) w.assigned (none_tall s.statements w.height))
+
+-- a do-it without a fault
+pub sound_DoIt : (u : SpannedSequence) → doit_fault u ≡ None → IsSound [] (plain_sequence u).temporaries (plain_sequence u).statements
+sound_DoIt u e = is_sound [] (names_of u.temporaries) (plain_statements u.statements) (sym (some_fault [] u) ∙ ap is_some e)
+
+-- a method without a fault
+pub sound_Method : (w : SpannedMethod) → method_fault w ≡ None → IsSound (plain_method w).arguments (plain_method w).body.temporaries (plain_method w).body.statements
+sound_Method w e = is_sound (plain_method w).arguments (plain_method w).body.temporaries (plain_method w).body.statements (sym (some_method_fault w) ∙ ap is_some e)
+
+-- a do-it whose plain tree is well formed has no fault
+pub no_fault_DoIt : (u : SpannedSequence) → WellFormedDoIt (plain_sequence u) → doit_fault u ≡ None
+no_fault_DoIt u w = none_from (doit_fault u) _ (some_fault [] u) (no_faults [] (plain_sequence u) w)
+
+-- so it is with a method
+pub no_fault_Method : (w : SpannedMethod) → WellFormedSequence (plain_method w).arguments (plain_method w).body → method_fault w ≡ None
+no_fault_Method w g = none_from (method_fault w) _ (some_method_fault w) (no_faults (plain_method w).arguments (plain_method w).body g)

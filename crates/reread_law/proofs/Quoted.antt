@@ -18,7 +18,7 @@ use Rattle.text_model.specs.Literals.{is_identifier, is_keyword_row, is_operator
 use Rattle.text_model.proofs.KeywordRows.{are_keywords, keywords_row}
 use Rattle.grammar_model.specs.Terminal.{Text, Constant}
 use Rattle.grammar_model.specs.Lexemes.{singled, unquoted}
-use Rattle.reread_law.proofs.Good.{IsWord, IsKeywordText}
+use Rattle.reread_law.specs.WellFormed.{IsWord, IsKeywordText}
 use Rattle.reread_law.proofs.Bytes.{At, behind, same_bytes, byte_at, first_at, range_at, Ends}
 use Rattle.reread_law.proofs.Words.{IsWordOf, name_at, keyword_at, binary_at}
 

@@ -16,7 +16,7 @@ use Rattle.grammar_model.specs.Input.{Input, kind_of, next}
 use Rattle.grammar_model.specs.Ahead.{Any, IsDigits}
 use Rattle.grammar_model.specs.Lexemes.{name_of, keyword_of, numeral_of}
 use Rattle.grammar_model.specs.Literals.{word_or_symbol, ByteElements, OneByte, NoBytes, LiteralAt, Unsigned, Negative, Fixed, Array, ByteArray, Element, LiteralElement, NameElement, Elements, OneElement, NoElements}
-use Rattle.reread_law.proofs.Good.{IsWord, IsKeywordText, Plain, Minus, GoodBytes, NoneLeft, OneMore, GoodLiteral, GoodLiterals, NoWord}
+use Rattle.reread_law.specs.WellFormed.{IsWord, IsKeywordText, Plain, Minus, AreBytes, NoneLeft, OneMore, WellFormedLiteral, WellFormedLiterals, NoWord}
 use Rattle.reread_law.proofs.Bytes.{ends, Ends, ends_all}
 use Rattle.reread_law.proofs.Words.{IsWordOf, name_word, keyword_word, operator_word, numeral_word, char_word, close_word, block_close_word, array_open_word, bytes_open_word}
 use Rattle.reread_law.proofs.Quoted.{string_word, symbol_word}
@@ -96,7 +96,7 @@ one_literal : {w : World} {n : ℕ} {i : Input} {h : Notes} {l : LiteralOf Text}
 one_literal {w} {n} {i} {h} {l} {s} d e f = record { stop = next i; literal = λ no. d; element = LiteralElement d; held = e; fresh = f }
 
 -- further numerals of a byte array
-reads_more_bytes : (ls : LiteralsOf Text) → GoodBytes ls → (w : World) (n : ℕ) (i : Input) (h : Notes) (s : Text) → ends s ≡ true → Here w n i h (blanked (literal_texts ls) ++ s) → BytesRead w n i h ls s
+reads_more_bytes : (ls : LiteralsOf Text) → AreBytes ls → (w : World) (n : ℕ) (i : Input) (h : Notes) (s : Text) → ends s ≡ true → Here w n i h (blanked (literal_texts ls) ++ s) → BytesRead w n i h ls s
 reads_more_bytes ls NoneLeft w n i h s e a = record { stop = i; elements = NoBytes tt; here = a }
 reads_more_bytes ls (OneMore {t} {ls = ks} u d g) w n i h s e a =
     let rest = blanked (literal_texts ks) in
@@ -106,7 +106,7 @@ reads_more_bytes ls (OneMore {t} {ls = ks} u d g) w n i h s e a =
     record { stop = y.stop; elements = OneByte z.kind (subst IsDigits (sym z.kind) (digits_kind t d)) y.elements; here = y.here }
 
 -- the numerals of a byte array
-reads_bytes : (ls : LiteralsOf Text) → GoodBytes ls → (w : World) (n : ℕ) (i : Input) (h : Notes) (s : Text) → ends s ≡ true → Here w n i h (pieces_joined (codes " ") (literal_texts ls) ++ s) → BytesRead w n i h ls s
+reads_bytes : (ls : LiteralsOf Text) → AreBytes ls → (w : World) (n : ℕ) (i : Input) (h : Notes) (s : Text) → ends s ≡ true → Here w n i h (pieces_joined (codes " ") (literal_texts ls) ++ s) → BytesRead w n i h ls s
 reads_bytes ls NoneLeft w n i h s e a = record { stop = i; elements = NoBytes tt; here = a }
 reads_bytes ls (OneMore {t} {ls = ks} u d g) w n i h s e a =
     let rest = blanked (literal_texts ks) in
@@ -121,7 +121,7 @@ word_element {i} n c h e = let d : Element Any i (word_or_symbol n) (next i) = N
 
 mutual
   -- a literal
-  pub reads_literal : (l : LiteralOf Text) → GoodLiteral l → (w : World) (n : ℕ) (i : Input) (h : Notes) (s : Text) → ends s ≡ true → n + literal_height l ≤ 400 → Here w n i h (literal_text l ++ s) → LiteralRead w n i h l s
+  pub reads_literal : (l : LiteralOf Text) → WellFormedLiteral l → (w : World) (n : ℕ) (i : Input) (h : Notes) (s : Text) → ends s ≡ true → n + literal_height l ≤ 400 → Here w n i h (literal_text l ++ s) → LiteralRead w n i h l s
   reads_literal (number t) (Plain u) w n i h s e le a =
       let z = step n t s (numeral_word t s u (ends_all s e)) (λ c f e ts. refl) a in
       one_literal (Unsigned z.kind) z.held z.fresh
@@ -156,7 +156,7 @@ mutual
       record { stop = next y.stop; literal = λ no. d; element = LiteralElement d; held = z.held; fresh = z.fresh }
 
   -- the elements of an array
-  reads_elements : (ls : LiteralsOf Text) → GoodLiterals ls → (w : World) (n : ℕ) (i : Input) (h : Notes) (s : Text) → ends s ≡ true → n + literals_height ls ≤ 400 → Here w n i h (pieces_joined (codes " ") (literal_texts ls) ++ s) → ElementsRead w n i h ls s
+  reads_elements : (ls : LiteralsOf Text) → WellFormedLiterals ls → (w : World) (n : ℕ) (i : Input) (h : Notes) (s : Text) → ends s ≡ true → n + literals_height ls ≤ 400 → Here w n i h (pieces_joined (codes " ") (literal_texts ls) ++ s) → ElementsRead w n i h ls s
   reads_elements no_literals g w n i h s e le a = record { stop = i; elements = NoElements tt; here = a }
   reads_elements (more_literals l ls) g w n i h s e le a =
       let rest = blanked (literal_texts ls) in
@@ -165,7 +165,7 @@ mutual
       record { stop = y.stop; elements = OneElement {m = x.stop} {j = y.stop} x.element y.elements; here = y.here }
 
   -- further elements, each behind a blank
-  reads_more : (ls : LiteralsOf Text) → GoodLiterals ls → (w : World) (n : ℕ) (i : Input) (h : Notes) (s : Text) → ends s ≡ true → n + literals_height ls ≤ 400 → Here w n i h (blanked (literal_texts ls) ++ s) → ElementsRead w n i h ls s
+  reads_more : (ls : LiteralsOf Text) → WellFormedLiterals ls → (w : World) (n : ℕ) (i : Input) (h : Notes) (s : Text) → ends s ≡ true → n + literals_height ls ≤ 400 → Here w n i h (blanked (literal_texts ls) ++ s) → ElementsRead w n i h ls s
   reads_more no_literals g w n i h s e le a = record { stop = i; elements = NoElements tt; here = a }
   reads_more (more_literals l ls) g w n i h s e le a =
       let rest = blanked (literal_texts ls) in

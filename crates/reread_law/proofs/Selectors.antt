@@ -13,7 +13,7 @@ use Rattle.text_model.specs.Literals.{is_operator}
 use Rattle.text_model.specs.Expressions.{message_text}
 use Rattle.text_model.proofs.PieceLemmas.{keywords_of-colon, keywords_of-plain}
 use Rattle.grammar_model.specs.Terminal.{Text}
-use Rattle.reread_law.proofs.Good.{IsWord, IsKeywordText, GoodParts, LastOne, OneBefore}
+use Rattle.reread_law.specs.WellFormed.{IsWord, IsKeywordText, AreParts, LastOne, OneBefore}
 
 -- a byte of a class that the colon is not in
 not_colon : (p : ℕ → Bool) (b : ℕ) → p b ≡ true → p 58 ≡ false → is_colon b ≡ false
@@ -49,7 +49,7 @@ keyword_colon : (k : Text) → IsKeywordText k → has_colon k ≡ true
 keyword_colon k h = ap has_colon h.is ∙ list_any-append is_colon h.name (58 ∷ []) ∙ or_right (has_colon h.name) true refl
 
 -- so have keywords joined
-pub parts_colon : {xs : TreesOf Text} (s : Text) → GoodParts s xs → has_colon s ≡ true
+pub parts_colon : {xs : TreesOf Text} (s : Text) → AreParts s xs → has_colon s ≡ true
 parts_colon s (LastOne h) = keyword_colon s h
 parts_colon s (OneBefore {k} {s = r} h g) = list_any-append is_colon k r ∙ or_left (has_colon k) (has_colon r) (keyword_colon k h)
 

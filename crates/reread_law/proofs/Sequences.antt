@@ -11,7 +11,7 @@ use Rattle.grammar_model.specs.Input.{Input, from_of, next, clear}
 use Rattle.grammar_model.specs.Spanned.{Declared, Return, SpannedStatements, NoStatements, MoreStatements, names_of, plain_statements}
 use Rattle.grammar_model.specs.Ahead.{Any}
 use Rattle.grammar_model.specs.Grammar.{Names, OneName, NoNames, Temporaries, Declares, DeclaresNone, Sequence, Sequenced, Statements, NoMore, Returned, OneStatement, Ended, Unended, UnendedReturn}
-use Rattle.reread_law.proofs.Good.{AllNotes, AllWords, IsValue, IsStatement}
+use Rattle.reread_law.specs.WellFormed.{AllNotes, AllWords, IsValue, IsStatement}
 use Rattle.reread_law.proofs.Bytes.{ends, ends_all}
 use Rattle.reread_law.proofs.Words.{bar_word, period_word}
 use Rattle.reread_law.proofs.Steps.{World, Here, step, blank_step, note_step, held_as, text_as, fresh_clear}

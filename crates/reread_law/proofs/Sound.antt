@@ -21,7 +21,7 @@ use Rattle.text_model.specs.Literals.{is_identifier, is_operator}
 use Rattle.grammar_model.specs.Terminal.{Text, NameKind, Ordinary, Super, KeywordKind, BinaryKind, Common, Sign, Less, Greater, Bar, NumeralKind, Terminal, Name, Keyword, Binary, Numeral, Constant, Opens, Closes, Assignment, Colon, Semicolon, Period, Caret}
 use Rattle.grammar_model.specs.Input.{Lexeme, lex, Input, beginning, kind_of, next, clear, back, first_kind, first_notes, others}
 use Rattle.grammar_model.specs.Lexemes.{name_of, keyword_of, binary_of, numeral_of, terminal_of, begins_numeral, lexemes_of, IsLexed}
-use Rattle.reread_law.proofs.Good.{IsWord, IsKeywordText, IsNote, IsUnsigned, AllNotes}
+use Rattle.reread_law.specs.WellFormed.{IsWord, IsKeywordText, IsNote, IsUnsigned, AllNotes}
 use Rattle.reread_law.proofs.Copies.{IsCopy, EndsNumeral, numeral_copy, comment_copy}
 
 -- what the grammar sees of a token

@@ -16,10 +16,11 @@ use Rattle.grammar_model.specs.Whole.{IsOver, IsDoIt}
 use Rattle.grammar_model.specs.Spelling.{SpellsDoIt}
 use Rattle.grammar_model.proofs.Limits.{limit_DoIt}
 use Rattle.grammar_model.proofs.Rows.{longest_IsDoIt}
-use Rattle.reread_law.proofs.Good.{AllNotes, AllWords, GoodStatements}
+use Rattle.reread_law.specs.WellFormed.{AllNotes}
+use Rattle.reread_law.specs.WholeTrees.{WellFormedDoIt}
 use Rattle.reread_law.proofs.Sound.{GoodLexemes, Sound, notes_append, sound_lexed}
 use Rattle.reread_law.proofs.Made.{made_Sequence}
-use Rattle.reread_law.proofs.PlainFaults.{sound_DoIt}
+use Rattle.reread_law.proofs.PlainFaults.{sound_DoIt, no_fault_DoIt}
 use Rattle.reread_law.proofs.Steps.{World, Here, finish, text_as}
 use Rattle.reread_law.proofs.Sequences.{left_after, first_none, left_none, reads_sequence}
 use Rattle.reread_law.proofs.Trees.{can_read_statements}
@@ -49,26 +50,21 @@ begun t =
       lexed = λ clean. record { pieces = l.0; read = subst (HasTokens Second t 0 l.0) clean l.2; same = refl };
     }
 
--- a sequence of which some text is a do-it
-record GoodSequence (s : SequenceOf Text) : Type 0 where
-  words : AllWords s.temporaries
-  statements : GoodStatements s.statements
-  notes : AllNotes s.tail
-
--- what a text spells is good
-good_doit : (t : Text) (s : SequenceOf Text) → SpellsDoIt Second t s → GoodSequence s
-good_doit t s h =
+-- what a text spells is well formed
+pub well_formed_doit : (t : Text) (s : SequenceOf Text) → SpellsDoIt Second t s → WellFormedDoIt s
+well_formed_doit t s h =
     let u = h.spanned in
     let g = made_Sequence h.spells.grammar.sequence (sound_lexed Second t h.spells.tokens h.spells.lexed) in
-    let good : GoodSequence (plain_sequence u) = record { words = g.0; statements = g.1; notes = over_notes h.spells.grammar.over g.2 } in
-    subst GoodSequence (sym h.same) good
+    let f = sound_DoIt u h.spells.sound in
+    let low : sequence_height (plain_sequence u) ≤ 200 = subst (λ (s : SequenceOf Text). sequence_height s ≤ 200) h.same (limit_DoIt Second t s h) in
+    let good : WellFormedDoIt (plain_sequence u) = record { words = g.0; statements = g.1; notes = over_notes h.spells.grammar.over g.2; height = low; once = f.once; once_inside = f.once_inside; assigned = f.assigned } in
+    subst WellFormedDoIt (sym h.same) good
 
--- the canonical text of a do-it spells it
-pub doit_again : (t : Text) (s : SequenceOf Text) → SpellsDoIt Second t s → SpellsDoIt Second (canonical_doit s) s
-doit_again t s h =
-    let g = good_doit t s h in
+-- the canonical text of a well-formed do-it spells it
+pub doit_again : (s : SequenceOf Text) → WellFormedDoIt s → SpellsDoIt Second (canonical_doit s) s
+doit_again s g =
     let b = begun (canonical_doit s) in
-    let low : sequence_height s ≤ 200 = limit_DoIt Second t s h in
+    let low : sequence_height s ≤ 200 = g.height in
     let a = text_as (canonical_doit s) (canonical_doit s ++ []) (sym (append-nil (canonical_doit s))) b.here in
     let r = reads_sequence s.temporaries s.statements s.tail g.words (can_read_statements s.statements g.statements) g.notes b.world 0 0 (beginning b.world.tokens) [] [] refl (omega arith) a in
     let f = finish r.here in
@@ -82,7 +78,7 @@ doit_again t s h =
         lexed = b.lexed f.clean;
         shallow = f.shallow;
         grammar = longest_IsDoIt b.world.tokens u grammar;
-        sound = sound_DoIt h.spanned u (sym h.same ∙ sym same) h.spells.sound;
+        sound = no_fault_DoIt u (subst WellFormedDoIt (sym same) g);
       };
       same = sym same;
     }

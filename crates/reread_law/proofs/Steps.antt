@@ -20,7 +20,7 @@ use Rattle.grammar_model.specs.Input.{Lexeme, lex, Input, kind_of, next, clear, 
 use Rattle.grammar_model.specs.Lexemes.{terminal_of, is_numeral, begins_numeral, lexemes_of, numeral_of}
 use Rattle.grammar_model.specs.Whole.{IsOver}
 use Rattle.grammar_model.specs.Checks.{first_deep}
-use Rattle.reread_law.proofs.Good.{IsUnsigned, IsNote}
+use Rattle.reread_law.specs.WellFormed.{IsUnsigned, IsNote}
 use Rattle.reread_law.proofs.Bytes.{At, behind, first_at, length_at, range_at, Ends}
 use Rattle.reread_law.proofs.Words.{IsWordOf, minus_at, numeral_word, note_at, note_no_blank}
 

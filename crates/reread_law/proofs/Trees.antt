@@ -10,7 +10,7 @@ use Rattle.grammar_model.specs.Spanned.{Var, Literal}
 use Rattle.grammar_model.specs.Chain.{Waiting, Alone}
 use Rattle.grammar_model.specs.Lexemes.{name_of}
 use Rattle.grammar_model.specs.Grammar.{Variable, SuperName, LiteralOperand, NoUnaries}
-use Rattle.reread_law.proofs.Good.{IsWord, GoodLiteral, NoWord, Good, GoodTrees, GoodMessages, GoodStatements}
+use Rattle.reread_law.specs.WellFormed.{IsWord, WellFormedLiteral, NoWord, WellFormed, WellFormedTrees, WellFormedMessages, WellFormedStatements}
 use Rattle.reread_law.proofs.Bytes.{ends_all}
 use Rattle.reread_law.proofs.Words.{name_word}
 use Rattle.reread_law.proofs.Steps.{step}
@@ -37,7 +37,7 @@ reads_var x g w n k i h s e le a = go (bytes_eq x (codes "super")) refl
         record { first = Alone tree; middle = next i; last = Alone tree; stop = next i; operand = Variable z.kind; unaries = NoUnaries tt; plain = refl; value = λ v. tt; held = z.held; fresh = z.fresh }
 
 -- a literal outside arrays
-reads_constant : (l : LiteralOf Text) → GoodLiteral l → NoWord l → Reads UnaryRead (literal l)
+reads_constant : (l : LiteralOf Text) → WellFormedLiteral l → NoWord l → Reads UnaryRead (literal l)
 reads_constant l g plain w n k i h s e le a =
     let z = reads_literal l g w n i h s e le a in
     let tree = Literal (from_of i) z.stop.last l in
@@ -45,7 +45,7 @@ reads_constant l g plain w n k i h s e le a =
 
 mutual
   -- a tree
-  pub can_read : (t : TreeOf Text) → Good t → CanRead t
+  pub can_read : (t : TreeOf Text) → WellFormed t → CanRead t
   can_read (var x) g = can_unary (var x) (λ x. x) (reads_var x g)
   can_read (literal l) g = can_unary (literal l) (λ x. x) (reads_constant l g.0 g.1)
   can_read (send r s xs) g = can_send r s xs (can_read r g.0) g.1 g.2 (can_read_all xs g.3)
@@ -56,16 +56,16 @@ mutual
   can_read (return t) g = can_return t (can_read t g.0) g.1
 
   -- trees
-  can_read_all : (ts : TreesOf Text) → GoodTrees ts → CanReadAll ts
+  can_read_all : (ts : TreesOf Text) → WellFormedTrees ts → CanReadAll ts
   can_read_all no_trees g = tt
   can_read_all (more_trees t ts) g = (can_read t g.0, g.1, can_read_all ts g.2)
 
   -- messages
-  can_read_messages : (ms : MessagesOf Text) → GoodMessages ms → CanReadMessages ms
+  can_read_messages : (ms : MessagesOf Text) → WellFormedMessages ms → CanReadMessages ms
   can_read_messages no_messages g = tt
   can_read_messages (more_messages s xs ms) g = (g.0, can_read_all xs g.1, can_read_messages ms g.2)
 
   -- statements
-  pub can_read_statements : (ss : StatementsOf Text) → GoodStatements ss → CanReadStatements ss
+  pub can_read_statements : (ss : StatementsOf Text) → WellFormedStatements ss → CanReadStatements ss
   can_read_statements no_statements g = tt
   can_read_statements (more_statements c t ss) g = (g.0, can_read t g.1, g.2, can_read_statements ss g.3)

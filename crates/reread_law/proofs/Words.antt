@@ -17,7 +17,7 @@ use Rattle.text_model.specs.Literals.{is_operator}
 use Rattle.grammar_model.specs.Terminal.{Text, BinaryKind, Common, Sign, Less, Greater, Bar, Terminal, Numeral, Constant}
 use Rattle.grammar_model.specs.Terminal as grammar
 use Rattle.grammar_model.specs.Lexemes.{name_of, keyword_of, binary_of, numeral_of, terminal_of}
-use Rattle.reread_law.proofs.Good.{IsWord, IsKeywordText, IsNote, IsUnsigned}
+use Rattle.reread_law.specs.WellFormed.{IsWord, IsKeywordText, IsNote, IsUnsigned}
 use Rattle.reread_law.proofs.Copies.{EndsNumeral, numeral_copy, comment_copy}
 use Rattle.reread_law.proofs.Bytes.{At, behind, same_bytes, byte_at, first_at, length_at, run_at, all_at, first_behind, copy_at, Ends, no_blank, ends_numeral}
 

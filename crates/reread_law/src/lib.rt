@@ -6,4 +6,4 @@
 
 mod laws;
 
-pub use laws::{spells_the_tree_again, tells_trees_apart};
+pub use laws::{spells_the_tree_again, tells_trees_apart, tells_which_trees_have_a_text};

@@ -1,6 +1,5 @@
--- Trees that some text spells, as far as their canonical texts rest on it.
-use Rattle.std.proofs.Common.{◌≡◌, true, false, List, [], ◌∷◌, ◌++◌, length}
-use Rattle.std.specs.Prelude.{codes}
+-- Trees that are well formed: what may stand as a name, a selector, a literal or a comment, and where super and a return may stand.
+use Rattle.std.specs.Prelude.{◌≡◌, true, false, List, [], ◌∷◌, ◌++◌, length, codes}
 use Rattle.std.specs.List.{list_all}
 use Rattle.std.specs.Str.{bytes_eq}
 use Rattle.token_model.specs.Bytes.{is_digit}
@@ -29,9 +28,9 @@ abbrev pub IsUnsigned : Text → Type 0
 IsUnsigned t = IsNumeral t 0 (length t)
 
 -- a numeral, with a sign or none
-pub data GoodNumber : Text → Type 0 where
-  Plain : {t : Text} → IsUnsigned t → GoodNumber t
-  Minus : {t : Text} → IsUnsigned t → GoodNumber (45 ∷ t)
+pub data IsNumber : Text → Type 0 where
+  Plain : {t : Text} → IsUnsigned t → IsNumber t
+  Minus : {t : Text} → IsUnsigned t → IsNumber (45 ∷ t)
 
 -- comments
 abbrev pub AllNotes : Notes → Type 0
@@ -44,26 +43,26 @@ AllWords [] = Unit {0}
 AllWords (n ∷ ns) = IsWord n × AllWords ns
 
 -- what stands in a byte array: numerals of digits alone
-pub data GoodBytes : LiteralsOf Text → Type 0 where
-  NoneLeft : GoodBytes no_literals
-  OneMore : {t : Text} {ls : LiteralsOf Text} → IsUnsigned t → list_all is_digit t ≡ true → GoodBytes ls → GoodBytes (more_literals (number t) ls)
+pub data AreBytes : LiteralsOf Text → Type 0 where
+  NoneLeft : AreBytes no_literals
+  OneMore : {t : Text} {ls : LiteralsOf Text} → IsUnsigned t → list_all is_digit t ≡ true → AreBytes ls → AreBytes (more_literals (number t) ls)
 
 -- a literal, or nil, true or false in an array
 abbrev mutual
   -- a literal
-  pub GoodLiteral : LiteralOf Text → Type 0
-  GoodLiteral (number t) = GoodNumber t
-  GoodLiteral (str t) = Unit {0}
-  GoodLiteral (symbol t) = Unit {0}
-  GoodLiteral (char b) = Unit {0}
-  GoodLiteral (array ls) = GoodLiterals ls
-  GoodLiteral (bytes ls) = GoodBytes ls
-  GoodLiteral (word n) = IsWord n × (is_literal_word n ≡ true)
+  pub WellFormedLiteral : LiteralOf Text → Type 0
+  WellFormedLiteral (number t) = IsNumber t
+  WellFormedLiteral (str t) = Unit {0}
+  WellFormedLiteral (symbol t) = Unit {0}
+  WellFormedLiteral (char b) = Unit {0}
+  WellFormedLiteral (array ls) = WellFormedLiterals ls
+  WellFormedLiteral (bytes ls) = AreBytes ls
+  WellFormedLiteral (word n) = IsWord n × (is_literal_word n ≡ true)
 
   -- literals
-  pub GoodLiterals : LiteralsOf Text → Type 0
-  GoodLiterals no_literals = Unit {0}
-  GoodLiterals (more_literals l ls) = GoodLiteral l × GoodLiterals ls
+  pub WellFormedLiterals : LiteralsOf Text → Type 0
+  WellFormedLiterals no_literals = Unit {0}
+  WellFormedLiterals (more_literals l ls) = WellFormedLiteral l × WellFormedLiterals ls
 
 -- a literal outside arrays
 abbrev pub NoWord : LiteralOf Text → Type 0
@@ -71,15 +70,15 @@ NoWord (word n) = ⊥
 NoWord l = Unit {0}
 
 -- keywords with their arguments
-pub data GoodParts : Text → TreesOf Text → Type 0 where
-  LastOne : {k : Text} {x : TreeOf Text} → IsKeywordText k → GoodParts k (more_trees x no_trees)
-  OneBefore : {k s : Text} {x : TreeOf Text} {xs : TreesOf Text} → IsKeywordText k → GoodParts s xs → GoodParts (k ++ s) (more_trees x xs)
+pub data AreParts : Text → TreesOf Text → Type 0 where
+  LastOne : {k : Text} {x : TreeOf Text} → IsKeywordText k → AreParts k (more_trees x no_trees)
+  OneBefore : {k s : Text} {x : TreeOf Text} {xs : TreesOf Text} → IsKeywordText k → AreParts s xs → AreParts (k ++ s) (more_trees x xs)
 
 -- a selector that takes so many arguments
 pub data FitsArguments : Text → TreesOf Text → Type 0 where
   FitsNone : {s : Text} → IsWord s → FitsArguments s no_trees
   FitsOne : {s : Text} {x : TreeOf Text} → is_operator s ≡ true → FitsArguments s (more_trees x no_trees)
-  FitsParts : {s : Text} {xs : TreesOf Text} → GoodParts s xs → FitsArguments s xs
+  FitsParts : {s : Text} {xs : TreesOf Text} → AreParts s xs → FitsArguments s xs
 
 -- an expression that has a value by itself: neither super nor a return
 abbrev pub IsValue : TreeOf Text → Type 0
@@ -104,30 +103,30 @@ AreTwo no_messages = ⊥
 AreTwo (more_messages s xs no_messages) = ⊥
 AreTwo (more_messages s xs (more_messages t ys ms)) = Unit {0}
 
--- a tree that some text spells
+-- a tree that is well formed
 abbrev mutual
   -- a tree
-  pub Good : TreeOf Text → Type 0
-  Good (var n) = IsWord n
-  Good (literal l) = GoodLiteral l × NoWord l
-  Good (send r s xs) = Good r × NoReturn r × FitsArguments s xs × GoodTrees xs
-  Good (cascade r ms) = Good r × IsValue r × AreTwo ms × GoodMessages ms
-  Good (assign n t) = IsWord n × Good t × IsValue t
-  Good (block ps ds ss c) = AllWords ps × AllWords ds × GoodStatements ss × AllNotes c
-  Good (brace ts) = GoodTrees ts
-  Good (return t) = Good t × IsValue t
+  pub WellFormed : TreeOf Text → Type 0
+  WellFormed (var n) = IsWord n
+  WellFormed (literal l) = WellFormedLiteral l × NoWord l
+  WellFormed (send r s xs) = WellFormed r × NoReturn r × FitsArguments s xs × WellFormedTrees xs
+  WellFormed (cascade r ms) = WellFormed r × IsValue r × AreTwo ms × WellFormedMessages ms
+  WellFormed (assign n t) = IsWord n × WellFormed t × IsValue t
+  WellFormed (block ps ds ss c) = AllWords ps × AllWords ds × WellFormedStatements ss × AllNotes c
+  WellFormed (brace ts) = WellFormedTrees ts
+  WellFormed (return t) = WellFormed t × IsValue t
 
   -- arguments, or the items of a brace array
-  pub GoodTrees : TreesOf Text → Type 0
-  GoodTrees no_trees = Unit {0}
-  GoodTrees (more_trees t ts) = Good t × IsValue t × GoodTrees ts
+  pub WellFormedTrees : TreesOf Text → Type 0
+  WellFormedTrees no_trees = Unit {0}
+  WellFormedTrees (more_trees t ts) = WellFormed t × IsValue t × WellFormedTrees ts
 
   -- messages of a cascade
-  pub GoodMessages : MessagesOf Text → Type 0
-  GoodMessages no_messages = Unit {0}
-  GoodMessages (more_messages s xs ms) = FitsArguments s xs × GoodTrees xs × GoodMessages ms
+  pub WellFormedMessages : MessagesOf Text → Type 0
+  WellFormedMessages no_messages = Unit {0}
+  WellFormedMessages (more_messages s xs ms) = FitsArguments s xs × WellFormedTrees xs × WellFormedMessages ms
 
   -- statements
-  pub GoodStatements : StatementsOf Text → Type 0
-  GoodStatements no_statements = Unit {0}
-  GoodStatements (more_statements c t ss) = AllNotes c × Good t × IsStatement t ss × GoodStatements ss
+  pub WellFormedStatements : StatementsOf Text → Type 0
+  WellFormedStatements no_statements = Unit {0}
+  WellFormedStatements (more_statements c t ss) = AllNotes c × WellFormed t × IsStatement t ss × WellFormedStatements ss
