@@ -1,0 +1,11 @@
+//! The faults of names and heights of a reading, judged on its events before any tree is built. Nothing recurs, and the
+//! time is linear in the events.
+#![tactic(auto)]
+
+mod assignments;
+mod check;
+mod duplicates;
+mod heights;
+mod scopes;
+
+pub use check::check_tree;
