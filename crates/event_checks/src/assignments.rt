@@ -1,11 +1,9 @@
 // Assignments to names that cannot be assigned.
-ghost use Rattle.std.specs.Prelude.{◌≡◌, [], ◌∷◌, ◌++◌, List, Bool, Option, IfOk, codes};
-ghost use Rattle.std.specs.Str.{bytes_eq};
+ghost use Rattle.std.specs.Prelude.{◌≡◌, List, Option, IfOk};
 ghost use Rattle.grammar_model.specs.Words.{is_literal_word, is_pseudo};
-ghost use Rattle.grammar_model.specs.Checks.{Known, known_of, fixed_in_statements};
+ghost use Rattle.grammar_model.specs.Checks.{known_of, fixed_in_statements};
 ghost use Rattle.grammar_model.specs.Spanned.{Declared, SpannedStatements};
 ghost use Rattle.parse_events.specs.Found.{declarations, statements_events};
-ghost use Rattle.event_checks.specs.Lists.{declared};
 ghost use Rattle.event_checks.specs.Scopes.{Scoped, IsScopes, assigned_at, behind, first_fixed_in};
 
 use crate::scopes::Scopes;

@@ -11,13 +11,18 @@ use parse_events::{Declarations, SequenceEvents};
 use st_faults::ParseFault;
 use std::alloc::Global;
 
-/// Judges the names and heights of a do-it, or of a method with these arguments behind its pattern, on what was found
-/// in it. It is refused with the first of these faults, each at the first place in the order of the text:
-/// `DuplicateName`, where a list of parameters and temporaries declares a name twice, as the arguments and the outermost
-/// temporaries may; `AssignsFixed`, where a pseudo-variable is assigned, or a name whose innermost declaration is an
-/// argument or a parameter; `TooDeep`, where an outermost statement has more than 200 levels of nodes. `Memory` comes at
-/// any time. What it says of events that no tree has is not told. Its time and the memory that it takes from `alloc` are
-/// linear in the events and the bytes of their names.
+/// Judges the names and heights of a do-it, or of a method with these arguments, on what was found in its text. It is
+/// refused with the first of these faults that it has, each at its first place in the order of the text, in bytes from
+/// the text's start.
+///
+/// `DuplicateName`: a name that its list declared before. The arguments and the outermost temporaries are one list, and
+/// so are the parameters and temporaries of each block. `AssignsFixed`: the variable of an assignment, where it is a
+/// pseudo-variable, or where its innermost declaration is an argument or a parameter (Goldberg and Robson 1983).
+/// `TooDeep`: the first token of an outermost statement that has more than 200 levels of nodes. `Memory`: want of
+/// memory, at any time.
+///
+/// Of events that no tree has it tells nothing. Nothing recurs, and the time and the memory that it takes from `alloc`
+/// are linear in the events and in the bytes of the names.
 pub fn check_tree(
     alloc: Global,
     arguments: &Declarations,

@@ -1,9 +1,9 @@
 // Outermost statements that are too high.
-ghost use Rattle.std.specs.Prelude.{◌≡◌, ℕ, ◌+◌, ◌-◌, ◌≤◌, [], ◌∷◌, ◌++◌, List, Option, IfOk, OnOk, length, drop, take, min};
+ghost use Rattle.std.specs.Prelude.{◌≡◌, ◌+◌, ◌-◌, ◌≤◌, [], ◌∷◌, ◌++◌, Option, IfOk, OnOk, length, take};
 ghost use Rattle.grammar_model.specs.Checks.{first_tall};
 ghost use Rattle.grammar_model.specs.Spanned.{SpannedStatements};
 ghost use Rattle.parse_events.specs.Found.{statements_events};
-ghost use Rattle.event_checks.specs.Heights.{cut, greatest, raised, heights_behind, open_behind, tall_at, first_tall_in};
+ghost use Rattle.event_checks.specs.Heights.{greatest, raised, heights_behind, open_behind, tall_at, first_tall_in};
 
 use parse_events::Event;
 use rb_base::Memory;
