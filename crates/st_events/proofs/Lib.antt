@@ -1,0 +1,5 @@
+pub mod Recasting
+pub mod Running
+pub mod LiteralEvents
+pub mod Ends
+pub mod ExpressionEvents
