@@ -3,3 +3,5 @@ pub mod Running
 pub mod LiteralEvents
 pub mod Ends
 pub mod ExpressionEvents
+pub mod WholeEvents
+pub mod Splitting

@@ -1,7 +1,10 @@
-//! The events of a text of the grammar of Smalltalk-80.
+//! The events of a text of the grammar of Smalltalk-80: what it spells, in the order in which its tree is built. A text
+//! is read in one pass that never calls itself: what may come next stands on a stack, and what was found comes out in a
+//! flat list.
 #![tactic(auto)]
 
 mod blocks;
+mod events;
 mod expressions;
 mod heads;
 mod literals;
@@ -14,3 +17,6 @@ mod sequences;
 mod takes;
 mod texts;
 mod token;
+mod tokens;
+
+pub use events::{doit_events, method_events};

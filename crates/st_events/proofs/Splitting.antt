@@ -1,0 +1,63 @@
+-- The tokens from a place on begin with the one that was read there.
+use Rattle.std.proofs.Common.{◌≡◌, ◌≢◌, ℕ, ◌<◌, ◌⊎◌, inl, inr, Bool, List, [], ◌∷◌, ◌++◌, Some, None, refl, sym, ◌∙◌, ap, subst, arith}
+use Rattle.std.specs.Prelude.{Option, slice_range, slice_index}
+use Rattle.std.specs.Option.{option_map_or}
+use Rattle.token_model.specs.Bytes.{is_digit}
+use Rattle.token_model.specs.TokenLists.{Piece, IsNext, HasTokens, Ended, Stopped, Further}
+use Rattle.token_model.specs.declared.kind.Dialect.TheVariants.{Second}
+use Rattle.token_model.specs.declared.kind.TokenKind.{TokenKind}
+use Rattle.token_model.specs.declared.kind.TokenKind.TheVariants.{Comment, End}
+use Rattle.token_model.specs.declared.fault.LexFault.{LexFault}
+use Rattle.token_model.proofs.Lists.{IsNext-same}
+use Rattle.tree_model.specs.Tree.{Notes}
+use Rattle.grammar_model.specs.Terminal.{Text, Terminal}
+use Rattle.grammar_model.specs.Input.{Lexeme, lex}
+use Rattle.grammar_model.specs.Lexemes.{terminal_of, begins_numeral, lexemes_of}
+use Rattle.st_faults.specs.declared.sort.Sort.TheVariants.{TextEnd}
+use Rattle.st_faults.specs.Lexing.{IsLexedFrom}
+use Rattle.st_faults.proofs.Signs.{begins_numeral-digit}
+use Rattle.st_faults.proofs.Skipping.{end_has_sort}
+use Rattle.st_events.specs.declared.token.Token.{Token}
+use Rattle.st_events.specs.Tokens.{seen, Begins}
+
+-- the pieces from a place on begin with the one that stands there
+record FirstPiece (t : Text) (p : Piece) (ps : List Piece) : Type 0 where
+  rest : List Piece
+  whole : ps ≡ p ∷ rest
+  behind : (p.kind ≡ End) ⊎ HasTokens Second t p.to rest None
+
+-- the first piece
+first_piece : (t : Text) (at : ℕ) (p : Piece) (ps : List Piece) (fault : Option LexFault) → fault ≡ None → IsNext Second t at p → HasTokens Second t at ps fault → FirstPiece t p ps
+first_piece t at p ps fault none next (Ended _ q other end) =
+    let same = IsNext-same Second t at q p other next in
+    record { rest = []; whole = ap (λ x. x ∷ []) same; behind = inl (sym (ap (λ x. x.kind) same) ∙ end) }
+first_piece t at p ps fault none next (Stopped _ f other) = cc
+first_piece t at p ps fault none next (Further _ q rest _ other n more) =
+    let same = IsNext-same Second t at q p other next in
+    let tokens = subst (λ f. HasTokens Second t q.to rest f) none more in
+    record { rest = rest; whole = ap (λ x. x ∷ rest) same; behind = inr (subst (λ x. HasTokens Second t x rest None) (ap (λ x. x.to) same) tokens) }
+
+-- what the grammar does not see is a comment
+comment_kind : (k : TokenKind) (s : Text) (b : Bool) → terminal_of k s b ≡ None → k ≡ Comment
+comment_kind Comment s b e = refl
+comment_kind k s b e = cc
+
+-- behind a comment
+pub behind_comment : (t : Text) (at : ℕ) (held : Notes) (ts : List Lexeme) (p : Piece) (s : Text) (b : Bool) →
+    IsNext Second t at p → s ≡ slice_range t p.from p.to → terminal_of p.kind s b ≡ None → IsLexedFrom t at held ts → IsLexedFrom t p.to (held ++ s ∷ []) ts
+behind_comment t at held ts p s b next slice none lexed =
+    let kind = comment_kind p.kind s b none in
+    let f = first_piece t at p lexed.pieces None refl next lexed.read in
+    elim f.behind [
+      | inl end ↦ let e : Comment ≡ End = sym kind ∙ end in cc
+      | inr more ↦ record {
+        pieces = f.rest;
+        read = more;
+        same = lexed.same ∙ ap (lexemes_of t held) f.whole ∙ (rw kind refl) ∙ ap (λ x. lexemes_of t (held ++ x ∷ []) f.rest) (sym slice);
+      }
+    ]
+
+-- a token that is no comment
+pub begins_token : (t : Text) (at : ℕ) (held : Notes) (ts : List Lexeme) (p : Piece) (k : Token) (b : Bool) →
+    IsNext Second t at p → k.from ≡ p.from → k.to ≡ p.to → k.text.now ≡ slice_range t p.from p.to → b ≡ is_digit (slice_index t p.to) → terminal_of p.kind k.text.now b ≡ Some (seen k) → IsLexedFrom t at held ts → Begins t k held ts
+begins_token t at held ts p k b next from to slice digit is lexed = ?
