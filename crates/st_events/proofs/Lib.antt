@@ -5,3 +5,4 @@ pub mod Ends
 pub mod ExpressionEvents
 pub mod WholeEvents
 pub mod Splitting
+pub mod Left
