@@ -1,13 +1,13 @@
 -- What stands behind the parts of an expression, and where chains of messages begin.
-use Rattle.std.proofs.Common.{◌≡◌, ℕ, List, refl, sym, subst, ◌⊎◌, inl, inr}
+use Rattle.std.proofs.Common.{◌≡◌, ℕ, refl, sym, subst, ◌⊎◌, inl, inr}
 use Rattle.grammar_model.specs.Terminal.{Text, NameKind, Ordinary, Super, KeywordKind, Sign, Terminal, Name, Keyword, Binary, Numeral, Constant, Opens}
 use Rattle.grammar_model.specs.Input.{Input, kind_of, from_of, next}
-use Rattle.grammar_model.specs.Spanned.{SpannedTree, Var, SpannedTrees, SpannedMessages}
+use Rattle.grammar_model.specs.Spanned.{SpannedTree, Var, SpannedTrees}
 use Rattle.grammar_model.specs.Chain.{Chain, Waiting, Alone, Told, whole, sent}
-use Rattle.grammar_model.specs.Ahead.{Longest, NoName, NoBinary, NoKeyword, NoSemicolon, IsOperandStart}
+use Rattle.grammar_model.specs.Ahead.{Longest, NoName, NoBinary, IsOperandStart}
 use Rattle.grammar_model.specs.Grammar.{Operand, Variable, SuperName, LiteralOperand, Grouped, BlockOperand, BraceOperand, Unaries, OneUnary, NoUnaries, Binaries, OneBinary, NoBinaries, Keywords, OneKeywords, NoKeywords, Parts, LastPart, FurtherPart, Argument, BinaryArgument, KeywordArgument, ArgumentOfKeyword}
 use Rattle.grammar_model.proofs.Reading.{IsReal, IsLiteralStart}
-use Rattle.grammar_model.proofs.Recognizes.{ends_Unaries, ends_Binaries, ends_Parts, ends_Keywords}
+use Rattle.grammar_model.proofs.Recognizes.{ends_Unaries, ends_Binaries}
 use Rattle.st_events.proofs.LiteralEvents.{starts_LiteralAt}
 
 -- no unary and no binary message goes on here

@@ -3,15 +3,15 @@ use Rattle.std.proofs.Common.{◌≡◌, ℕ, suc, ◌+◌, Bool, true, false, L
 use Rattle.std.specs.Prelude.{Option}
 use Rattle.std.proofs.lemmas.List.{append-nil}
 use Rattle.tree_model.specs.Tree.{Notes}
-use Rattle.grammar_model.specs.Terminal.{Text, NameKind, Sign, Bar, Group, BlockStart, BraceStart, GroupEnd, BlockEnd, BraceEnd, Terminal, Name, Keyword, Binary, Numeral, Constant, Opens, Closes, Assignment, Colon, Semicolon, Period, Caret, ArrayStart, BytesStart, TextEnd}
-use Rattle.grammar_model.specs.Input.{Lexeme, Input, kind_of, from_of, next, clear, back}
-use Rattle.grammar_model.specs.Spanned.{Declared, SpannedTree, Var, Literal, Send, Cascade, SpannedTrees, NoTrees, MoreTrees, one_tree, SpannedMessages, NoMessages, MoreMessages, SpannedStatements, NoStatements, MoreStatements}
-use Rattle.grammar_model.specs.Chain.{Chain, Waiting, Alone, Told, whole, sent, IsWhole}
-use Rattle.grammar_model.specs.Ahead.{Longest, NoName, NoBinary, NoKeyword, NoSemicolon, NoColon, NoPeriod, NoAssignment, IsOperandStart}
-use Rattle.grammar_model.specs.Grammar.{Periods, OnePeriod, NoPeriods, Names, OneName, NoNames, Parameters, OneParameter, NoParameters, Temporaries, Declares, DeclaresNone, Expression, Assigned, Simple, Operand, Variable, SuperName, LiteralOperand, Grouped, BlockOperand, BraceOperand, Unaries, OneUnary, NoUnaries, Binaries, OneBinary, NoBinaries, Keywords, OneKeywords, NoKeywords, Parts, LastPart, FurtherPart, Argument, BinaryArgument, KeywordArgument, ArgumentOfKeyword, Cascaded, NoCascade, OneCascade, Messages, OneMessage, LastMessage, Message, UnaryMessage, BinaryMessage, KeywordMessage, Items, NoItems, OneItem, FurtherItems, NextItem, LastItem, BlockBody, WithoutParameters, ParametersAlone, WithParameters, Sequence, Sequenced, Statements, BlankPeriod, NoMore, Returned, OneStatement, After, Ended, Unended, Finish, EndedReturn, UnendedReturn}
+use Rattle.grammar_model.specs.Terminal.{Text, NameKind, Sign, Bar, GroupEnd, BlockEnd, BraceEnd, Terminal, Name, Keyword, Binary, Numeral, Constant, Opens, Closes, Assignment, Colon, Semicolon, Period, Caret, ArrayStart, BytesStart, TextEnd}
+use Rattle.grammar_model.specs.Input.{Input, kind_of, from_of, next, clear, back}
+use Rattle.grammar_model.specs.Spanned.{Declared, SpannedTree, Send, SpannedTrees, NoTrees, one_tree, SpannedMessages, SpannedStatements}
+use Rattle.grammar_model.specs.Chain.{Chain, Waiting, Alone, Told, whole, sent}
+use Rattle.grammar_model.specs.Ahead.{Longest, NoName, NoKeyword, NoColon, NoAssignment, IsOperandStart}
+use Rattle.grammar_model.specs.Grammar.{Periods, OnePeriod, NoPeriods, Names, OneName, NoNames, Parameters, OneParameter, NoParameters, Temporaries, Declares, DeclaresNone, Expression, Assigned, Simple, Operand, Variable, SuperName, LiteralOperand, Grouped, BlockOperand, BraceOperand, Unaries, OneUnary, NoUnaries, Binaries, OneBinary, NoBinaries, Keywords, OneKeywords, NoKeywords, Parts, LastPart, FurtherPart, Argument, BinaryArgument, KeywordArgument, ArgumentOfKeyword, Cascaded, NoCascade, OneCascade, Messages, OneMessage, LastMessage, Message, UnaryMessage, BinaryMessage, KeywordMessage, Items, NoItems, OneItem, FurtherItems, NextItem, LastItem, BlockBody, WithoutParameters, ParametersAlone, WithParameters, Sequenced, Statements, BlankPeriod, NoMore, Returned, OneStatement, After, Ended, Unended, Finish, EndedReturn, UnendedReturn}
 use Rattle.grammar_model.proofs.Reading.{IsReal, IsLiteralStart}
 use Rattle.grammar_model.proofs.OneTree.{starts_Expression, starts_Operand}
-use Rattle.grammar_model.proofs.Recognizes.{ends_Unaries, ends_Parts, ends_Keywords}
+use Rattle.grammar_model.proofs.Recognizes.{ends_Unaries, ends_Keywords}
 use Rattle.parse_events.specs.Found.{declarations, count_trees, count_messages, count_statements, literal_events, tree_events, trees_events, messages_events, statements_events}
 use Rattle.parse_events.specs.declared.event.Declaration.{Declaration}
 use Rattle.parse_events.specs.declared.event.Event.{Event}
@@ -32,7 +32,7 @@ use Rattle.st_events.specs.Steps.{pushed, emitted, message_event, recast, expres
 use Rattle.st_events.proofs.Recasting.{recast_last}
 use Rattle.st_events.proofs.Running.{found, go, takes_one, passes_one, not_name, not_keyword, not_semicolon, not_period, not_bar, not_operator, not_message, not_declaring}
 use Rattle.st_events.proofs.LiteralEvents.{law_LiteralAt, starts_LiteralAt}
-use Rattle.st_events.proofs.Ends.{NoOperator, ends_operators, ends_KeywordArgument, ends_messages, ToldFrom, told_messages, IsNamed, named_or_other, real_operand, first_of_parts}
+use Rattle.st_events.proofs.Ends.{NoOperator, ends_operators, ends_messages, ToldFrom, told_messages, named_or_other, real_operand, first_of_parts}
 
 -- the parts of messages
 abbrev all : ℕ → Part

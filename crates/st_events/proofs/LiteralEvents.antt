@@ -1,13 +1,13 @@
 -- A reader puts out the events of the literals that it reads.
-use Rattle.std.proofs.Common.{◌≡◌, ◌≢◌, ℕ, suc, ◌+◌, Bool, true, false, ◌&&◌, List, [], ◌∷◌, ◌++◌, refl, ap, sym, ◌∙◌, subst, arith, append_assoc}
+use Rattle.std.proofs.Common.{◌≡◌, ℕ, suc, ◌+◌, Bool, true, false, ◌&&◌, List, [], ◌∷◌, ◌++◌, refl, ap, sym, ◌∙◌, subst, arith, append_assoc}
 use Rattle.std.proofs.lemmas.List.{append-nil}
-use Rattle.std.specs.Prelude.{◌==◌, if◌then◌else◌}
+use Rattle.std.specs.Prelude.{◌==◌}
 use Rattle.std.proofs.lemmas.Bool.Decides.{nat_tests}
-use Rattle.tree_model.specs.Tree.{LiteralOf, number, symbol, array, bytes, LiteralsOf, no_literals, more_literals}
-use Rattle.grammar_model.specs.Terminal.{Text, BinaryKind, Sign, SmallDigits, LargeDigits, Group, BlockStart, ArrayStart, BytesStart, GroupEnd, BlockEnd, NumeralKind, KeywordKind, Terminal, Name, Keyword, Binary, Numeral, Constant, Opens, Closes}
+use Rattle.tree_model.specs.Tree.{LiteralOf, array, bytes, LiteralsOf}
+use Rattle.grammar_model.specs.Terminal.{Text, BinaryKind, Sign, Group, BlockStart, ArrayStart, BytesStart, GroupEnd, BlockEnd, KeywordKind, Terminal, Name, Keyword, Binary, Numeral, Constant, Opens, Closes}
 use Rattle.grammar_model.specs.Input.{Input, kind_of, from_of, next}
-use Rattle.grammar_model.specs.Ahead.{Longest, IsDigits}
-use Rattle.grammar_model.specs.Literals.{NoSign, IsKeyword, IsJoined, KeywordRow, LastKeyword, JoinedKeyword, ByteElements, OneByte, NoBytes, LiteralAt, Unsigned, Negative, Fixed, Array, ByteArray, Element, LiteralElement, InnerArray, InnerBytes, NameElement, KeywordElement, BinaryElement, Elements, OneElement, NoElements, word_or_symbol}
+use Rattle.grammar_model.specs.Ahead.{Longest}
+use Rattle.grammar_model.specs.Literals.{NoSign, IsKeyword, KeywordRow, LastKeyword, JoinedKeyword, ByteElements, OneByte, NoBytes, LiteralAt, Unsigned, Negative, Fixed, Array, ByteArray, Element, LiteralElement, InnerArray, InnerBytes, NameElement, KeywordElement, BinaryElement, Elements, OneElement, NoElements}
 use Rattle.grammar_model.proofs.Reading.{IsReal, IsLiteralStart}
 use Rattle.parse_events.specs.Found.{literal_events, literals_events, count_literals}
 use Rattle.parse_events.specs.declared.event.Event.{Event}

@@ -1,13 +1,12 @@
 -- How a reader runs over one token.
-use Rattle.std.proofs.Common.{◌≡◌, ℕ, Bool, true, false, List, [], ◌∷◌, ◌++◌, refl, ap, sym, ◌∙◌, subst}
+use Rattle.std.proofs.Common.{◌≡◌, ℕ, true, false, List, [], ◌∷◌, ◌++◌, refl, ap, sym, ◌∙◌, subst}
 use Rattle.std.specs.Prelude.{◌==◌, if◌then◌else◌}
 use Rattle.tree_model.specs.Tree.{Notes}
-use Rattle.grammar_model.specs.Terminal.{TextEnd, Terminal, Name, Keyword, Binary, Closes, Assignment, Colon, Semicolon, Period, Bar}
+use Rattle.grammar_model.specs.Terminal.{TextEnd, Terminal, Name, Keyword, Binary, Closes, Colon, Semicolon, Period, Bar}
 use Rattle.grammar_model.specs.Input.{Lexeme, lex, Input, first_kind, first_from, first_end, first_notes, others, kind_of, from_of, next}
-use Rattle.grammar_model.specs.Ahead.{NoName, NoKeyword, NoBinary, NoBar, NoSemicolon, NoColon, NoPeriod, NoAssignment}
+use Rattle.grammar_model.specs.Ahead.{NoName, NoKeyword, NoBinary, NoBar, NoSemicolon, NoColon, NoPeriod}
 use Rattle.grammar_model.proofs.Reading.{IsReal}
 use Rattle.parse_events.specs.declared.event.Event.{Event}
-use Rattle.parse_events.specs.declared.event.Event.TheVariants as event
 use Rattle.st_events.specs.declared.part.Part.{Part}
 use Rattle.st_events.specs.declared.part.Part.TheVariants as part
 use Rattle.st_events.specs.declared.part.ExpressionPart.TheVariants as expression
@@ -15,11 +14,10 @@ use Rattle.st_events.specs.declared.part.MessagePart.TheVariants as message
 use Rattle.st_events.specs.declared.part.LiteralPart.TheVariants as literal
 use Rattle.st_events.specs.declared.part.BlockPart.TheVariants as block
 use Rattle.st_events.specs.declared.part.SequencePart.TheVariants as sequence
-use Rattle.st_events.specs.declared.part.HeadPart.TheVariants as head
 use Rattle.st_events.specs.declared.reader.Head.{Head}
 use Rattle.st_events.specs.declared.reader.Reader.{Reader}
-use Rattle.st_events.specs.Classes.{is_name, is_keyword, is_end, is_semicolon, is_period, is_bar, is_operator, is_message, follows_name, is_declaring}
-use Rattle.st_events.specs.Steps.{pushed, emitted, advanced, awaiting, taken, takes, passed, step, run}
+use Rattle.st_events.specs.Classes.{is_name, is_keyword, is_end, is_semicolon, is_period, is_bar, is_operator, is_message, is_declaring}
+use Rattle.st_events.specs.Steps.{taken, takes, passed, step, run}
 
 -- a reader with parts to come, what was found, the comments that are held and the place behind the last token
 abbrev pub reader : List Part → List Event → Head → Notes → ℕ → Reader

@@ -1,5 +1,5 @@
 -- The tokens from a place on begin with the one that was read there.
-use Rattle.std.proofs.Common.{◌≡◌, ◌≢◌, ℕ, ◌<◌, ◌⊎◌, inl, inr, Bool, List, [], ◌∷◌, ◌++◌, Some, None, refl, sym, ◌∙◌, ap, subst, arith}
+use Rattle.std.proofs.Common.{◌≡◌, ◌≢◌, ℕ, ◌⊎◌, inl, inr, Bool, List, [], ◌∷◌, ◌++◌, Some, None, refl, sym, ◌∙◌, ap, subst}
 use Rattle.std.specs.Prelude.{Option, slice_range, slice_index}
 use Rattle.std.specs.Option.{option_map_or}
 use Rattle.token_model.specs.Bytes.{is_digit}
@@ -10,7 +10,7 @@ use Rattle.token_model.specs.declared.kind.TokenKind.TheVariants.{Comment, End}
 use Rattle.token_model.specs.declared.fault.LexFault.{LexFault}
 use Rattle.token_model.proofs.Lists.{IsNext-same}
 use Rattle.tree_model.specs.Tree.{Notes}
-use Rattle.grammar_model.specs.Terminal.{Text, Terminal}
+use Rattle.grammar_model.specs.Terminal.{Text}
 use Rattle.grammar_model.specs.Input.{Lexeme, lex}
 use Rattle.grammar_model.specs.Lexemes.{terminal_of, begins_numeral, lexemes_of}
 use Rattle.st_faults.specs.declared.sort.Sort.TheVariants.{TextEnd}

@@ -4,12 +4,12 @@ use Rattle.std.specs.Prelude.{Option}
 use Rattle.std.proofs.lemmas.List.{append-nil}
 use Rattle.std.specs.Str.Parse.{digits_value}
 use Rattle.tree_model.specs.Tree.{Notes}
-use Rattle.grammar_model.specs.Terminal.{Text, KeywordKind, PrimitiveKeyword, Less, Greater, Bar, SmallDigits, TextEnd, Terminal, Name, Keyword, Binary, Numeral, Closes}
-use Rattle.grammar_model.specs.Input.{Lexeme, Input, beginning, first_kind, kind_of, from_of, next, clear}
+use Rattle.grammar_model.specs.Terminal.{Text, KeywordKind, PrimitiveKeyword, Less, Greater, Bar, SmallDigits, Terminal, Name, Keyword, Binary, Numeral}
+use Rattle.grammar_model.specs.Input.{Lexeme, Input, first_kind, kind_of, from_of, next}
 use Rattle.grammar_model.specs.Spanned.{Declared, SpannedStatements, SpannedSequence, SpannedMethod}
 use Rattle.grammar_model.specs.Ahead.{Longest, NoBar, IsOperandStart}
 use Rattle.grammar_model.specs.Grammar.{Names, OneName, NoNames, Temporaries, Declares, DeclaresNone, Sequence, Sequenced, Statements, BlankPeriod, NoMore, Returned, OneStatement}
-use Rattle.grammar_model.specs.Whole.{IsOver, IsDoIt, PatternParts, LastPatternPart, FurtherPatternPart, Pattern, UnaryPattern, BinaryPattern, KeywordPattern, MethodBody, WithBars, WithoutBars, OnePrimitive, Behind, Plainly, Primitively, IsMethod}
+use Rattle.grammar_model.specs.Whole.{IsOver, IsDoIt, PatternParts, LastPatternPart, FurtherPatternPart, Pattern, UnaryPattern, BinaryPattern, KeywordPattern, WithBars, WithoutBars, OnePrimitive, Behind, Plainly, Primitively, IsMethod}
 use Rattle.grammar_model.proofs.OneTree.{starts_Expression}
 use Rattle.parse_events.specs.Found.{declarations, count_statements, statements_events, sequence_events, method_events}
 use Rattle.parse_events.specs.declared.event.Declaration.{Declaration}

@@ -2,7 +2,7 @@
 use Rattle.std.specs.Prelude.{ℕ, ◌+◌, Bool, true, false, ◌&&◌, ◌==◌, if◌then◌else◌, List, [], ◌∷◌, ◌++◌, Option, Some, None}
 use Rattle.std.specs.Str.Parse.{digits_value}
 use Rattle.tree_model.specs.Tree.{Notes}
-use Rattle.grammar_model.specs.Terminal.{Text, Sign, Bar, Group, BlockStart, BraceStart, ArrayStart, BytesStart, GroupEnd, BlockEnd, BraceEnd, Terminal, Name, Keyword, Binary, Numeral, Constant, Opens, Closes, Assignment, Colon, Semicolon, Period, Caret}
+use Rattle.grammar_model.specs.Terminal.{Text, Sign, Bar, Group, BlockStart, BraceStart, ArrayStart, BytesStart, GroupEnd, BlockEnd, Terminal, Name, Keyword, Binary, Numeral, Constant, Opens, Closes, Assignment, Colon, Semicolon, Period, Caret}
 use Rattle.grammar_model.specs.Input.{Lexeme, lex}
 use Rattle.grammar_model.specs.Literals.{word_or_symbol}
 use Rattle.parse_events.specs.declared.event.Declaration.{Declaration}
@@ -25,7 +25,6 @@ use Rattle.st_events.specs.declared.part.SequencePart.{SequencePart}
 use Rattle.st_events.specs.declared.part.SequencePart.TheVariants as sequence
 use Rattle.st_events.specs.declared.part.HeadPart.{HeadPart}
 use Rattle.st_events.specs.declared.part.HeadPart.TheVariants as head
-use Rattle.st_events.specs.declared.reader.Head.{Head}
 use Rattle.st_events.specs.declared.reader.Reader.{Reader}
 use Rattle.st_events.specs.Classes.{is_name, is_keyword, is_end, is_semicolon, is_period, is_bar, is_operator, is_message, follows_name, is_declaring, opens_body}
 

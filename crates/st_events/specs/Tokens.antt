@@ -1,5 +1,5 @@
 -- What the grammar sees of a token, and the tokens behind it.
-use Rattle.std.specs.Prelude.{◌≡◌, ◌≢◌, ℕ, ◌⊎◌, List, [], ◌∷◌}
+use Rattle.std.specs.Prelude.{◌≡◌, ◌≢◌, List, [], ◌∷◌}
 use Rattle.tree_model.specs.Tree.{Notes}
 use Rattle.grammar_model.specs.Terminal.{Text, Terminal}
 use Rattle.grammar_model.specs.Input.{Lexeme, lex}

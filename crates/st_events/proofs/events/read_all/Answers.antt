@@ -1,4 +1,4 @@
-use Rattle.std.proofs.Common.{sym, subst, arith}
+use Rattle.std.proofs.Common.{sym, subst}
 use Rattle.st_faults.specs.Lexing.{IsLexedFrom}
 use Rattle.st_events.specs.Steps.{run}
 use Rattle.st_events.proofs.Left.{left_one, left_last}
