@@ -6,5 +6,7 @@ mod last;
 mod naming;
 mod sequences;
 mod stacks;
+#[cfg(test)]
+mod tests;
 
 pub use sequences::{build_doit, build_method};
