@@ -1,0 +1,10 @@
+//! The parser of methods and do-its of Smalltalk-80.
+#![tactic(auto)]
+
+mod parse;
+mod reading;
+#[cfg(test)]
+mod tests;
+
+pub use parse::{parse_doit, parse_method};
+pub use st_faults::{LexFault, ParseFault, Wanted, word_of};
