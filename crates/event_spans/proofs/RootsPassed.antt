@@ -1,10 +1,11 @@
 -- Outermost nodes behind a node.
-use Rattle.std.proofs.Common.{◌≡◌, ℕ, zero, suc, ◌+◌, Bool, true, false, List, [], ◌∷◌, drop, Option, Some, None, refl, ap, sym, ◌∙◌}
+use Rattle.std.proofs.Common.{◌≡◌, ℕ, zero, suc, ◌+◌, Bool, true, false, List, [], ◌∷◌, drop, length, Option, Some, None, refl, ap, sym, ◌∙◌}
 use Rattle.std.specs.Prelude.{◌==◌, if◌then◌else◌, option_map}
+use Rattle.std.proofs.lemmas.List.{nil_from_length}
 use Rattle.rb_base.specs.declared.text.Span.{Span}
 use Rattle.event_spans.specs.declared.place.Place.{Place}
 use Rattle.event_spans.specs.declared.runs.Run.{Run}
-use Rattle.event_spans.specs.Descent.{from_root, descend}
+use Rattle.event_spans.specs.Descent.{from_root, first_of, inside, descend}
 use Rattle.event_spans.specs.Runs.{roots, ending, run_of}
 
 -- the outermost nodes behind so many nodes are those of the nodes that are left
@@ -45,3 +46,10 @@ pub run-found : (n : ℕ) (span : Span) (rest : List Place) (p : Place) (left : 
 run-found n span rest p left w f =
     ap (run_of n span) (passed rest p left w)
     ∙ ap (λ (b : Bool). if b then option_map (λ (count : ℕ). record { first = n; count = count }) (ending 2 span.to (roots 0 left)) else run_of (n + 1) span (roots 0 left)) f
+
+-- where there are not so many nodes a path leads nowhere
+pub lost : (found : Option Place) (ps qs : List Place) (path : List ℕ) (i k : ℕ) → drop i path ≡ k ∷ drop (i + 1) path → qs ≡ from_root k ps → length qs ≡ 0 → descend found ps (drop i path) ≡ None
+lost found ps qs path i k more e none =
+    ap (descend found ps) more
+    ∙ ap (λ rs. descend (first_of rs) (inside rs) (drop (i + 1) path)) (sym e ∙ nil_from_length qs none)
+    ∙ descend-none (drop (i + 1) path)

@@ -42,7 +42,9 @@ pub(crate) fn node_at(places: &[Place], path: &[usize]) -> Option<Place>
     let mut found = None;
     let mut nodes = places;
     'steps: for step in path {
-        let (place, more) = from_root(nodes, *step).split_first()?;
+        let Some((place, more)) = from_root(nodes, *step).split_first() else {
+            return None;
+        };
         found = Some(*place);
         nodes = within(place, more);
     }

@@ -3,6 +3,7 @@ ghost use Rattle.std.specs.Prelude.{◌≡◌, IfOk, [], ◌∷◌, ◌++◌, On
 ghost use Rattle.std.specs.Option.{option_or};
 ghost use Rattle.st_tree.specs.declared.path.Part.TheVariants as part;
 ghost use Rattle.event_spans.specs.declared.runs.Run.{Run};
+ghost use Rattle.event_spans.specs.Answers.{part_found};
 ghost use Rattle.event_spans.specs.Runs.{roots, run_of};
 ghost use Rattle.event_spans.specs.Walk.{next_path, walked, is_at, node_found, run_in_block, run_found, listed};
 
@@ -143,4 +144,25 @@ pub(crate) fn listed(alloc: Global, places: &[Place]) -> Result<Vec<NodeSpan>, M
         })?;
     }
     Ok(spans)
+}
+
+/// The part with the span: a node before statements, and the outermost statements before those of blocks.
+pub(crate) fn part_found(
+    alloc: Global,
+    places: &[Place],
+    span: Span,
+) -> Result<Option<Part>, Memory>
+    ensures { IfOk result (λ part. part ≡ part_found span places.now) }
+{
+    if let Some(path) = node_found(alloc, places, span)? {
+        return Ok(Some(Part::Expression { path }));
+    }
+    if let Some(run) = run_in(places, span)? {
+        return Ok(Some(Part::Run {
+            path: Path::new(alloc),
+            first: run.first,
+            count: run.count,
+        }));
+    }
+    run_found(alloc, places, span)
 }
