@@ -3,5 +3,8 @@ pub mod Children
 pub mod Descended
 pub mod Induction
 pub mod Members
+pub mod PartTold
 pub mod RootsPassed
+pub mod RunsTold
+pub mod Told
 pub mod Walked
