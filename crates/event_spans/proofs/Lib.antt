@@ -1,6 +1,7 @@
 pub mod Built
 pub mod Children
 pub mod Descended
+pub mod InOrder
 pub mod Induction
 pub mod Members
 pub mod PartTold

@@ -3,9 +3,11 @@
 
 mod building;
 mod descent;
+mod laws;
 mod place;
 mod runs;
 mod search;
 
+pub use laws::law_spans;
 pub use place::{Place, Places};
 pub use search::{NodeSpan, Spans};
