@@ -1,5 +1,5 @@
 -- The events of a tree, read from the last to the first, give its nodes in preorder.
-use Rattle.std.proofs.Common.{◌≡◌, ℕ, zero, suc, ◌+◌, ◌-◌, arith, List, [], ◌∷◌, ◌++◌, length, length-append, append_assoc, refl, sym, ap, ◌∙◌, Bool, true, false}
+use Rattle.std.proofs.Common.{◌≡◌, ℕ, suc, ◌+◌, ◌-◌, arith, List, [], ◌∷◌, ◌++◌, length, length-append, append_assoc, refl, sym, ap, ◌∙◌, Bool, true, false}
 use Rattle.std.specs.Prelude.{◌==◌, if◌then◌else◌}
 use Rattle.std.proofs.lemmas.List.{append-nil}
 use Rattle.std.proofs.lemmas.Bool.Decides.{nat_tests}
@@ -8,7 +8,7 @@ use Rattle.grammar_model.specs.Terminal.{Text}
 use Rattle.grammar_model.specs.Spanned.{SpannedTree, Var, Literal, Send, Cascade, Assign, Block, Brace, Return, SpannedTrees, NoTrees, MoreTrees, SpannedMessages, NoMessages, MoreMessages, SpannedStatements, NoStatements, MoreStatements}
 use Rattle.parse_events.specs.declared.event.Event.{Event}
 use Rattle.parse_events.specs.declared.event.Event.TheVariants as event
-use Rattle.parse_events.specs.Found.{declarations, count_literals, count_trees, count_messages, count_statements, literal_events, literals_events, tree_events, trees_events, messages_events, statements_events}
+use Rattle.parse_events.specs.Found.{count_literals, count_trees, count_messages, count_statements, literal_events, literals_events, tree_events, trees_events, messages_events, statements_events}
 use Rattle.event_spans.specs.declared.place.Place.{Place}
 use Rattle.event_spans.specs.declared.building.Open.{Open}
 use Rattle.event_spans.specs.Building.{State, state, close, step, back}

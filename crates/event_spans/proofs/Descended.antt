@@ -1,12 +1,12 @@
 -- A path leads to the same node among nodes in preorder as in the tree.
-use Rattle.std.proofs.Common.{◌≡◌, ℕ, zero, suc, List, [], ◌∷◌, ◌++◌, length, drop, take, Option, Some, None, option_and_then, refl, ap, sym, ◌∙◌}
+use Rattle.std.proofs.Common.{◌≡◌, ℕ, zero, suc, List, [], ◌∷◌, ◌++◌, length, Option, Some, None, option_and_then, refl, ap, sym, ◌∙◌}
 use Rattle.std.specs.Prelude.{option_map}
 use Rattle.std.proofs.lemmas.List.{drop_at, take_at}
 use Rattle.grammar_model.specs.Spanned.{SpannedTree, SpannedTrees, NoTrees, MoreTrees}
 use Rattle.grammar_model.specs.Spans as spans
 use Rattle.grammar_model.specs.Spans.{span_of, spanned_children, spanned_nth, spanned_part, spanned_among}
 use Rattle.event_spans.specs.declared.place.Place.{Place}
-use Rattle.event_spans.specs.Preorder.{tree_places, trees_places}
+use Rattle.event_spans.specs.Preorder.{trees_places}
 use Rattle.event_spans.specs.Descent.{from_root, first_of, inside, descend}
 use Rattle.event_spans.proofs.Children.{place_of, tree_places-children}
 use Rattle.event_spans.proofs.RootsPassed.{descend-none}

@@ -1,13 +1,13 @@
 -- A path leads to a node exactly where the node stands with it among all nodes.
-use Rattle.std.proofs.Common.{◌≡◌, ℕ, zero, suc, ◌+◌, ◌⊎◌, inl, inr, refl, sym, ◌∙◌, ap, subst, arith, List, [], ◌∷◌, ◌++◌, length, append_assoc, Option, Some, None, option_and_then}
+use Rattle.std.proofs.Common.{◌≡◌, ℕ, zero, suc, ◌+◌, ◌⊎◌, inl, inr, refl, sym, ◌∙◌, ap, subst, arith, List, [], ◌∷◌, ◌++◌, append_assoc, Option, Some, None, option_and_then}
 use Rattle.std.specs.Prelude.{Contains}
 use Rattle.std.proofs.lemmas.List.{append-nil}
 use Rattle.std.proofs.lemmas.List.Elements.{Contains-append_left, Contains-append_right, Contains-append_cases}
-use Rattle.grammar_model.specs.Spanned.{SpannedTree, SpannedTrees, NoTrees, MoreTrees, SpannedSequence}
-use Rattle.grammar_model.specs.Spans.{spanned_statements, spanned_children, spanned_nth, spanned_part, spanned_among, spanned_in}
-use Rattle.event_spans.specs.Nodes.{Reached, tree_nodes, trees_nodes, nodes}
-use Rattle.event_spans.proofs.Induction.{AllTrees, by_children, by_children_trees}
-use Rattle.event_spans.proofs.Children.{tree_nodes-children, statements_nodes-trees}
+use Rattle.grammar_model.specs.Spanned.{SpannedTree, SpannedTrees, NoTrees, MoreTrees}
+use Rattle.grammar_model.specs.Spans.{spanned_children, spanned_nth, spanned_part, spanned_among}
+use Rattle.event_spans.specs.Nodes.{Reached, tree_nodes, trees_nodes}
+use Rattle.event_spans.proofs.Induction.{AllTrees, by_children_trees}
+use Rattle.event_spans.proofs.Children.{tree_nodes-children}
 
 module _ {A : Type 0} where
   -- the first element

@@ -1,6 +1,6 @@
 -- The part that is found stands where it is to stand, and where none is found none stands there.
-use Rattle.std.proofs.Common.{◌≡◌, ℕ, zero, suc, ◌+◌, ◌-◌, ◌≤◌, ◌⊎◌, inl, inr, arith, Bool, true, false, List, [], ◌∷◌, length, map, Option, Some, None, option_and_then, refl, ap, sym, subst, ◌∙◌}
-use Rattle.std.specs.Prelude.{◌==◌, ◌&&◌, if◌then◌else◌, option_map, Contains}
+use Rattle.std.proofs.Common.{◌≡◌, ℕ, ◌+◌, ◌-◌, inl, inr, arith, Bool, true, false, List, [], ◌∷◌, length, map, Option, Some, None, option_and_then, refl, ap, sym, subst, ◌∙◌}
+use Rattle.std.specs.Prelude.{if◌then◌else◌, option_map, Contains}
 use Rattle.std.specs.Option.{option_or}
 use Rattle.std.proofs.lemmas.Bool.Decides.{nat_tests}
 use Rattle.rb_base.specs.declared.text.Span.{Span}
@@ -15,7 +15,7 @@ use Rattle.event_spans.specs.Preorder.{trees_places, sequence_places}
 use Rattle.event_spans.specs.Nodes.{Reached, trees_nodes}
 use Rattle.event_spans.specs.Runs.{roots, run_of}
 use Rattle.event_spans.specs.Walk.{Visit, walked, is_at, node_found, run_in_block, run_found}
-use Rattle.event_spans.specs.Answers.{of_span, HasNoNode, HasNoRun, HasPart, run_part, part_found}
+use Rattle.event_spans.specs.Answers.{of_span, HasPart, run_part, part_found}
 use Rattle.event_spans.proofs.Children.{is_block, place_of, statements_places-trees}
 use Rattle.event_spans.proofs.Members.{Contains-here, Contains-there, Contains-cons_cases, leads_among, member_among}
 use Rattle.event_spans.proofs.Walked.{visit_of, walked-nodes}

@@ -4,7 +4,6 @@ use Rattle.std.specs.Prelude.{◌==◌, if◌then◌else◌, option_map}
 use Rattle.std.proofs.lemmas.List.{nil_from_length}
 use Rattle.rb_base.specs.declared.text.Span.{Span}
 use Rattle.event_spans.specs.declared.place.Place.{Place}
-use Rattle.event_spans.specs.declared.runs.Run.{Run}
 use Rattle.event_spans.specs.Descent.{from_root, first_of, inside, descend}
 use Rattle.event_spans.specs.Runs.{roots, ending, run_of}
 

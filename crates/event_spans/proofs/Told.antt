@@ -9,7 +9,7 @@ use Rattle.event_spans.specs.declared.search.NodeSpan.{NodeSpan}
 use Rattle.event_spans.specs.Preorder.{sequence_places}
 use Rattle.event_spans.specs.Nodes.{Reached, trees_nodes}
 use Rattle.event_spans.specs.Descent.{descend}
-use Rattle.event_spans.specs.Walk.{Visit, walked, listed}
+use Rattle.event_spans.specs.Walk.{walked, listed}
 use Rattle.event_spans.specs.Answers.{to_span, sequence_spans}
 use Rattle.event_spans.proofs.Children.{statements_places-trees, statements_nodes-trees}
 use Rattle.event_spans.proofs.Descended.{stands, descend-among}

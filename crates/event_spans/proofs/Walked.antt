@@ -1,5 +1,5 @@
 -- The nodes in preorder, walked through, are the nodes of the tree with their paths.
-use Rattle.std.proofs.Common.{◌≡◌, ℕ, zero, suc, ◌+◌, ◌-◌, arith, List, [], ◌∷◌, ◌++◌, map, length, length-append, append_assoc, take, refl, ap, sym, ◌∙◌, Option, Some, None}
+use Rattle.std.proofs.Common.{◌≡◌, ℕ, suc, ◌+◌, ◌-◌, arith, List, [], ◌∷◌, ◌++◌, map, length, length-append, append_assoc, take, refl, ap, sym, ◌∙◌, Option, Some, None}
 use Rattle.std.specs.Prelude.{slice_get}
 use Rattle.std.proofs.lemmas.List.{append-nil, take_at, take_all, map-append}
 use Rattle.grammar_model.specs.Spanned.{SpannedTree, SpannedTrees, NoTrees, MoreTrees}
@@ -8,7 +8,7 @@ use Rattle.event_spans.specs.declared.place.Place.{Place}
 use Rattle.event_spans.specs.Preorder.{tree_places, trees_places}
 use Rattle.event_spans.specs.Nodes.{Reached, tree_nodes, trees_nodes}
 use Rattle.event_spans.specs.Walk.{next_step, next_path, Visit, walked}
-use Rattle.event_spans.proofs.Induction.{AllTrees, by_children, by_children_trees}
+use Rattle.event_spans.proofs.Induction.{AllTrees, by_children_trees}
 use Rattle.event_spans.proofs.Children.{place_of, tree_places-children, tree_nodes-children}
 
 -- a node of a tree with its path, as it is walked by

@@ -1,5 +1,5 @@
 -- What is told of the nodes of a sequence.
-use Rattle.std.specs.Prelude.{◌≡◌, ℕ, List, [], ◌∷◌, ◌++◌, map, Option, Some, None, option_map}
+use Rattle.std.specs.Prelude.{◌≡◌, ℕ, List, [], map, Option, Some, None, option_map}
 use Rattle.std.specs.Option.{option_or}
 use Rattle.rb_base.specs.declared.text.Span.{Span}
 use Rattle.st_tree.specs.declared.path.Part.{Part}

@@ -1,5 +1,5 @@
 -- How the events of a tree, read from the last to the first, give its nodes in preorder.
-use Rattle.std.specs.Prelude.{ℕ, zero, suc, ◌+◌, ◌-◌, Bool, true, false, if◌then◌else◌, ◌==◌, List, [], ◌∷◌, length, Option, Some, None}
+use Rattle.std.specs.Prelude.{ℕ, zero, suc, ◌+◌, ◌-◌, true, false, if◌then◌else◌, ◌==◌, List, [], ◌∷◌, length, Option, Some, None}
 use Rattle.parse_events.specs.declared.event.Event.{Event}
 use Rattle.parse_events.specs.declared.event.Event.TheVariants as event
 use Rattle.event_spans.specs.declared.place.Place.{Place}

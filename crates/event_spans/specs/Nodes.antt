@@ -1,7 +1,6 @@
 -- The nodes of a sequence in preorder, each with the path that leads to it: a node comes before the nodes in it.
-use Rattle.std.specs.Prelude.{ℕ, zero, suc, ◌+◌, List, [], ◌∷◌, ◌++◌, map}
+use Rattle.std.specs.Prelude.{ℕ, suc, ◌+◌, List, [], ◌∷◌, ◌++◌}
 use Rattle.grammar_model.specs.Spanned.{SpannedTree, Var, Literal, Send, Cascade, Assign, Block, Brace, Return, SpannedTrees, NoTrees, MoreTrees, SpannedMessages, NoMessages, MoreMessages, SpannedStatements, NoStatements, MoreStatements, SpannedSequence}
-use Rattle.grammar_model.specs.Spans as spans
 use Rattle.parse_events.specs.Found.{count_trees}
 
 -- a path and the node where it leads

@@ -42,9 +42,8 @@ fn heading_of(event: &Event) -> Option<Heading>
             arguments,
             ..
         } => (*from, *to, false, Some(*arguments)),
-        Event::Cascade { from, to, .. }
-        | Event::Assign { from, to }
-        | Event::Return { from, to } => (*from, *to, false, Some(0)),
+        Event::Cascade { from, to, .. } | Event::Assign { from, to } | Event::Return { from, to } =>
+            (*from, *to, false, Some(0)),
         Event::Block {
             from,
             to,

@@ -104,11 +104,7 @@ fn run_in_block(place: &Place, rest: &[Place], span: Span) -> Result<Option<Run>
 }
 
 /// The statements of the first block that begin and end with the span.
-pub(crate) fn run_found(
-    alloc: Global,
-    places: &[Place],
-    span: Span,
-) -> Result<Option<Part>, Memory>
+pub(crate) fn run_found(alloc: Global, places: &[Place], span: Span) -> Result<Option<Part>, Memory>
     ensures { IfOk result (λ found. found ≡ run_found span (walked [] places.now)) }
 {
     let mut steps = Vec::new(alloc);

@@ -1,11 +1,8 @@
 -- The spans of a sequence are those of its nodes, in order.
 use Rattle.std.proofs.Common.{◌≡◌, ℕ, inl, inr, arith, List, [], ◌∷◌, map, Option, Some, None, refl, ap, sym, subst, ◌∙◌}
 use Rattle.std.specs.Prelude.{Contains, option_map}
-use Rattle.tree_model.specs.Nodes.{Placed}
-use Rattle.grammar_model.specs.Terminal.{Text}
-use Rattle.grammar_model.specs.Spanned.{SpannedTree, SpannedSequence, plain_statements}
+use Rattle.grammar_model.specs.Spanned.{SpannedTree, SpannedSequence}
 use Rattle.grammar_model.specs.Spans.{Span, span_of, spanned_statements, spanned_among, span_at}
-use Rattle.tree_model.specs.Nodes as plain
 use Rattle.event_spans.specs.declared.search.NodeSpan.{NodeSpan}
 use Rattle.event_spans.specs.Nodes.{Reached, nodes}
 use Rattle.event_spans.specs.Answers.{to_span, sequence_spans}

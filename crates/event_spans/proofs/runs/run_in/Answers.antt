@@ -1,8 +1,8 @@
 -- A node that begins elsewhere is passed.
 use Rattle.std.proofs.Common.{◌≡◌, ℕ, ◌+◌, true, false, arith, ap, sym, ◌∙◌}
-use Rattle.std.specs.Prelude.{◌==◌, Option, option_map}
+use Rattle.std.specs.Prelude.{◌==◌, option_map}
 use Rattle.std.proofs.lemmas.Bool.Decides.{nat_tests}
-use Rattle.event_spans.specs.Runs.{roots, ending, run_of}
+use Rattle.event_spans.specs.Runs.{roots, run_of}
 use Rattle.event_spans.proofs.RootsPassed.{Passed, run-passed, run-found}
 use Rattle.event_spans.proofs.runs.run_in.Goals as goal
 

@@ -1,10 +1,7 @@
 -- The part that is found stands there.
-use Rattle.std.proofs.Common.{◌≡◌, List, Option, ap, sym, subst, ◌∙◌}
-use Rattle.std.specs.Prelude.{IfOk}
+use Rattle.std.proofs.Common.{◌≡◌, ap, sym, subst, ◌∙◌}
 use Rattle.std.proofs.lemmas.Result.{IfOk-weaker}
-use Rattle.st_tree.specs.declared.path.Part.{Part}
 use Rattle.grammar_model.specs.Spanned.{SpannedSequence}
-use Rattle.event_spans.specs.declared.place.Place.{Place}
 use Rattle.event_spans.specs.Preorder.{sequence_places}
 use Rattle.event_spans.specs.Answers.{of_span, HasPart, part_found}
 use Rattle.event_spans.proofs.PartTold.{part_told}
