@@ -105,5 +105,6 @@ fn piece(text: &[u8], span: Span) -> &[u8]
     ensures { result.now ≡ piece text.now (of_span span) }
 {
     let rest = text.get(span.from..).unwrap_or(&[]);
-    rest.get(..span.to.saturating_sub(span.from)).unwrap_or(rest)
+    rest.get(..span.to.saturating_sub(span.from))
+        .unwrap_or(rest)
 }
