@@ -1,10 +1,9 @@
 -- What the judgement of a read text says of the text.
-use Rattle.std.proofs.Common.{◌≡◌, Bool, [], Option, Some, None, refl}
+use Rattle.std.proofs.Common.{◌≡◌, Bool, [], Option, Some, None}
 use Rattle.std.specs.Prelude.{MatchOption}
 use Rattle.token_model.specs.declared.kind.Dialect.TheVariants.{Second}
 use Rattle.grammar_model.specs.Terminal.{Text}
-use Rattle.grammar_model.specs.Spanned.{SpannedSequence, SpannedMethod}
-use Rattle.grammar_model.specs.Whole.{DoIt, Method, Form}
+use Rattle.grammar_model.specs.Whole.{DoIt, Method}
 use Rattle.grammar_model.specs.Checks.{Fault, sequence_fault}
 use Rattle.grammar_model.specs.Spelling.{HasFirstFault, InTree, InDoIt, InMethod}
 use Rattle.st_faults.specs.declared.fault.ParseFault.{ParseFault}

@@ -1,5 +1,5 @@
 -- What holds of the tree of a text.
-use Rattle.std.specs.Prelude.{◌≡◌, List, false, take, drop, ◌-◌}
+use Rattle.std.specs.Prelude.{◌-◌, false, take, drop}
 use Rattle.token_model.specs.declared.kind.Dialect.TheVariants.{Second}
 use Rattle.grammar_model.specs.Terminal.{Text}
 use Rattle.grammar_model.specs.Spanned.{SpannedSequence, SpannedMethod}
