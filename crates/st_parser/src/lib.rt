@@ -2,9 +2,8 @@
 #![tactic(auto)]
 
 mod parse;
-mod reading;
 #[cfg(test)]
 mod tests;
 
 pub use parse::{parse_doit, parse_method};
-pub use st_faults::{LexFault, ParseFault, Wanted, word_of};
+pub use st_reading::{LexFault, ParseFault, Wanted, word_of};

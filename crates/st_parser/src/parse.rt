@@ -9,10 +9,9 @@ ghost use Rattle.rb_base.specs.Names.{name_at};
 ghost use Rattle.st_faults.specs.Faults.{fault_of, IsRefused};
 ghost use Rattle.event_trees.specs.Naming.{Grows, Adds};
 
-use crate::reading::{read_doit, read_method};
 use event_trees::{build_doit, build_method};
 use rb_base::Names;
-use st_faults::ParseFault;
+use st_reading::{ParseFault, read_doit, read_method};
 use st_tree::{Method, Sequence};
 use std::alloc::Global;
 
