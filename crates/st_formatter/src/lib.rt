@@ -11,8 +11,6 @@ mod lines;
 mod literals;
 mod messages;
 mod selectors;
-#[cfg(test)]
-mod tests;
 mod trees;
 mod whole;
 

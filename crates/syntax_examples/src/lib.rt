@@ -4,6 +4,8 @@
 #[cfg(test)]
 mod faults;
 #[cfg(test)]
+mod form;
+#[cfg(test)]
 mod tests;
 #[cfg(test)]
 mod texts;

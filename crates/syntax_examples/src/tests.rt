@@ -1,6 +1,7 @@
 //! Each text of the tables is read, and written or refused.
 
 use crate::faults::faults;
+use crate::form::Form;
 use crate::texts::texts;
 use rb_base::{Memory, Names, Text};
 use st_formatter::{format_doit, format_method};
@@ -10,9 +11,9 @@ use std::alloc::Global;
 use std::test::Fail;
 
 /// The canonical text of a method.
-fn method_written(alloc: Global, text: &[u8]) -> Result<Text, ParseFault> {
+fn method_written(alloc: Global, text: &[u8], kernel: bool) -> Result<Text, ParseFault> {
     let mut names = Names::new(alloc);
-    let method = parse_method(alloc, text, false, &mut names)?;
+    let method = parse_method(alloc, text, kernel, &mut names)?;
     let mut out = Text::new(alloc);
     format_method(alloc, &method, &names, &mut out)?;
     Ok(out)
@@ -28,17 +29,17 @@ fn doit_written(alloc: Global, text: &[u8]) -> Result<Text, ParseFault> {
 }
 
 /// The canonical text of what a text spells.
-fn written(alloc: Global, is_method: bool, text: &[u8]) -> Result<Text, ParseFault> {
-    if is_method {
-        method_written(alloc, text)
-    } else {
-        doit_written(alloc, text)
+fn written(alloc: Global, form: Form, text: &[u8]) -> Result<Text, ParseFault> {
+    match form {
+        Form::DoIt => doit_written(alloc, text),
+        Form::Method => method_written(alloc, text, false),
+        Form::Kernel => method_written(alloc, text, true),
     }
 }
 
 /// Whether a text is written so.
-fn is_written(alloc: Global, is_method: bool, text: &[u8], wanted: &[u8]) -> bool {
-    match written(alloc, is_method, text) {
+fn is_written(alloc: Global, form: Form, text: &[u8], wanted: &[u8]) -> bool {
+    match written(alloc, form, text) {
         Ok(out) => out.as_slice() == wanted,
         Err(_) => false,
     }
@@ -46,17 +47,17 @@ fn is_written(alloc: Global, is_method: bool, text: &[u8], wanted: &[u8]) -> boo
 
 #[test]
 fn texts_are_read_and_written(rt: HostRuntime) -> Result<(), Fail> {
-    for (is_method, text, wanted) in texts() {
-        assert!(rt; is_written(rt.alloc(), is_method, text, wanted));
-        assert!(rt; is_written(rt.alloc(), is_method, wanted, wanted));
+    for (form, text, wanted) in texts() {
+        assert!(rt; is_written(rt.alloc(), form, text, wanted));
+        assert!(rt; is_written(rt.alloc(), form, wanted, wanted));
     }
     Ok(())
 }
 
 #[test]
 fn texts_are_refused(rt: HostRuntime) -> Result<(), Fail> {
-    for (is_method, text, fault) in faults() {
-        assert!(rt; written(rt.alloc(), is_method, text).err() == Some(fault));
+    for (form, text, fault) in faults() {
+        assert!(rt; written(rt.alloc(), form, text).err() == Some(fault));
     }
     Ok(())
 }
