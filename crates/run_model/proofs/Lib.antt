@@ -1,0 +1,2 @@
+mod SmallImages
+mod IntegerExamples

@@ -1,0 +1,14 @@
+pub mod Values
+pub mod Store
+pub mod Acts
+pub mod Numbers
+pub mod Views
+pub mod Calls
+pub mod ObjectPrimitives
+pub mod IntegerPrimitives
+pub mod SequencePrimitives
+pub mod Primitives
+pub mod Reading
+pub mod Shapes
+pub mod Eval
+pub mod Runs
