@@ -1,2 +1,3 @@
 mod SmallImages
 mod IntegerExamples
+mod Congruence
