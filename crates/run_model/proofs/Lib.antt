@@ -1,3 +1,5 @@
 mod SmallImages
 mod IntegerExamples
 mod Congruence
+mod MoreTicks
+mod Depth

@@ -11,4 +11,5 @@ pub mod Primitives
 pub mod Reading
 pub mod Shapes
 pub mod Eval
+pub mod Prefixes
 pub mod Runs
