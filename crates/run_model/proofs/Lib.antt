@@ -3,3 +3,6 @@ mod IntegerExamples
 mod Congruence
 mod MoreTicks
 mod Depth
+mod Finite
+mod RenamingLemmas
+mod MatchedLemmas

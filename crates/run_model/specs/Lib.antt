@@ -13,3 +13,5 @@ pub mod Shapes
 pub mod Eval
 pub mod Prefixes
 pub mod Runs
+pub mod Renamings
+pub mod Matched

@@ -1,5 +1,5 @@
 -- What a run holds, and what an evaluation may come to.
-use Rattle.std.specs.Prelude.{ℕ, List, [], ◌∷◌, ◌++◌, Bool, true, false, if◌then◌else◌, Option, length, map, slice_get, get_or, set, find, unwrap_or, option_map}
+use Rattle.std.specs.Prelude.{ℕ, List, [], ◌∷◌, ◌++◌, Bool, true, false, ◌&&◌, if◌then◌else◌, Option, length, map, slice_get, get_or, set, find, unwrap_or, option_map}
 use Rattle.rb_base.specs.Names.{text_eq}
 use Rattle.tree_model.specs.Tree.{SequenceOf}
 use Rattle.run_model.specs.Values.{Name, Value, nil_value, object_value, class_value, Event, RunError}
@@ -79,7 +79,7 @@ with_value same (e ∷ es) k v = if same k e.0 then (e.0, v) ∷ es else e ∷ w
 
 -- whether two pairs of names are the same
 abbrev pub same_pair : Name × Name → Name × Name → Bool
-same_pair p q = if text_eq p.0 q.0 then text_eq p.1 q.1 else false
+same_pair p q = text_eq p.0 q.0 && text_eq p.1 q.1
 
 -- the memory with these objects
 abbrev pub with_objects : Memory → List Object → Memory

@@ -1,0 +1,37 @@
+// Laws of runs. Each function does nothing; its contract is the law, for all images whose names are texts.
+ghost use Rattle.std.specs.Prelude.{◌≡◌, ◌≤◌, ◌+◌, ◌*◌, ℕ, List, IsTrue};
+ghost use Rattle.image_model.specs.Image.{ImageOf};
+ghost use Rattle.run_model.specs.Values.{Name, Event, Outcome, spent};
+ghost use Rattle.run_model.specs.Prefixes.{IsPrefixOf};
+ghost use Rattle.run_model.specs.Runs.{run_to, run, has_ended};
+ghost use Rattle.run_model.specs.Renamings.{Renaming, no_renaming, IsComposite, composed, renamed_events, renamed_outcome};
+ghost use Rattle.run_model.specs.Matched.{AreMatched};
+
+/// More ticks extend a run: one that has ended stays as it is, and the events of any run are a prefix of those with more
+/// ticks. A run of n ticks that is spent took all n.
+pub fn law_more_ticks()
+    ensures ended { (i : ImageOf Name) (n m : ℕ) → n ≤ m → IsTrue (has_ended ((run i n).outcome)) → run i m ≡ run i n }
+    ensures events { (i : ImageOf Name) (n m : ℕ) → n ≤ m → IsPrefixOf ((run i n).events) ((run i m).events) }
+    ensures taken { (i : ImageOf Name) (n : ℕ) → (run i n).outcome ≡ spent → (run i n).ticks ≡ n }
+{}
+
+/// The depth of a run, 2 n + 2 for n ticks, never runs out before the ticks: with more depth the run is the same.
+pub fn law_depth()
+    ensures { (i : ImageOf Name) (n d : ℕ) → 2 * n + 2 ≤ d → run_to i d n ≡ run i n }
+{}
+
+/// Two renamings one after the other are one renaming, of finite maps; and what is seen of a run is renamed by it as by
+/// the two.
+pub fn law_renamings_composed()
+    ensures composite { (r q : Renaming) → IsComposite r q (composed r q) }
+    ensures events { (r q p : Renaming) (es : List Event) → IsComposite r q p → renamed_events p es ≡ renamed_events q (renamed_events r es) }
+    ensures outcome { (r q p : Renaming) (o : Outcome) → IsComposite r q p → renamed_outcome p o ≡ renamed_outcome q (renamed_outcome r o) }
+    ensures nothing { (es : List Event) → renamed_events no_renaming es ≡ es }
+{}
+
+/// An image is matched by itself with nothing renamed; and images that are matched one after the other are matched by the
+/// renamings one after the other.
+pub fn law_matched()
+    ensures itself { (i : ImageOf Name) → AreMatched i i no_renaming }
+    ensures composed { (i j k : ImageOf Name) (r q p : Renaming) → IsComposite r q p → AreMatched i j r → AreMatched j k q → AreMatched i k p }
+{}
