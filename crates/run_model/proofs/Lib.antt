@@ -1,5 +1,5 @@
 mod SmallImages
-mod IntegerExamples
+mod ExpressionExamples
 mod Congruence
 mod MoreTicks
 mod Depth
