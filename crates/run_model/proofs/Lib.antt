@@ -1,5 +1,6 @@
 mod SmallImages
 mod ExpressionExamples
+mod ProgramExamples
 mod Congruence
 mod MoreTicks
 mod Depth
