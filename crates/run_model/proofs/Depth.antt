@@ -1,5 +1,5 @@
 -- Depth never runs out before ticks do: with depth enough for the ticks the evaluator is a fixed point.
-use Rattle.std.proofs.Common.{◌≡◌, ℕ, zero, suc, ◌+◌, ◌*◌, ◌-◌, ◌<◌, ◌≤◌, List, refl, sym, ap, subst, arith}
+use Rattle.std.proofs.Common.{◌≡◌, ℕ, zero, suc, ◌+◌, ◌*◌, ◌-◌, ◌<◌, ◌≤◌, List, refl, sym, ap, ◌∙◌, subst, arith}
 use Rattle.std.specs.Prelude.{Bool, true, false, if◌then◌else◌, nat_eq, nat_le}
 use Rattle.std.proofs.lemmas.Bool.{leb-true}
 use Rattle.tree_model.specs.Tree.{TreeOf, StatementsOf, no_statements, more_statements, SequenceOf}
@@ -7,17 +7,10 @@ use Rattle.image_model.specs.Image.{ImageOf}
 use Rattle.run_model.specs.Values.{Name, Value, nil_value, spent}
 use Rattle.run_model.specs.Store.{Frame, Store, start, returns, ends_by, out_of_ticks, Result, fine, leaves, with_new_cells}
 use Rattle.run_model.specs.Acts.{Act, then_do, gives, fails, goes_home, and_then, with_memory, tells, pays, ended, out_of_home, at_home}
-use Rattle.run_model.specs.Eval.{node, turn, Go, statements, does_turn, does_node, step, eval}
-use Rattle.run_model.specs.Runs.{comes_to, outcome_of, seen, run_to, run}
+use Rattle.run_model.specs.Eval.{Task, node, turn, Go, statements, does_turn, does_node, step, eval, evaluates}
+use Rattle.run_model.specs.Runs.{comes_to, comes_to_at_last, IsWithin, outcome_of, seen, run_to, run, IsWithin}
 use Rattle.run_model.proofs.Congruence.{IsCongruence}
 use Rattle.run_model.proofs.Congruence
-
--- fewer ticks are left than b where evaluation goes on, and none where it is spent
-abbrev pub IsWithin : {A : Type 0} → ℕ → Result A → Type 0
-IsWithin b (fine a s) = s.ticks < b
-IsWithin b (leaves (returns h v) s) = s.ticks < b
-IsWithin b (leaves (ends_by e) s) = Unit {0}
-IsWithin b (leaves out_of_ticks s) = s.ticks ≡ 0
 
 -- two results are one, and within b
 pub record IsSame {A : Type 0} (b : ℕ) (x x' : Result A) : Type 0 where
@@ -173,3 +166,34 @@ seen-spent b n (leaves out_of_ticks s) w e = omega arith
 pub run-spent : (i : ImageOf Name) (n : ℕ) → (run i n).outcome ≡ spent → (run i n).ticks ≡ n
 unfolding run
 run-spent i n e = seen-spent (n + 1) n (comes_to i (2 * n + 2) n) (comes_to-deep i n (2 * n + 2) (omega arith)).within e
+
+-- the evaluator with depth enough is one step of itself
+pub evaluates-step : (i : ImageOf Name) (t : Task) (s : Store) → evaluates i t s ≡ step i (evaluates i) t s
+unfolding evaluates
+evaluates-step i (node f t) s =
+    let e : 2 * s.ticks + 2 ≡ suc (2 * s.ticks + 1) = omega arith in
+    ap (λ d. eval i d (node f t) s) e
+    ∙ (node-same i s.ticks (eval i (2 * s.ticks + 1)) (evaluates i)
+    (λ f2 t2 s2 l2. wider s2.ticks s.ticks _ _ (omega arith) ((deep i s2.ticks).nodes (2 * s.ticks + 1) (2 * s2.ticks + 2) f2 t2 s2 (omega arith) (omega arith) (omega arith)))
+    (λ f2 sense a b s2 l2. wider s2.ticks s.ticks _ _ (omega arith) ((deep i s2.ticks).turns (2 * s.ticks + 1) (2 * s2.ticks + 2) f2 sense a b s2 (omega arith) (omega arith) (omega arith))) f t s refl).eq
+evaluates-step i (turn f sense a b) s =
+    let e : 2 * s.ticks + 2 ≡ suc (2 * s.ticks + 1) = omega arith in
+    ap (λ d. eval i d (turn f sense a b) s) e
+    ∙ (turn-same s.ticks (eval i (2 * s.ticks + 1)) (evaluates i)
+    (λ f2 t2 s2 l2. (deep i s2.ticks).nodes (2 * s.ticks + 1) (2 * s2.ticks + 2) f2 t2 s2 (omega arith) (omega arith) (omega arith))
+    (λ f2 sense2 a2 b2 s2 l2. (deep i s2.ticks).turns (2 * s.ticks + 1) (2 * s2.ticks + 2) f2 sense2 a2 b2 s2 (omega arith) (omega arith) (omega arith)) f sense a.temporaries a.statements a.tail b s refl).eq
+
+-- a run by it
+pub run-evaluates : (i : ImageOf Name) (n : ℕ) → run i n ≡ seen n (comes_to_at_last i n)
+unfolding run evaluates
+run-evaluates i n = ap (seen n) h.eq
+  where
+    h : IsSame (n + 1) (comes_to i (2 * n + 2) n) (comes_to_at_last i n)
+    h = Congruence.does_doits-Rel (Agree (n + 1)) (agrees (n + 1)) (eval i (2 * n + 2)) (evaluates i)
+        (λ f t s l. wider s.ticks (n + 1) _ _ (omega arith) ((deep i s.ticks).nodes (2 * n + 2) (2 * s.ticks + 2) f t s (omega arith) (omega arith) (omega arith))) i nil_value i.doits (start n) (omega arith)
+
+-- evaluation leaves no more ticks than there were, and fewer where a node gave a value; it is spent only where none is left
+pub evaluates-within : (i : ImageOf Name) (t : Task) (s : Store) → IsWithin s.ticks (evaluates i t s)
+unfolding evaluates
+evaluates-within i (node f t) s = ((deep i s.ticks).nodes (2 * s.ticks + 2) (2 * s.ticks + 2) f t s (omega arith) (omega arith) (omega arith)).within
+evaluates-within i (turn f sense a b) s = ((deep i s.ticks).turns (2 * s.ticks + 2) (2 * s.ticks + 2) f sense a b s (omega arith) (omega arith) (omega arith)).within

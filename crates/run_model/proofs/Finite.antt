@@ -90,4 +90,3 @@ module _ {K V : Type 0} (same : K → K → Bool) where
   -- a key without an entry is mapped to what is said
   pub mapped-absent : (es : List (K × V)) (k : K) (d : V) → list_any (same k) (keys es) ≡ false → mapped same es k d ≡ d
   mapped-absent es k d e = ap (λ o. unwrap_or o d) (entry-absent es k e)
-

@@ -5,5 +5,6 @@ mod Congruence
 mod MoreTicks
 mod Depth
 mod Finite
+mod ControlLemmas
 mod RenamingLemmas
 mod MatchedLemmas

@@ -15,7 +15,7 @@ use Rattle.run_model.specs.Renamings.{OfClass, MethodName, Renaming, same_method
 use Rattle.run_model.proofs.Finite.{by_cases, and-true_both, and-true_left, and-true_right, any-left, any-right, any-map, any-flat_map, mapped-absent, mapped-for}
 
 -- texts that are told to be equal are
-text-same : (s t : Name) → text_eq s t ≡ true → s ≡ t
+pub text-same : (s t : Name) → text_eq s t ≡ true → s ≡ t
 text-same s t e = (slice_eq-Decides Decides-eqb s t (text_eq s t) refl).0 e
 
 -- the same of pairs

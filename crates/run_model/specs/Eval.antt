@@ -1,5 +1,5 @@
 -- What is evaluated and how: each step takes the evaluator of the parts below as an argument, and one definition at the end ties the knot by the depth that is left.
-use Rattle.std.specs.Prelude.{ℕ, ℤ, zero, suc, ◌∷◌, [], ◌++◌, nat_lt, if◌then◌else◌, Bool, true, false, List, length, slice_get, Option, Some, None, codes}
+use Rattle.std.specs.Prelude.{ℕ, ◌+◌, ◌*◌, ◌+◌, ◌*◌, ℤ, zero, suc, ◌∷◌, [], ◌++◌, nat_lt, if◌then◌else◌, Bool, true, false, List, length, slice_get, Option, Some, None, codes}
 use Rattle.rb_base.specs.Names.{text_eq}
 use Rattle.tree_model.specs.Tree.{LiteralOf, number, str, symbol, char, array, bytes, word, LiteralsOf, no_literals, more_literals, TreeOf, var, literal, send, cascade, assign, block, brace, return, TreesOf, no_trees, more_trees, MessagesOf, no_messages, more_messages, StatementsOf, no_statements, more_statements, SequenceOf}
 use Rattle.image_model.specs.Image.{EntryOf, ImageOf}
@@ -244,3 +244,7 @@ step i go (turn f sense a b) = does_turn go f sense a b
 abbrev pub eval : ImageOf Name → ℕ → Go
 eval i zero t s = leaves out_of_ticks s
 eval i (suc d) t s = step i (eval i d) t s
+
+-- the evaluator with depth enough for the ticks that are left
+unfoldable pub evaluates : ImageOf Name → Go
+evaluates i t s = eval i (2 * s.ticks + 2) t s

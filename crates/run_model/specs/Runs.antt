@@ -1,12 +1,12 @@
 -- Runs of the do-its of an image.
-use Rattle.std.specs.Prelude.{ℕ, ◌+◌, ◌*◌, ◌-◌, Bool, true, false, List, [], ◌∷◌, find, Option, option_map}
+use Rattle.std.specs.Prelude.{◌<◌, ◌≡◌, ℕ, ◌+◌, ◌*◌, ◌-◌, Bool, true, false, List, [], ◌∷◌, find, Option, option_map}
 use Rattle.image_model.specs.Image.{ClassOf, DoItOf, ImageOf}
 use Rattle.image_model.specs.Words.{text_words}
 use Rattle.run_model.specs.Values.{Name, Value, nil_value, Event, cannot_return, Outcome, done, failed, spent}
 use Rattle.run_model.specs.Store.{Store, start, returns, ends_by, out_of_ticks, Result, fine, leaves}
 use Rattle.run_model.specs.Acts.{Act, gives, and_then, at_home}
 use Rattle.run_model.specs.Views.{view_of, run_text}
-use Rattle.run_model.specs.Eval.{Go, sequence, makes_home, outermost, eval}
+use Rattle.run_model.specs.Eval.{Go, sequence, makes_home, outermost, eval, evaluates}
 
 -- the class of which a do-it is read as a method: `UndefinedObject`
 abbrev pub doit_class : ImageOf Name → Option Name
@@ -24,6 +24,17 @@ does_doits i go v (d ∷ ds) = and_then (does_doit i go d) (λ w. does_doits i g
 -- what the do-its of an image come to with so much depth and so many ticks
 abbrev pub comes_to : ImageOf Name → ℕ → ℕ → Result Value
 comes_to i d n = does_doits i (eval i d) nil_value i.doits (start n)
+
+-- the same with the evaluator that has depth enough for its ticks
+abbrev pub comes_to_at_last : ImageOf Name → ℕ → Result Value
+comes_to_at_last i n = does_doits i (evaluates i) nil_value i.doits (start n)
+
+-- fewer ticks are left than b where evaluation goes on, and none where it is spent
+abbrev pub IsWithin : {A : Type 0} → ℕ → Result A → Type 0
+IsWithin b (fine a s) = s.ticks < b
+IsWithin b (leaves (returns h v) s) = s.ticks < b
+IsWithin b (leaves (ends_by e) s) = Unit {0}
+IsWithin b (leaves out_of_ticks s) = s.ticks ≡ 0
 
 -- what is seen of a run
 pub record RunOf : Type 0 where

@@ -15,6 +15,12 @@ pub data Shape : Type 0 where
   loops : Bool → SequenceOf Name → SequenceOf Name → Shape
   a_message : Shape
 
+-- whether the shape is that of a message
+abbrev pub is_message : Shape → Bool
+is_message (two_ways a b) = false
+is_message (loops sense a b) = false
+is_message a_message = true
+
 -- the sequence of a literal block without parameters
 abbrev pub plain_block : TreeOf Name → Option (SequenceOf Name)
 plain_block (block [] ts ss e) = Some (record { temporaries = ts; statements = ss; tail = e })

@@ -1,9 +1,15 @@
 // Laws of runs. Each function does nothing; its contract is the law, for all images whose names are texts.
-ghost use Rattle.std.specs.Prelude.{◌≡◌, ◌≤◌, ◌+◌, ◌*◌, ℕ, List, IsTrue};
+ghost use Rattle.std.specs.Prelude.{◌≡◌, ◌≤◌, ◌+◌, ◌*◌, ℕ, List, IsTrue, not};
+ghost use Rattle.tree_model.specs.Tree.{TreeOf, TreesOf};
+ghost use Rattle.scope_model.specs.SpecialNames.{control_form};
+ghost use Rattle.scope_model.specs.Control.{meets};
 ghost use Rattle.image_model.specs.Image.{ImageOf};
 ghost use Rattle.run_model.specs.Values.{Name, Event, Outcome, spent};
 ghost use Rattle.run_model.specs.Prefixes.{IsPrefixOf};
-ghost use Rattle.run_model.specs.Runs.{run_to, run, has_ended};
+ghost use Rattle.run_model.specs.Store.{Store};
+ghost use Rattle.run_model.specs.Shapes.{is_message, shape_of};
+ghost use Rattle.run_model.specs.Eval.{Task, step, evaluates};
+ghost use Rattle.run_model.specs.Runs.{run_to, run, has_ended, seen, comes_to_at_last, IsWithin};
 ghost use Rattle.run_model.specs.Renamings.{Renaming, no_renaming, IsComposite, composed, renamed_events, renamed_outcome};
 ghost use Rattle.run_model.specs.Matched.{AreMatched};
 
@@ -18,6 +24,19 @@ pub fn law_more_ticks()
 /// The depth of a run, 2 n + 2 for n ticks, never runs out before the ticks: with more depth the run is the same.
 pub fn law_depth()
     ensures { (i : ImageOf Name) (n d : ℕ) → 2 * n + 2 ≤ d → run_to i d n ≡ run i n }
+{}
+
+/// With depth enough for the ticks that are left, evaluation is one step of itself, and a run is that of this evaluator.
+/// It leaves fewer ticks than there were where a node gives a value or a return, and none where it is spent.
+pub fn law_evaluates()
+    ensures step { (i : ImageOf Name) (t : Task) (s : Store) → evaluates i t s ≡ step i (evaluates i) t s }
+    ensures run { (i : ImageOf Name) (n : ℕ) → run i n ≡ seen n (comes_to_at_last i n) }
+    ensures ticks { (i : ImageOf Name) (t : Task) (s : Store) → IsWithin s.ticks (evaluates i t s) }
+{}
+
+/// A send has the shape of a message exactly where it is no control send by its selector, receiver and arguments.
+pub fn law_control_sends()
+    ensures { (s : Name) (r : TreeOf Name) (args : TreesOf Name) → is_message (shape_of s r args) ≡ not (meets (control_form s) r args) }
 {}
 
 /// Two renamings one after the other are one renaming, of finite maps; and what is seen of a run is renamed by it as by

@@ -5,4 +5,7 @@
 
 mod laws;
 
-pub use laws::{law_depth, law_matched, law_more_ticks, law_renamings_composed};
+pub use laws::{
+    law_control_sends, law_depth, law_evaluates, law_matched, law_more_ticks,
+    law_renamings_composed,
+};
