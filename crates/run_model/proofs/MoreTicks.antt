@@ -6,7 +6,7 @@ use Rattle.std.proofs.lemmas.Bool.{leb-true, le-leb, false≢true}
 use Rattle.image_model.specs.Image.{ImageOf}
 use Rattle.run_model.specs.Values.{Name, Value, nil_value, Event, failed}
 use Rattle.run_model.specs.Store.{Store, start, returns, ends_by, out_of_ticks, Result, fine, leaves}
-use Rattle.run_model.specs.Acts.{Act, then_do, gives, fails, goes_home, and_then, with_memory, tells, pays, ended, out_of_home, at_home}
+use Rattle.run_model.specs.Acts.{Act, then_do, gives, fails, goes_home, and_then, with_memory, tells, pays, stops, acts, ended, out_of_home, at_home}
 use Rattle.run_model.specs.Eval.{Task, eval}
 use Rattle.run_model.specs.Runs.{does_doits, comes_to, store_of, outcome_of, seen, run, has_ended}
 use Rattle.run_model.specs.Prefixes.{IsPrefixOf}
@@ -89,7 +89,7 @@ home-same k h (leaves (ends_by e) s) x' p = ap (out_of_home h) p
 home-same k h (leaves out_of_ticks s) x' p = home-grows s.events h x' p
 
 -- each word does later what it does
-extends : (k : ℕ) → IsCongruence (IsExtension k)
+extends : (k : ℕ) → IsCongruence acts acts (IsExtension k)
 unfolding gives fails goes_home and_then with_memory tells pays at_home
 extends k = record {
   given = λ A a. record { same = λ s. refl; grows = λ s. same-prefix s.events };
@@ -106,24 +106,26 @@ extends k = record {
 }
 
 -- with the same depth
-eval-same_depth : (i : ImageOf Name) (k d : ℕ) (t : Task) → IsExtension k Value (eval i d t) (eval i d t)
+eval-same_depth : (i : ImageOf Name) (k d : ℕ) (t : Task) → IsExtension k Value (eval acts i d t) (eval acts i d t)
+unfolding stops
 eval-same_depth i k zero t = record { same = λ s. same-prefix s.events; grows = λ s. same-prefix s.events }
-eval-same_depth i k (suc d) t = Congruence.step-Rel (IsExtension k) (extends k) (eval i d) (eval i d) (λ f n. eval-same_depth i k d _) i (λ f sense a b. eval-same_depth i k d _) t
+eval-same_depth i k (suc d) t = Congruence.step-Rel acts acts (IsExtension k) (extends k) (eval acts i d) (eval acts i d) (λ f n. eval-same_depth i k d _) i (λ f sense a b. eval-same_depth i k d _) t
 
 -- with more depth
-eval-extends : (i : ImageOf Name) (k d e : ℕ) → d ≤ e → (t : Task) → IsExtension k Value (eval i d t) (eval i e t)
+eval-extends : (i : ImageOf Name) (k d e : ℕ) → d ≤ e → (t : Task) → IsExtension k Value (eval acts i d t) (eval acts i e t)
+unfolding stops
 eval-extends i k zero e le t =
     let g = eval-same_depth i k e t in record { same = λ s. g.grows (later k s); grows = g.grows }
 eval-extends i k (suc d) zero le t = absurd (omega arith)
 eval-extends i k (suc d) (suc e) le t =
-    Congruence.step-Rel (IsExtension k) (extends k) (eval i d) (eval i e) (λ f n. eval-extends i k d e (omega arith) _) i (λ f sense a b. eval-extends i k d e (omega arith) _) t
+    Congruence.step-Rel acts acts (IsExtension k) (extends k) (eval acts i d) (eval acts i e) (λ f n. eval-extends i k d e (omega arith) _) i (λ f sense a b. eval-extends i k d e (omega arith) _) t
 
 -- do-its with more depth and more ticks
 comes_to-extends : (i : ImageOf Name) (d e n m : ℕ) → d ≤ e → n ≤ m → IsSameLater (m - n) (comes_to i d n) (comes_to i e m)
 comes_to-extends i d e n m le lt =
-    let g = Congruence.does_doits-Rel (IsExtension (m - n)) (extends (m - n)) (eval i d) (eval i e) (λ f t. eval-extends i (m - n) d e le _) i nil_value i.doits in
+    let g = Congruence.does_doits-Rel acts acts (IsExtension (m - n)) (extends (m - n)) (eval acts i d) (eval acts i e) (λ f t. eval-extends i (m - n) d e le _) i nil_value i.doits in
     let h : n + (m - n) ≡ m = omega arith in
-    subst (λ x. IsSameLater (m - n) (comes_to i d n) (does_doits i (eval i e) nil_value i.doits (start x))) h (g.same (start n))
+    subst (λ x. IsSameLater (m - n) (comes_to i d n) (does_doits acts i (eval acts i e) nil_value i.doits (start x))) h (g.same (start n))
 
 -- a run that has ended is the same
 seen-ended : (n m : ℕ) (x x' : Result Value) → n ≤ m → IsSameLater (m - n) x x' → IsTrue (has_ended (outcome_of x)) → seen m x' ≡ seen n x

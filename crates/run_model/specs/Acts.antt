@@ -1,6 +1,7 @@
--- The words of which all evaluation is made: each takes a store and comes to a result.
+-- Acts that take a store and come to a result, which are those of runs.
 use Rattle.std.specs.Prelude.{ℕ, ◌-◌, nat_le, nat_eq, if◌then◌else◌, [], ◌∷◌, ◌++◌}
 use Rattle.run_model.specs.Values.{Value, Event, RunError}
+use Rattle.run_model.specs.Words.{Words}
 use Rattle.run_model.specs.Store.{Memory, Store, returns, ends_by, out_of_ticks, Result, fine, leaves, without_home}
 
 -- what may be done in a store
@@ -32,14 +33,6 @@ and_then act go s = then_do (act s) go
 unfoldable pub with_memory : {A : Type 0} → (Memory → A × Memory) → Act A
 with_memory f s = fine ((f s.memory).0) (record s { memory = (f s.memory).1 })
 
--- gives what is read from the memory
-abbrev pub looks : {A : Type 0} → (Memory → A) → Act A
-looks f = with_memory (λ m. (f m, m))
-
--- changes the memory and gives a value
-abbrev pub changes : Value → (Memory → Memory) → Act Value
-changes v f = with_memory (λ m. (v, f m))
-
 -- tells an event and gives a thing
 unfoldable pub tells : {A : Type 0} → Event → A → Act A
 tells e a s = fine a (record s { events = s.events ++ e ∷ [] })
@@ -62,3 +55,22 @@ out_of_home h (leaves out_of_ticks s) = leaves out_of_ticks s
 -- the act in a home, which ends with it
 unfoldable pub at_home : ℕ → Act Value → Act Value
 at_home h act s = out_of_home h (act s)
+
+-- leaves off without ticks, since no depth is left
+unfoldable pub stops : {A : Type 0} → Act A
+stops s = leaves out_of_ticks s
+
+-- the words of runs
+abbrev pub acts : Words
+acts = record {
+  Act = Act;
+  gives = gives;
+  fails = fails;
+  goes_home = goes_home;
+  and_then = and_then;
+  with_memory = with_memory;
+  tells = tells;
+  pays = pays;
+  at_home = at_home;
+  stops = stops;
+}

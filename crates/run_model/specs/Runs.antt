@@ -4,7 +4,8 @@ use Rattle.image_model.specs.Image.{ClassOf, DoItOf, ImageOf}
 use Rattle.image_model.specs.Words.{text_words}
 use Rattle.run_model.specs.Values.{Name, Value, nil_value, Event, cannot_return, Outcome, done, failed, spent}
 use Rattle.run_model.specs.Store.{Store, start, returns, ends_by, out_of_ticks, Result, fine, leaves}
-use Rattle.run_model.specs.Acts.{Act, gives, and_then, at_home}
+use Rattle.run_model.specs.Words.{Words}
+use Rattle.run_model.specs.Acts.{acts}
 use Rattle.run_model.specs.Views.{view_of, run_text}
 use Rattle.run_model.specs.Eval.{Go, sequence, makes_home, outermost, eval, evaluates}
 
@@ -12,22 +13,27 @@ use Rattle.run_model.specs.Eval.{Go, sequence, makes_home, outermost, eval, eval
 abbrev pub doit_class : ImageOf Name → Option Name
 doit_class i = option_map (λ (c : ClassOf _). c.name) (find (λ c. text_words.is_undefined_object c.name) i.classes)
 
--- a do-it: its statements in a new home, where self is nil
-abbrev pub does_doit : ImageOf Name → Go → DoItOf Name → Act Value
-does_doit i go d = and_then makes_home (λ h. at_home h (sequence go (outermost (doit_class i) false nil_value h) [] [] d.body))
+module _ (w : Words) where
+  -- a do-it: its statements in a new home, where self is nil
+  abbrev pub does_doit : ImageOf Name → Go w → DoItOf Name → w.Act Value
+  does_doit i go d = w.and_then (makes_home w) (λ h. w.at_home h (sequence w go (outermost (doit_class i) false nil_value h) [] [] d.body))
 
--- do-its in order; v is the value of the one before
-abbrev pub does_doits : ImageOf Name → Go → Value → List (DoItOf Name) → Act Value
-does_doits i go v [] = gives v
-does_doits i go v (d ∷ ds) = and_then (does_doit i go d) (λ w. does_doits i go w ds)
+  -- do-its in order; v is the value of the one before
+  abbrev pub does_doits : ImageOf Name → Go w → Value → List (DoItOf Name) → w.Act Value
+  does_doits i go v [] = w.gives v
+  does_doits i go v (d ∷ ds) = w.and_then (does_doit i go d) (λ u. does_doits i go u ds)
+
+  -- the do-its of an image in order, with so much depth
+  abbrev pub does_all : ImageOf Name → ℕ → w.Act Value
+  does_all i d = does_doits i (eval w i d) nil_value i.doits
 
 -- what the do-its of an image come to with so much depth and so many ticks
 abbrev pub comes_to : ImageOf Name → ℕ → ℕ → Result Value
-comes_to i d n = does_doits i (eval i d) nil_value i.doits (start n)
+comes_to i d n = does_all acts i d (start n)
 
 -- the same with the evaluator that has depth enough for its ticks
 abbrev pub comes_to_at_last : ImageOf Name → ℕ → Result Value
-comes_to_at_last i n = does_doits i (evaluates i) nil_value i.doits (start n)
+comes_to_at_last i n = does_doits acts i (evaluates i) nil_value i.doits (start n)
 
 -- fewer ticks are left than b where evaluation goes on, and none where it is spent
 abbrev pub IsWithin : {A : Type 0} → ℕ → Result A → Type 0

@@ -7,6 +7,7 @@ ghost use Rattle.image_model.specs.Image.{ImageOf};
 ghost use Rattle.run_model.specs.Values.{Name, Event, Outcome, spent};
 ghost use Rattle.run_model.specs.Prefixes.{IsPrefixOf};
 ghost use Rattle.run_model.specs.Store.{Store};
+ghost use Rattle.run_model.specs.Acts.{acts};
 ghost use Rattle.run_model.specs.Shapes.{is_message, shape_of};
 ghost use Rattle.run_model.specs.Eval.{Task, step, evaluates};
 ghost use Rattle.run_model.specs.Runs.{run_to, run, has_ended, seen, comes_to_at_last, IsWithin};
@@ -29,7 +30,7 @@ pub fn law_depth()
 /// With depth enough for the ticks that are left, evaluation is one step of itself, and a run is that of this evaluator.
 /// It leaves fewer ticks than there were where a node gives a value or a return, and none where it is spent.
 pub fn law_evaluates()
-    ensures step { (i : ImageOf Name) (t : Task) (s : Store) → evaluates i t s ≡ step i (evaluates i) t s }
+    ensures step { (i : ImageOf Name) (t : Task) (s : Store) → evaluates i t s ≡ step acts i (evaluates i) t s }
     ensures run { (i : ImageOf Name) (n : ℕ) → run i n ≡ seen n (comes_to_at_last i n) }
     ensures ticks { (i : ImageOf Name) (t : Task) (s : Store) → IsWithin s.ticks (evaluates i t s) }
 {}
