@@ -1,5 +1,5 @@
 -- A relation of acts that each word keeps is kept by every evaluation.
-use Rattle.std.specs.Prelude.{ℕ, Bool, true, false, if◌then◌else◌, nat_lt, List, [], ◌∷◌, ◌++◌, length, Option, Some, None, codes}
+use Rattle.std.specs.Prelude.{ℕ, zero, suc, Bool, true, false, if◌then◌else◌, nat_lt, List, [], ◌∷◌, ◌++◌, length, Option, Some, None, codes}
 use Rattle.rb_base.specs.Names.{text_eq}
 use Rattle.scope_model.specs.SpecialNames.{is_pseudo_variable}
 use Rattle.tree_model.specs.Tree.{LiteralOf, number, str, symbol, char, array, bytes, word, LiteralsOf, no_literals, more_literals, TreeOf, var, literal, send, cascade, assign, block, brace, return, TreesOf, no_trees, more_trees, MessagesOf, no_messages, more_messages, StatementsOf, no_statements, more_statements, SequenceOf}
@@ -15,8 +15,8 @@ use Rattle.run_model.specs.Views.{is_meta}
 use Rattle.run_model.specs.Calls.{PrimResult, answers, faults, enters}
 use Rattle.run_model.specs.Reading.{binding_of, meaning_of, reads_pseudo, reads_meaning, reads_binding, reads, assigns_meaning, assigns_binding, assigns}
 use Rattle.run_model.specs.Shapes.{Branch, runs, is_just, Shape, two_ways, loops, a_message, shape_of}
-use Rattle.run_model.specs.Eval.{Task, node, turn, Go, gives_integer, literal_value, literal_values, statements, values, inside, held, in_cells, sequence, in_place, enters_with, tells_any, follows, outermost, does_body, does, runs_found, message, is_super, sends, chooses, takes, does_send, goes_on, does_turn, messages, returns_home, does_node, step}
-use Rattle.run_model.specs.Runs.{doit_class, does_doit, does_doits}
+use Rattle.run_model.specs.Eval.{Task, node, turn, Go, gives_integer, literal_value, literal_values, statements, values, inside, held, in_cells, sequence, in_place, enters_with, tells_any, follows, outermost, does_body, does, runs_found, message, is_super, sends, chooses, takes, does_send, goes_on, does_turn, messages, returns_home, does_node, step, eval}
+use Rattle.run_model.specs.Runs.{doit_class, does_doit, does_doits, does_all}
 
 -- each word keeps the relation
 pub record IsCongruence (w v : Words) (Rel : (A : Type 0) → w.Act A → v.Act A → Type 0) : Type 1 where
@@ -241,3 +241,13 @@ module _ (w w' : Words) (Rel : (A : Type 0) → w.Act A → w'.Act A → Type 0)
         pub step-Rel : (t : Task) → Rel Value (step w i go t) (step w' i go' t)
         step-Rel (node f t) = ok.chained _ _ _ _ _ _ (ok.paid _ _ _) (λ u. does_node-Rel f t)
         step-Rel (turn f sense a b) = does_turn-Rel f sense a b
+
+  module _ (stopped : Rel Value w.stops w'.stops) (i : ImageOf Name) where
+    -- evaluation with the same depth
+    pub eval-Rel : (d : ℕ) (t : Task) → Rel Value (eval w i d t) (eval w' i d t)
+    eval-Rel zero t = stopped
+    eval-Rel (suc d) t = step-Rel (eval w i d) (eval w' i d) (λ f n. eval-Rel d _) i (λ f sense a b. eval-Rel d _) t
+
+    -- all do-its with the same depth
+    pub does_all-Rel : (d : ℕ) → Rel Value (does_all w i d) (does_all w' i d)
+    does_all-Rel d = does_doits-Rel (eval w i d) (eval w' i d) (λ f n. eval-Rel d _) i nil_value i.doits

@@ -1,10 +1,10 @@
 mod SmallImages
 mod ExpressionExamples
 mod ProgramExamples
-mod Congruence
-mod MoreTicks
-mod Depth
-mod Finite
+pub mod Congruence
+pub mod MoreTicks
+pub mod Depth
+pub mod Finite
 mod ControlLemmas
-mod RenamingLemmas
+pub mod RenamingLemmas
 mod MatchedLemmas

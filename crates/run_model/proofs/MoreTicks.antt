@@ -108,8 +108,7 @@ extends k = record {
 -- with the same depth
 eval-same_depth : (i : ImageOf Name) (k d : ℕ) (t : Task) → IsExtension k Value (eval acts i d t) (eval acts i d t)
 unfolding stops
-eval-same_depth i k zero t = record { same = λ s. same-prefix s.events; grows = λ s. same-prefix s.events }
-eval-same_depth i k (suc d) t = Congruence.step-Rel acts acts (IsExtension k) (extends k) (eval acts i d) (eval acts i d) (λ f n. eval-same_depth i k d _) i (λ f sense a b. eval-same_depth i k d _) t
+eval-same_depth i k d t = Congruence.eval-Rel acts acts (IsExtension k) (extends k) (record { same = λ s. same-prefix s.events; grows = λ s. same-prefix s.events }) i d t
 
 -- with more depth
 eval-extends : (i : ImageOf Name) (k d e : ℕ) → d ≤ e → (t : Task) → IsExtension k Value (eval acts i d t) (eval acts i e t)
