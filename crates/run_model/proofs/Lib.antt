@@ -6,5 +6,6 @@ pub mod MoreTicks
 pub mod Depth
 pub mod Finite
 mod ControlLemmas
+mod LayoutLemmas
 pub mod RenamingLemmas
 mod MatchedLemmas

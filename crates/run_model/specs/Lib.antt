@@ -10,6 +10,7 @@ pub mod IntegerPrimitives
 pub mod SequencePrimitives
 pub mod Primitives
 pub mod Reading
+pub mod Layouts
 pub mod Shapes
 pub mod Eval
 pub mod Prefixes

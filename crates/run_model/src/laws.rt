@@ -1,16 +1,22 @@
 // Laws of runs. Each function does nothing; its contract is the law, for all images whose names are texts.
-ghost use Rattle.std.specs.Prelude.{◌≡◌, ◌≤◌, ◌+◌, ◌*◌, ℕ, List, IsTrue, not};
+ghost use Rattle.std.specs.Prelude.{◌≡◌, ◌≤◌, ◌+◌, ◌*◌, ◌∷◌, ◌++◌, [], ℕ, List, length, IsTrue, not, false, Some};
 ghost use Rattle.tree_model.specs.Tree.{TreeOf, TreesOf};
 ghost use Rattle.scope_model.specs.SpecialNames.{control_form};
 ghost use Rattle.scope_model.specs.Control.{meets};
-ghost use Rattle.image_model.specs.Image.{ImageOf};
-ghost use Rattle.run_model.specs.Values.{Name, Event, Outcome, spent};
+ghost use Rattle.image_model.specs.Image.{EntryOf, DoItOf, ImageOf};
+ghost use Rattle.image_model.specs.Words.{text_words};
+ghost use Rattle.image_model.specs.Means.{means, means_in_doit};
+ghost use Rattle.tree_model.specs.Path.{part_among, statement_trees};
+ghost use Rattle.scope_model.specs.Scope.{ScopeOf, PlacedScope, method_scope, doit_scope, own_scope, scopes_round};
+ghost use Rattle.run_model.specs.Reading.{reads};
+ghost use Rattle.run_model.specs.Layouts.{IsLaidOut, ReadsAs};
+ghost use Rattle.run_model.specs.Values.{Name, Value, Event, Outcome, spent};
 ghost use Rattle.run_model.specs.Prefixes.{IsPrefixOf};
-ghost use Rattle.run_model.specs.Store.{Store};
+ghost use Rattle.run_model.specs.Store.{Frame, Store};
 ghost use Rattle.run_model.specs.Acts.{acts};
 ghost use Rattle.run_model.specs.Shapes.{is_message, shape_of};
-ghost use Rattle.run_model.specs.Eval.{Task, step, evaluates};
-ghost use Rattle.run_model.specs.Runs.{run_to, run, has_ended, seen, comes_to_at_last, IsWithin};
+ghost use Rattle.run_model.specs.Eval.{Task, step, evaluates, held, in_cells, inside};
+ghost use Rattle.run_model.specs.Runs.{doit_class, run_to, run, has_ended, seen, comes_to_at_last, IsWithin};
 ghost use Rattle.run_model.specs.Renamings.{Renaming, no_renaming, IsComposite, composed, renamed_events, renamed_outcome};
 ghost use Rattle.run_model.specs.Matched.{AreMatched};
 
@@ -38,6 +44,26 @@ pub fn law_evaluates()
 /// A send has the shape of a message exactly where it is no control send by its selector, receiver and arguments.
 pub fn law_control_sends()
     ensures { (s : Name) (r : TreeOf Name) (args : TreesOf Name) → is_message (shape_of s r args) ≡ not (meets (control_form s) r args) }
+{}
+
+/// Reading a name by the environment is reading what it means at its place, where the environment is laid out as the
+/// scopes round the place declare names: arguments with values and temporaries with cells. An environment that is laid out
+/// for some scopes is so for one more when that is entered with as many values as it has arguments; and the scopes round
+/// a part are those round the node above it, with that node where it is a block.
+pub fn law_names_at_places()
+    ensures method { (i : ImageOf Name) (m : EntryOf Name) (path : List ℕ) (f : Frame) (n : Name) →
+        f.home.class ≡ m.class → f.home.meta ≡ m.meta → IsLaidOut (scopes_round (method_scope m.tree) path) f.slots →
+        ReadsAs acts f n (means text_words i m path n) (reads acts i f n) }
+    ensures doit { (i : ImageOf Name) (d : DoItOf Name) (path : List ℕ) (f : Frame) (n : Name) →
+        f.home.class ≡ doit_class i → f.home.meta ≡ false → IsLaidOut (scopes_round (doit_scope d.body) path) f.slots →
+        ReadsAs acts f n (means_in_doit text_words i d path n) (reads acts i f n) }
+    ensures entered { (ps : List (PlacedScope Name)) (f : Frame) (d : ℕ) (scope : ScopeOf Name) (vs : List Value) (k : ℕ) →
+        length scope.arguments ≡ length vs → IsLaidOut ps f.slots →
+        IsLaidOut ((d, scope) ∷ ps) (inside f (held scope.arguments vs ++ in_cells scope.temporaries k)).slots }
+    ensures statement { (scope : ScopeOf Name) (k : ℕ) → scopes_round scope (k ∷ []) ≡ (0, scope) ∷ [] }
+    ensures part { (scope : ScopeOf Name) (path : List ℕ) (u : TreeOf Name) (k : ℕ) →
+        part_among (statement_trees scope.statements) path ≡ Some u →
+        scopes_round scope (path ++ k ∷ []) ≡ own_scope (length path) u ++ scopes_round scope path }
 {}
 
 /// Two renamings one after the other are one renaming, of finite maps; and what is seen of a run is renamed by it as by

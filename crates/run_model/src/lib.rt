@@ -6,6 +6,6 @@
 mod laws;
 
 pub use laws::{
-    law_control_sends, law_depth, law_evaluates, law_matched, law_more_ticks,
+    law_control_sends, law_depth, law_evaluates, law_matched, law_more_ticks, law_names_at_places,
     law_renamings_composed,
 };
