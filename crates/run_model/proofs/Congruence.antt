@@ -1,4 +1,4 @@
--- A relation of acts that each word keeps is kept by every evaluation.
+-- A relation of acts that each operation keeps is kept by every evaluation.
 use Rattle.std.specs.Prelude.{ℕ, zero, suc, Bool, true, false, if◌then◌else◌, nat_lt, List, [], ◌∷◌, ◌++◌, length, Option, Some, None, codes}
 use Rattle.rb_base.specs.Names.{text_eq}
 use Rattle.scope_model.specs.SpecialNames.{is_pseudo_variable}
@@ -9,17 +9,17 @@ use Rattle.image_model.specs.Lookup.{lookup, super_lookup}
 use Rattle.image_model.specs.Means.{of_instance, of_class_side, of_class, MeaningOf, pseudo, argument, temporary, variable, a_class, transcript, undeclared}
 use Rattle.run_model.specs.Values.{Name, Value, nil_value, true_value, false_value, int_value, char_value, string_value, symbol_value, class_value, object_value, array_value, closure_value, transcript_value, Event, RunError}
 use Rattle.run_model.specs.Store.{Binding, holds, in_cell, Frame, Closure, Memory}
-use Rattle.run_model.specs.Words.{Words}
+use Rattle.run_model.specs.Operations.{Operations}
 use Rattle.run_model.specs.Numbers.{numeral_integer}
 use Rattle.run_model.specs.Views.{is_meta}
 use Rattle.run_model.specs.Calls.{PrimResult, answers, faults, enters}
 use Rattle.run_model.specs.Reading.{binding_of, meaning_of, reads_pseudo, reads_meaning, reads_binding, reads, assigns_meaning, assigns_binding, assigns}
 use Rattle.run_model.specs.Shapes.{Branch, runs, is_just, Shape, two_ways, loops, a_message, shape_of}
-use Rattle.run_model.specs.Eval.{Task, node, turn, Go, gives_integer, literal_value, literal_values, statements, values, inside, held, in_cells, sequence, in_place, enters_with, tells_any, follows, outermost, does_body, does, runs_found, message, is_super, sends, chooses, takes, does_send, goes_on, does_turn, messages, returns_home, does_node, step, eval}
+use Rattle.run_model.specs.Eval.{Task, node, turn, Evaluator, gives_integer, literal_value, literal_values, statements, values, inside, held, in_cells, sequence, in_place, enters_with, tells_any, follows, outermost, does_body, does, runs_found, message, is_super, sends, chooses, takes, does_send, goes_on, does_turn, messages, returns_home, does_node, step, eval}
 use Rattle.run_model.specs.Runs.{doit_class, does_doit, does_doits, does_all}
 
--- each word keeps the relation
-pub record IsCongruence (w v : Words) (Rel : (A : Type 0) → w.Act A → v.Act A → Type 0) : Type 1 where
+-- each operation keeps the relation
+pub record IsCongruence (w v : Operations) (Rel : (A : Type 0) → w.Act A → v.Act A → Type 0) : Type 1 where
   pub given : (A : Type 0) (a : A) → Rel A (w.gives a) (v.gives a)
   pub failed : (A : Type 0) (e : RunError) → Rel A (w.fails e) (v.fails e)
   pub returned : (A : Type 0) (h : ℕ) (x : Value) → Rel A (w.goes_home h x) (v.goes_home h x)
@@ -29,7 +29,7 @@ pub record IsCongruence (w v : Words) (Rel : (A : Type 0) → w.Act A → v.Act 
   pub paid : (A : Type 0) (n : ℕ) (a : A) → Rel A (w.pays n a) (v.pays n a)
   pub homed : (h : ℕ) (m : w.Act Value) (m' : v.Act Value) → Rel Value m m' → Rel Value (w.at_home h m) (v.at_home h m')
 
-module _ (w w' : Words) (Rel : (A : Type 0) → w.Act A → w'.Act A → Type 0) (ok : IsCongruence w w' Rel) where
+module _ (w w' : Operations) (Rel : (A : Type 0) → w.Act A → w'.Act A → Type 0) (ok : IsCongruence w w' Rel) where
   -- by a condition
   either : (A : Type 0) (b : Bool) (m : w.Act A) (m' : w'.Act A) (n : w.Act A) (n' : w'.Act A) → Rel A m m' → Rel A n n' → Rel A (if b then m else n) (if b then m' else n')
   either A true m m' n n' p q = p
@@ -137,7 +137,7 @@ module _ (w w' : Words) (Rel : (A : Type 0) → w.Act A → w'.Act A → Type 0)
   returns_home-Rel f v true = ok.returned _ _ _
   returns_home-Rel f v false = ok.failed _ _
 
-  module _ (go : Go w) (go' : Go w') (nodes : (f : Frame) (t : TreeOf Name) → Rel Value (go (node f t)) (go' (node f t))) where
+  module _ (go : Evaluator w) (go' : Evaluator w') (nodes : (f : Frame) (t : TreeOf Name) → Rel Value (go (node f t)) (go' (node f t))) where
     -- statements
     pub statements-Rel : (f : Frame) (v : Value) (ss : StatementsOf Name) → Rel Value (statements w go f v ss) (statements w' go' f v ss)
     statements-Rel f v no_statements = ok.given _ _

@@ -7,7 +7,7 @@ use Rattle.image_model.specs.Image.{ImageOf}
 use Rattle.run_model.specs.Values.{Name, Value, nil_value, spent}
 use Rattle.run_model.specs.Store.{Frame, Store, start, returns, ends_by, out_of_ticks, Result, fine, leaves, with_new_cells}
 use Rattle.run_model.specs.Acts.{Act, then_do, gives, fails, goes_home, and_then, with_memory, tells, pays, acts, ended, out_of_home, at_home}
-use Rattle.run_model.specs.Eval.{Task, node, turn, Go, statements, does_turn, does_node, step, eval, evaluates}
+use Rattle.run_model.specs.Eval.{Task, node, turn, Evaluator, statements, does_turn, does_node, step, eval, evaluates}
 use Rattle.run_model.specs.Runs.{comes_to, comes_to_at_last, IsWithin, outcome_of, seen, run_to, run, IsWithin}
 use Rattle.run_model.proofs.Congruence.{IsCongruence}
 use Rattle.run_model.proofs.Congruence
@@ -55,7 +55,7 @@ home-within b h (leaves (returns k v) s) w = by (nat_eq k h)
 home-within b h (leaves (ends_by e) s) w = w
 home-within b h (leaves out_of_ticks s) w = w
 
--- each word comes to the same with itself
+-- each operation comes to the same with itself
 agrees : (b : ℕ) → IsCongruence acts acts (Agree b)
 unfolding gives fails goes_home and_then with_memory tells pays at_home
 agrees b = record {
@@ -70,26 +70,26 @@ agrees b = record {
 }
 
 -- two evaluators come to the same at nodes with at most n ticks, and then fewer are left
-abbrev Nodes : ℕ → Go acts → Go acts → Type 0
+abbrev Nodes : ℕ → Evaluator acts → Evaluator acts → Type 0
 Nodes n go go' = (f : Frame) (t : TreeOf Name) (s : Store) → s.ticks ≤ n → IsSame s.ticks (go (node f t) s) (go' (node f t) s)
 
 -- the same at turns of loops with fewer than n ticks
-abbrev Turns : ℕ → Go acts → Go acts → Type 0
+abbrev Turns : ℕ → Evaluator acts → Evaluator acts → Type 0
 Turns n go go' = (f : Frame) (sense : Bool) (a b : SequenceOf Name) (s : Store) → s.ticks < n → IsSame s.ticks (go (turn f sense a b) s) (go' (turn f sense a b) s)
 
 -- nodes agree below n
-nodes-agree : (n : ℕ) (go go' : Go acts) → Nodes n go go' → (f : Frame) (t : TreeOf Name) → Agree n Value (go (node f t)) (go' (node f t))
+nodes-agree : (n : ℕ) (go go' : Evaluator acts) → Nodes n go go' → (f : Frame) (t : TreeOf Name) → Agree n Value (go (node f t)) (go' (node f t))
 nodes-agree n go go' nodes f t s l = wider s.ticks n _ _ (omega arith) (nodes f t s (omega arith))
 
 -- statements, of which the first takes a tick
-first-same : (n : ℕ) (go go' : Go acts) → Nodes n go go' → (f : Frame) (t : TreeOf Name) (ss : StatementsOf Name) (s : Store) → s.ticks ≡ n →
+first-same : (n : ℕ) (go go' : Evaluator acts) → Nodes n go go' → (f : Frame) (t : TreeOf Name) (ss : StatementsOf Name) (s : Store) → s.ticks ≡ n →
     IsSame n (then_do (go (node f t) s) (λ w. statements acts go f w ss)) (then_do (go' (node f t) s) (λ w. statements acts go' f w ss))
 first-same n go go' nodes f t ss s l =
     then-same n _ _ _ _ (wider s.ticks n _ _ (omega arith) (nodes f t s (omega arith)))
     (λ w s1 l1. Congruence.statements-Rel acts acts (Agree n) (agrees n) go go' (nodes-agree n go go' nodes) f w ss s1 l1)
 
 -- a turn: where its test gave a value it took a tick
-turn-same : (n : ℕ) (go go' : Go acts) → Nodes n go go' → Turns n go go' → (f : Frame) (sense : Bool) (ts : List Name) (ss : StatementsOf Name) (e : List (List ℕ)) (b : SequenceOf Name) (s : Store) → s.ticks ≡ n →
+turn-same : (n : ℕ) (go go' : Evaluator acts) → Nodes n go go' → Turns n go go' → (f : Frame) (sense : Bool) (ts : List Name) (ss : StatementsOf Name) (e : List (List ℕ)) (b : SequenceOf Name) (s : Store) → s.ticks ≡ n →
     IsSame n (does_turn acts go f sense (record { temporaries = ts; statements = ss; tail = e }) b s) (does_turn acts go' f sense (record { temporaries = ts; statements = ss; tail = e }) b s)
 unfolding gives fails and_then with_memory
 turn-same n go go' nodes turns f true ts no_statements e b s l = record { eq = refl; within = tt }
@@ -101,7 +101,7 @@ turn-same n go go' nodes turns f sense ts (more_statements c t ss) e b s l =
     (λ w s3 l3. wider s3.ticks n _ _ (omega arith) (turns f sense (record { temporaries = ts; statements = more_statements c t ss; tail = e }) b s3 l3)) s2 l2) s1 l1)
 
 -- a step at a node takes a tick first
-node-same : (i : ImageOf Name) (n : ℕ) (go go' : Go acts) → ((f : Frame) (t : TreeOf Name) → Agree n Value (go (node f t)) (go' (node f t))) → ((f : Frame) (sense : Bool) (a b : SequenceOf Name) → Agree n Value (go (turn f sense a b)) (go' (turn f sense a b))) →
+node-same : (i : ImageOf Name) (n : ℕ) (go go' : Evaluator acts) → ((f : Frame) (t : TreeOf Name) → Agree n Value (go (node f t)) (go' (node f t))) → ((f : Frame) (sense : Bool) (a b : SequenceOf Name) → Agree n Value (go (turn f sense a b)) (go' (turn f sense a b))) →
     (f : Frame) (t : TreeOf Name) (s : Store) → s.ticks ≡ n → IsSame n (step acts i go (node f t) s) (step acts i go' (node f t) s)
 unfolding and_then pays
 node-same i n go go' nodes turns f t s l = by (nat_le 1 s.ticks) refl

@@ -15,9 +15,9 @@ use Rattle.scope_model.specs.declared.local.Local.TheVariants.{Argument, Tempora
 use Rattle.image_model.specs.Image.{ClassOf, EntryOf, DoItOf, ImageOf}
 use Rattle.image_model.specs.Words.{text_words}
 use Rattle.image_model.specs.Means.{VariableKind, of_class, pseudo, variable, a_class, transcript, undeclared, means_outside, means_by, means, means_in_doit}
-use Rattle.run_model.specs.Values.{Name, Value}
+use Rattle.run_model.specs.Values.{Name, Value, nil_value}
 use Rattle.run_model.specs.Store.{Binding, holds, in_cell, Slot, Frame}
-use Rattle.run_model.specs.Words.{Words}
+use Rattle.run_model.specs.Operations.{Operations}
 use Rattle.run_model.specs.Reading.{binding_of, meaning_of, reads_pseudo, reads_meaning, reads_binding, reads}
 use Rattle.run_model.specs.Eval.{held, in_cells, inside}
 use Rattle.run_model.specs.Runs.{doit_class}
@@ -83,7 +83,7 @@ bound-local (p ∷ ps) slots n l =
     (bound-local ps l.rest n l.outer))
 
 -- what a name means outside the scopes, by what is found
-reads-found : (w : Words) (f : Frame) (n : Name) (kind : VariableKind) (o p q : Option (ClassOf Name)) (b : Bool) →
+reads-found : (w : Operations) (f : Frame) (n : Name) (kind : VariableKind) (o p q : Option (ClassOf Name)) (b : Bool) →
     let g = unwrap_or (option_or (option_map (λ (c : ClassOf Name). variable kind c.name) o) (option_or (option_map (λ (c : ClassOf Name). variable of_class c.name) p) (option_or (option_map (λ (c : ClassOf Name). a_class c.name) q) (if b then Some transcript else None)))) undeclared in
     ReadsAs w f n g (reads_meaning w f n g)
 reads-found w f n kind (Some c) p q b = refl
@@ -93,23 +93,23 @@ reads-found w f n kind None None None true = refl
 reads-found w f n kind None None None false = refl
 
 -- reading outside the scopes
-reads-outside : (w : Words) (i : ImageOf Name) (f : Frame) (n : Name) → ReadsAs w f n (meaning_of i f n) (reads_meaning w f n (meaning_of i f n))
+reads-outside : (w : Operations) (i : ImageOf Name) (f : Frame) (n : Name) → ReadsAs w f n (meaning_of i f n) (reads_meaning w f n (meaning_of i f n))
 reads-outside w i f n = reads-found w f n _ _ _ _ _
 
 -- reading by what the environment has
-reads-local : (w : Words) (i : ImageOf Name) (f : Frame) (n : Name) (l : Local) (o : Option Binding) → IsBoundAs l o → ReadsAs w f n (means_by l (meaning_of i f n)) (reads_binding w i f n o)
+reads-local : (w : Operations) (i : ImageOf Name) (f : Frame) (n : Name) (l : Local) (o : Option Binding) → IsBoundAs l o → ReadsAs w f n (means_by l (meaning_of i f n)) (reads_binding w i f n o)
 reads-local w i f n (Argument d) o h = (h.0, ap (reads_binding w i f n) h.1)
 reads-local w i f n (Temporary d) o h = (h.0, ap (reads_binding w i f n) h.1)
 reads-local w i f n NotLocal o h = subst (λ x. ReadsAs w f n (meaning_of i f n) (reads_binding w i f n x)) (sym h) (reads-outside w i f n)
 
 -- reading a name that may be a pseudo-variable
-reads-pseudo : (w : Words) (i : ImageOf Name) (f : Frame) (n : Name) (b : Bool) (l : Local) (o : Option Binding) → IsBoundAs l o →
+reads-pseudo : (w : Operations) (i : ImageOf Name) (f : Frame) (n : Name) (b : Bool) (l : Local) (o : Option Binding) → IsBoundAs l o →
     ReadsAs w f n (if b then pseudo else means_by (if b then NotLocal else l) (meaning_of i f n)) (if b then reads_pseudo w f n else reads_binding w i f n o)
 reads-pseudo w i f n true l o h = refl
 reads-pseudo w i f n false l o h = reads-local w i f n l o h
 
 -- reading in a scope whose method has this class and side
-reads-in_scope : (w : Words) (i : ImageOf Name) (scope : ScopeOf Name) (path : List ℕ) (f : Frame) (n : Name) (c : Option Name) (meta : Bool) → f.home.class ≡ c → f.home.meta ≡ meta → IsLaidOut (scopes_round scope path) f.slots →
+reads-in_scope : (w : Operations) (i : ImageOf Name) (scope : ScopeOf Name) (path : List ℕ) (f : Frame) (n : Name) (c : Option Name) (meta : Bool) → f.home.class ≡ c → f.home.meta ≡ meta → IsLaidOut (scopes_round scope path) f.slots →
     ReadsAs w f n (if is_pseudo_variable n then pseudo else means_by (local_in_scope text_eq is_pseudo_variable scope path n) (means_outside text_words i c meta n)) (reads w i f n)
 reads-in_scope w i scope path f n c meta e h l =
     subst (λ x. ReadsAs w f n (if is_pseudo_variable n then pseudo else means_by (local_in_scope text_eq is_pseudo_variable scope path n) (means_outside text_words i x meta n)) (reads w i f n)) e
@@ -117,23 +117,23 @@ reads-in_scope w i scope path f n c meta e h l =
     (reads-pseudo w i f n (is_pseudo_variable n) (local_by text_eq (scopes_round scope path) n) (binding_of f n) (bound-local (scopes_round scope path) f.slots n l)))
 
 -- reading in a method
-pub reads-method : (w : Words) (i : ImageOf Name) (m : EntryOf Name) (path : List ℕ) (f : Frame) (n : Name) → f.home.class ≡ m.class → f.home.meta ≡ m.meta → IsLaidOut (scopes_round (method_scope m.tree) path) f.slots → ReadsAs w f n (means text_words i m path n) (reads w i f n)
+pub reads-method : (w : Operations) (i : ImageOf Name) (m : EntryOf Name) (path : List ℕ) (f : Frame) (n : Name) → f.home.class ≡ m.class → f.home.meta ≡ m.meta → IsLaidOut (scopes_round (method_scope m.tree) path) f.slots → ReadsAs w f n (means text_words i m path n) (reads w i f n)
 reads-method w i m path f n e h l = reads-in_scope w i (method_scope m.tree) path f n m.class m.meta e h l
 
 -- reading in a do-it
-pub reads-doit : (w : Words) (i : ImageOf Name) (d : DoItOf Name) (path : List ℕ) (f : Frame) (n : Name) → f.home.class ≡ doit_class i → f.home.meta ≡ false → IsLaidOut (scopes_round (doit_scope d.body) path) f.slots → ReadsAs w f n (means_in_doit text_words i d path n) (reads w i f n)
+pub reads-doit : (w : Operations) (i : ImageOf Name) (d : DoItOf Name) (path : List ℕ) (f : Frame) (n : Name) → f.home.class ≡ doit_class i → f.home.meta ≡ false → IsLaidOut (scopes_round (doit_scope d.body) path) f.slots → ReadsAs w f n (means_in_doit text_words i d path n) (reads w i f n)
 reads-doit w i d path f n e h l = reads-in_scope w i (doit_scope d.body) path f n (doit_class i) false e h l
 
 -- the names of arguments with their values
-held-names : (ps : List Name) (vs : List Value) → length ps ≡ length vs → names_of (held ps vs) ≡ ps
-held-names [] vs e = refl
-held-names (p ∷ ps) [] e = absurd (omega (arith, e))
-held-names (p ∷ ps) (v ∷ vs) e = ap (λ ns. p ∷ ns) (held-names ps vs (omega (arith, e)))
+held-names : (ps : List Name) (vs : List Value) → names_of (held ps vs) ≡ ps
+held-names [] vs = refl
+held-names (p ∷ ps) [] = ap (λ ns. p ∷ ns) (held-names ps [])
+held-names (p ∷ ps) (v ∷ vs) = ap (λ ns. p ∷ ns) (held-names ps vs)
 
 -- arguments have values
 held-values : (ps : List Name) (vs : List Value) → AllByRecursion HoldsValue (held ps vs)
 held-values [] vs = tt
-held-values (p ∷ ps) [] = tt
+held-values (p ∷ ps) [] = ((nil_value, refl), held-values ps [])
 held-values (p ∷ ps) (v ∷ vs) = ((v, refl), held-values ps vs)
 
 -- the names of temporaries with their cells
@@ -146,15 +146,15 @@ cells-cells : (ts : List Name) (k : ℕ) → AllByRecursion IsInCell (in_cells t
 cells-cells [] k = tt
 cells-cells (t ∷ ts) k = ((k, refl), cells-cells ts (suc k))
 
--- a scope that is entered with as many values as arguments is laid out inside the others
-pub inside-laid_out : (ps : List (PlacedScope Name)) (f : Frame) (d : ℕ) (scope : ScopeOf Name) (vs : List Value) (k : ℕ) → length scope.arguments ≡ length vs → IsLaidOut ps f.slots →
+-- a scope that is entered is laid out inside the others
+pub inside-laid_out : (ps : List (PlacedScope Name)) (f : Frame) (d : ℕ) (scope : ScopeOf Name) (vs : List Value) (k : ℕ) → IsLaidOut ps f.slots →
     IsLaidOut ((d, scope) ∷ ps) (inside f (held scope.arguments vs ++ in_cells scope.temporaries k)).slots
-inside-laid_out ps f d scope vs k e l = record {
+inside-laid_out ps f d scope vs k l = record {
   arguments = held scope.arguments vs;
   temporaries = in_cells scope.temporaries k;
   rest = f.slots;
   all = append_assoc (held scope.arguments vs) (in_cells scope.temporaries k) f.slots;
-  argument_names = held-names scope.arguments vs e;
+  argument_names = held-names scope.arguments vs;
   temporary_names = cells-names scope.temporaries k;
   argument_values = held-values scope.arguments vs;
   temporary_cells = cells-cells scope.temporaries k;

@@ -88,7 +88,7 @@ home-same k h (leaves (returns j v) s) x' p = subst (λ y. IsSameLater k (out_of
 home-same k h (leaves (ends_by e) s) x' p = ap (out_of_home h) p
 home-same k h (leaves out_of_ticks s) x' p = home-grows s.events h x' p
 
--- each word does later what it does
+-- each operation does later what it does
 extends : (k : ℕ) → IsCongruence acts acts (IsExtension k)
 unfolding gives fails goes_home and_then with_memory tells pays at_home
 extends k = record {

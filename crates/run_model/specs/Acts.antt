@@ -1,7 +1,7 @@
 -- Acts that take a store and come to a result, which are those of runs.
 use Rattle.std.specs.Prelude.{ℕ, ◌-◌, nat_le, nat_eq, if◌then◌else◌, [], ◌∷◌, ◌++◌}
 use Rattle.run_model.specs.Values.{Value, Event, RunError}
-use Rattle.run_model.specs.Words.{Words}
+use Rattle.run_model.specs.Operations.{Operations}
 use Rattle.run_model.specs.Store.{Memory, Store, returns, ends_by, out_of_ticks, Result, fine, leaves, without_home}
 
 -- what may be done in a store
@@ -60,8 +60,8 @@ at_home h act s = out_of_home h (act s)
 unfoldable pub stops : {A : Type 0} → Act A
 stops s = leaves out_of_ticks s
 
--- the words of runs
-abbrev pub acts : Words
+-- the operations of runs
+abbrev pub acts : Operations
 acts = record {
   Act = Act;
   gives = gives;

@@ -1,4 +1,4 @@
--- What is evaluated and how: each step takes the evaluator of the parts below as an argument, and one definition at the end ties the knot by the depth that is left.
+-- What is evaluated and how: each step takes the evaluator of the parts below as an argument, and the evaluator itself stands at the end, by the depth that is left.
 use Rattle.std.specs.Prelude.{ℕ, ◌+◌, ◌*◌, ◌+◌, ◌*◌, ℤ, zero, suc, ◌∷◌, [], ◌++◌, nat_lt, if◌then◌else◌, Bool, true, false, List, length, slice_get, Option, Some, None, codes}
 use Rattle.rb_base.specs.Names.{text_eq}
 use Rattle.tree_model.specs.Tree.{LiteralOf, number, str, symbol, char, array, bytes, word, LiteralsOf, no_literals, more_literals, TreeOf, var, literal, send, cascade, assign, block, brace, return, TreesOf, no_trees, more_trees, MessagesOf, no_messages, more_messages, StatementsOf, no_statements, more_statements, SequenceOf}
@@ -7,7 +7,7 @@ use Rattle.image_model.specs.Words.{text_words}
 use Rattle.image_model.specs.Lookup.{lookup, super_lookup}
 use Rattle.run_model.specs.Values.{Name, Value, nil_value, true_value, false_value, int_value, char_value, string_value, symbol_value, class_value, object_value, array_value, closure_value, transcript_value, Event, does_not_understand, cannot_return, non_boolean, unsupported, bad_argument, too_long}
 use Rattle.run_model.specs.Store.{holds, in_cell, Slot, Frame, Closure, with_new_cells, with_closure, with_home, with_array, lives, arity_in}
-use Rattle.run_model.specs.Words.{Words, looks}
+use Rattle.run_model.specs.Operations.{Operations, looks}
 use Rattle.run_model.specs.Acts.{acts}
 use Rattle.run_model.specs.Numbers.{numeral_integer}
 use Rattle.run_model.specs.Views.{class_name_of, is_meta}
@@ -25,10 +25,10 @@ pub data Task : Type 0 where
 abbrev pub word_value : Name → Value
 word_value n = if text_eq n (codes "true") then true_value else if text_eq n (codes "false") then false_value else nil_value
 
--- arguments or parameters with their values
+-- arguments or parameters with their values; one without a value is nil, but no message that is spelled has fewer arguments than its selector demands
 abbrev pub held : List Name → List Value → List Slot
 held [] vs = []
-held (p ∷ ps) [] = []
+held (p ∷ ps) [] = record { name = p; binding = holds nil_value } ∷ held ps []
 held (p ∷ ps) (v ∷ vs) = record { name = p; binding = holds v } ∷ held ps vs
 
 -- temporaries with cells from a number on
@@ -55,10 +55,10 @@ is_super (block ps ts ss e) = false
 is_super (brace ts) = false
 is_super (return t) = false
 
-module _ (w : Words) where
+module _ (w : Operations) where
   -- an evaluator
-  abbrev pub Go : Type 0
-  Go = Task → w.Act Value
+  abbrev pub Evaluator : Type 0
+  Evaluator = Task → w.Act Value
 
   -- gives a new array of these values
   abbrev pub makes_new_array : List Value → w.Act Value
@@ -85,12 +85,12 @@ module _ (w : Words) where
     literal_values (more_literals l ls) = w.and_then (literal_value l) (λ v. w.and_then (literal_values ls) (λ vs. w.gives (v ∷ vs)))
 
   -- each statement in order; v is the value of the one before
-  abbrev pub statements : Go → Frame → Value → StatementsOf Name → w.Act Value
+  abbrev pub statements : Evaluator → Frame → Value → StatementsOf Name → w.Act Value
   statements go f v no_statements = w.gives v
   statements go f v (more_statements c t ss) = w.and_then (go (node f t)) (λ u. statements go f u ss)
 
   -- the values of trees from the left
-  abbrev pub values : Go → Frame → TreesOf Name → w.Act (List Value)
+  abbrev pub values : Evaluator → Frame → TreesOf Name → w.Act (List Value)
   values go f no_trees = w.gives []
   values go f (more_trees t ts) = w.and_then (go (node f t)) (λ v. w.and_then (values go f ts) (λ vs. w.gives (v ∷ vs)))
 
@@ -99,16 +99,16 @@ module _ (w : Words) where
   makes_cells ts = w.with_memory (λ m. (length m.cells, with_new_cells m ts))
 
   -- A sequence with parameters that have these values and with new cells for its temporaries; its value is that of its last statement, and nil where there is none.
-  abbrev pub sequence : Go → Frame → List Name → List Value → SequenceOf Name → w.Act Value
+  abbrev pub sequence : Evaluator → Frame → List Name → List Value → SequenceOf Name → w.Act Value
   sequence go f ps vs b =
       w.and_then (makes_cells b.temporaries) (λ k. statements go (inside f (held ps vs ++ in_cells b.temporaries k)) nil_value b.statements)
 
   -- a block that is run in place
-  abbrev pub in_place : Go → Frame → SequenceOf Name → w.Act Value
+  abbrev pub in_place : Evaluator → Frame → SequenceOf Name → w.Act Value
   in_place go f b = sequence go f [] [] b
 
   -- a closure is run with arguments
-  abbrev pub enters_with : Go → Option Closure → List Value → w.Act Value
+  abbrev pub enters_with : Evaluator → Option Closure → List Value → w.Act Value
   enters_with go (Some c) args = sequence go c.frame c.parameters args c.body
   enters_with go None args = w.fails (bad_argument 50)
 
@@ -118,14 +118,14 @@ module _ (w : Words) where
   tells_any None = w.gives nil_value
 
   -- what follows on what a primitive comes to: its ticks, then its event, then its change of the heap; or its fault; or the closure that it enters
-  abbrev pub follows : Go → List Value → PrimResult → w.Act Value
+  abbrev pub follows : Evaluator → List Value → PrimResult → w.Act Value
   follows go args (answers n told v h) =
       w.and_then (w.pays n nil_value) (λ u. w.and_then (tells_any told) (λ u. w.with_memory (λ m. (v, record m { heap = h }))))
   follows go args (faults e) = w.fails e
   follows go args (enters k) = w.and_then (looks w (λ m. slice_get m.closures k)) (λ c. enters_with go c args)
 
   -- the primitive of a number
-  abbrev pub does_primitive : ImageOf Name → Go → ℕ → Value → List Value → w.Act Value
+  abbrev pub does_primitive : ImageOf Name → Evaluator → ℕ → Value → List Value → w.Act Value
   does_primitive i go n v args =
       w.and_then (looks w (λ m. primitive (record { number = n; receiver = v; arguments = args; heap = m.heap; arity = arity_in m.closures; classes = i.classes })))
       (λ r. follows go args r)
@@ -135,31 +135,31 @@ module _ (w : Words) where
   makes_home = w.with_memory (λ m. (length m.homes, with_home m))
 
   -- a method without primitive: its statements in a new home, and then self
-  abbrev pub does_body : Go → EntryOf Name → Value → List Value → w.Act Value
+  abbrev pub does_body : Evaluator → EntryOf Name → Value → List Value → w.Act Value
   does_body go m v args =
       w.and_then makes_home (λ h. w.at_home h (w.and_then (sequence go (outermost m.class m.meta v h) m.tree.arguments args m.tree.body) (λ u. w.gives v)))
 
   -- a method is run: its primitive, or its statements
-  abbrev pub does : ImageOf Name → Go → Option ℕ → EntryOf Name → Value → List Value → w.Act Value
+  abbrev pub does : ImageOf Name → Evaluator → Option ℕ → EntryOf Name → Value → List Value → w.Act Value
   does i go (Some n) m v args = does_primitive i go n v args
   does i go None m v args = does_body go m v args
 
   -- the method that was found is run; where there is none the receiver does not understand
-  abbrev pub runs_found : ImageOf Name → Go → Option (EntryOf Name) → Value → Name → List Value → w.Act Value
+  abbrev pub runs_found : ImageOf Name → Evaluator → Option (EntryOf Name) → Value → Name → List Value → w.Act Value
   runs_found i go (Some m) v s args = does i go m.tree.primitive m v args
   runs_found i go None v s args = w.and_then (looks w (λ m. class_name_of m.heap v)) (λ c. w.fails (does_not_understand c (is_meta v) s))
 
   -- a message to a value
-  abbrev pub message : ImageOf Name → Go → Value → Name → List Value → w.Act Value
+  abbrev pub message : ImageOf Name → Evaluator → Value → Name → List Value → w.Act Value
   message i go v s args =
       w.and_then (looks w (λ m. class_name_of m.heap v)) (λ c. runs_found i go (lookup text_words i (Some c) (is_meta v) s) v s args)
 
   -- a message to `super`, from the class and side of the running method
-  abbrev pub super_message : ImageOf Name → Go → Frame → Value → Name → List Value → w.Act Value
+  abbrev pub super_message : ImageOf Name → Evaluator → Frame → Value → Name → List Value → w.Act Value
   super_message i go f v s args = runs_found i go (super_lookup text_words i f.home.class f.home.meta s) v s args
 
   -- the message of a send to a receiver
-  abbrev pub sends : ImageOf Name → Go → Frame → TreeOf Name → Value → Name → List Value → w.Act Value
+  abbrev pub sends : ImageOf Name → Evaluator → Frame → TreeOf Name → Value → Name → List Value → w.Act Value
   sends i go f r v s args = if is_super r then super_message i go f v s args else message i go v s args
 
   -- the first act for true, the second for false; any other value is no Boolean
@@ -178,12 +178,12 @@ module _ (w : Words) where
   chooses transcript_value a b = w.fails non_boolean
 
   -- a branch
-  abbrev pub takes : Go → Frame → Branch → w.Act Value
+  abbrev pub takes : Evaluator → Frame → Branch → w.Act Value
   takes go f (runs b) = in_place go f b
   takes go f (is_just v) = w.gives v
 
   -- a send by its shape: receiver, then the branch that it chooses; a loop; or receiver, arguments and then the message
-  abbrev pub does_send : ImageOf Name → Go → Frame → TreeOf Name → Name → TreesOf Name → Shape → w.Act Value
+  abbrev pub does_send : ImageOf Name → Evaluator → Frame → TreeOf Name → Name → TreesOf Name → Shape → w.Act Value
   does_send i go f r s args (two_ways a b) = w.and_then (go (node f r)) (λ v. chooses v (takes go f a) (takes go f b))
   does_send i go f r s args (loops sense a b) = go (turn f sense a b)
   does_send i go f r s args a_message = w.and_then (go (node f r)) (λ v. w.and_then (values go f args) (λ vs. sends i go f r v s vs))
@@ -194,11 +194,11 @@ module _ (w : Words) where
   goes_on false v again = chooses v (w.gives nil_value) again
 
   -- a turn of a loop: the test, and where it goes on the body and the next turn; then nil
-  abbrev pub does_turn : Go → Frame → Bool → SequenceOf Name → SequenceOf Name → w.Act Value
+  abbrev pub does_turn : Evaluator → Frame → Bool → SequenceOf Name → SequenceOf Name → w.Act Value
   does_turn go f sense a b = w.and_then (in_place go f a) (λ v. goes_on sense v (w.and_then (in_place go f b) (λ u. go (turn f sense a b))))
 
   -- each message of a cascade to a receiver with its arguments, in order; x is the value of the one before
-  abbrev pub messages : ImageOf Name → Go → Frame → Value → Value → MessagesOf Name → w.Act Value
+  abbrev pub messages : ImageOf Name → Evaluator → Frame → Value → Value → MessagesOf Name → w.Act Value
   messages i go f v x no_messages = w.gives x
   messages i go f v x (more_messages s args ms) =
       w.and_then (values go f args) (λ vs. w.and_then (message i go v s vs) (λ u. messages i go f v u ms))
@@ -217,7 +217,7 @@ module _ (w : Words) where
   returns_home f v false = w.fails cannot_return
 
   -- a node, once its tick is taken
-  abbrev pub does_node : ImageOf Name → Go → Frame → TreeOf Name → w.Act Value
+  abbrev pub does_node : ImageOf Name → Evaluator → Frame → TreeOf Name → w.Act Value
   does_node i go f (var n) = reads w i f n
   does_node i go f (literal l) = literal_value l
   does_node i go f (send r s args) = does_send i go f r s args (shape_of s r args)
@@ -228,15 +228,15 @@ module _ (w : Words) where
   does_node i go f (return t) = w.and_then (go (node f t)) (λ v. w.and_then (looks w (λ m. lives m f.home.number)) (λ b. returns_home f v b))
 
   -- one step: a node takes a tick first, a turn takes none
-  abbrev pub step : ImageOf Name → Go → Go
+  abbrev pub step : ImageOf Name → Evaluator → Evaluator
   step i go (node f t) = w.and_then (w.pays 1 nil_value) (λ u. does_node i go f t)
   step i go (turn f sense a b) = does_turn go f sense a b
 
   -- the evaluator with so much depth, which falls by one at each node and at each turn of a loop
-  abbrev pub eval : ImageOf Name → ℕ → Go
+  abbrev pub eval : ImageOf Name → ℕ → Evaluator
   eval i zero t = w.stops
   eval i (suc d) t = step i (eval i d) t
 
 -- the evaluator with depth enough for the ticks that are left
-unfoldable pub evaluates : ImageOf Name → Go acts
+unfoldable pub evaluates : ImageOf Name → Evaluator acts
 evaluates i t s = eval acts i (2 * s.ticks + 2) t s

@@ -7,7 +7,7 @@ use Rattle.scope_model.specs.declared.local.Local.TheVariants.{Argument, Tempora
 use Rattle.image_model.specs.Means.{MeaningOf, pseudo, argument, temporary, variable, a_class, transcript, undeclared}
 use Rattle.run_model.specs.Values.{Name, Value}
 use Rattle.run_model.specs.Store.{Binding, holds, in_cell, Slot, Frame, value_in_cell}
-use Rattle.run_model.specs.Words.{Words, looks}
+use Rattle.run_model.specs.Operations.{Operations, looks}
 use Rattle.run_model.specs.Reading.{reads_pseudo, reads_meaning}
 
 -- a slot has a value
@@ -36,7 +36,7 @@ IsLaidOut [] slots = slots ≡ []
 IsLaidOut (p ∷ ps) slots = IsLaidOutFor p.1 (IsLaidOut ps) slots
 
 -- what an act is that reads a name with a meaning: an argument its value, a temporary what is in its cell
-abbrev pub ReadsAs : (w : Words) → Frame → Name → MeaningOf Name → w.Act Value → Type 0
+abbrev pub ReadsAs : (w : Operations) → Frame → Name → MeaningOf Name → w.Act Value → Type 0
 ReadsAs w f n pseudo act = act ≡ reads_pseudo w f n
 ReadsAs w f n (argument scope) act = (v : Value) × (act ≡ w.gives v)
 ReadsAs w f n (temporary scope) act = (k : ℕ) × (act ≡ looks w (λ m. value_in_cell m k))

@@ -1,6 +1,6 @@
 pub mod Values
 pub mod Store
-pub mod Words
+pub mod Operations
 pub mod Acts
 pub mod Numbers
 pub mod Views

@@ -7,7 +7,7 @@ use Rattle.image_model.specs.Words.{text_words}
 use Rattle.image_model.specs.Means.{of_instance, of_class_side, of_class, MeaningOf, pseudo, argument, temporary, variable, a_class, transcript, undeclared, means_outside}
 use Rattle.run_model.specs.Values.{Name, Value, nil_value, true_value, false_value, class_value, transcript_value, undeclared_name, not_assignable, reflective}
 use Rattle.run_model.specs.Store.{Binding, holds, in_cell, Slot, Frame, value_of, same_pair, field_of, with_field, class_side_of, with_class_side, with_shared, with_cell, value_in_cell}
-use Rattle.run_model.specs.Words.{Words, looks, changes}
+use Rattle.run_model.specs.Operations.{Operations, looks, changes}
 
 -- what the innermost declaration of a name in the environment stands for
 abbrev pub binding_of : Frame → Name → Option Binding
@@ -17,7 +17,7 @@ binding_of f n = option_map (λ (e : Slot). e.binding) (find (λ (e : Slot). tex
 abbrev pub meaning_of : ImageOf Name → Frame → Name → MeaningOf Name
 meaning_of i f n = means_outside text_words i f.home.class f.home.meta n
 
-module _ (w : Words) where
+module _ (w : Operations) where
   -- the value of a pseudo-variable: `nil`, `true`, `false`, and what `self` is for `self` and `super`; `thisContext` is reflective
   abbrev pub reads_pseudo : Frame → Name → w.Act Value
   reads_pseudo f n =

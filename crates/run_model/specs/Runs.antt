@@ -4,22 +4,22 @@ use Rattle.image_model.specs.Image.{ClassOf, DoItOf, ImageOf}
 use Rattle.image_model.specs.Words.{text_words}
 use Rattle.run_model.specs.Values.{Name, Value, nil_value, Event, cannot_return, Outcome, done, failed, spent}
 use Rattle.run_model.specs.Store.{Store, start, returns, ends_by, out_of_ticks, Result, fine, leaves}
-use Rattle.run_model.specs.Words.{Words}
+use Rattle.run_model.specs.Operations.{Operations}
 use Rattle.run_model.specs.Acts.{acts}
 use Rattle.run_model.specs.Views.{view_of, run_text}
-use Rattle.run_model.specs.Eval.{Go, sequence, makes_home, outermost, eval, evaluates}
+use Rattle.run_model.specs.Eval.{Evaluator, sequence, makes_home, outermost, eval, evaluates}
 
 -- the class of which a do-it is read as a method: `UndefinedObject`
 abbrev pub doit_class : ImageOf Name → Option Name
 doit_class i = option_map (λ (c : ClassOf _). c.name) (find (λ c. text_words.is_undefined_object c.name) i.classes)
 
-module _ (w : Words) where
+module _ (w : Operations) where
   -- a do-it: its statements in a new home, where self is nil
-  abbrev pub does_doit : ImageOf Name → Go w → DoItOf Name → w.Act Value
+  abbrev pub does_doit : ImageOf Name → Evaluator w → DoItOf Name → w.Act Value
   does_doit i go d = w.and_then (makes_home w) (λ h. w.at_home h (sequence w go (outermost (doit_class i) false nil_value h) [] [] d.body))
 
   -- do-its in order; v is the value of the one before
-  abbrev pub does_doits : ImageOf Name → Go w → Value → List (DoItOf Name) → w.Act Value
+  abbrev pub does_doits : ImageOf Name → Evaluator w → Value → List (DoItOf Name) → w.Act Value
   does_doits i go v [] = w.gives v
   does_doits i go v (d ∷ ds) = w.and_then (does_doit i go d) (λ u. does_doits i go u ds)
 

@@ -48,8 +48,8 @@ pub fn law_control_sends()
 
 /// Reading a name by the environment is reading what it means at its place, where the environment is laid out as the
 /// scopes round the place declare names: arguments with values and temporaries with cells. An environment that is laid out
-/// for some scopes is so for one more when that is entered with as many values as it has arguments; and the scopes round
-/// a part are those round the node above it, with that node where it is a block.
+/// for some scopes is so for one more when that is entered; and the scopes round a part are those round the node above it,
+/// with that node where it is a block.
 pub fn law_names_at_places()
     ensures method { (i : ImageOf Name) (m : EntryOf Name) (path : List ℕ) (f : Frame) (n : Name) →
         f.home.class ≡ m.class → f.home.meta ≡ m.meta → IsLaidOut (scopes_round (method_scope m.tree) path) f.slots →
@@ -58,8 +58,7 @@ pub fn law_names_at_places()
         f.home.class ≡ doit_class i → f.home.meta ≡ false → IsLaidOut (scopes_round (doit_scope d.body) path) f.slots →
         ReadsAs acts f n (means_in_doit text_words i d path n) (reads acts i f n) }
     ensures entered { (ps : List (PlacedScope Name)) (f : Frame) (d : ℕ) (scope : ScopeOf Name) (vs : List Value) (k : ℕ) →
-        length scope.arguments ≡ length vs → IsLaidOut ps f.slots →
-        IsLaidOut ((d, scope) ∷ ps) (inside f (held scope.arguments vs ++ in_cells scope.temporaries k)).slots }
+        IsLaidOut ps f.slots → IsLaidOut ((d, scope) ∷ ps) (inside f (held scope.arguments vs ++ in_cells scope.temporaries k)).slots }
     ensures statement { (scope : ScopeOf Name) (k : ℕ) → scopes_round scope (k ∷ []) ≡ (0, scope) ∷ [] }
     ensures part { (scope : ScopeOf Name) (path : List ℕ) (u : TreeOf Name) (k : ℕ) →
         part_among (statement_trees scope.statements) path ≡ Some u →

@@ -93,7 +93,7 @@ paid-alike : {A : Type 0} (n : ℕ) (a : A) (s : Store) (b : Bool) →
 paid-alike n a s true = refl
 paid-alike n a s false = (no_memory, refl)
 
--- each word has its trace
+-- each operation has its trace
 traced : IsCongruence acts traces IsTraced
 unfolding gives fails goes_home and_then with_memory tells pays at_home
 traced = record {

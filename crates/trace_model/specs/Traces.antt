@@ -3,7 +3,7 @@ use Rattle.std.specs.Prelude.{ℕ, ◌-◌, nat_le, nat_eq, if◌then◌else◌,
 use Rattle.image_model.specs.Image.{ImageOf}
 use Rattle.run_model.specs.Values.{Name, Value, Event, RunError}
 use Rattle.run_model.specs.Store.{Memory, returns, ends_by, out_of_ticks, Result, fine, leaves, no_memory, without_home}
-use Rattle.run_model.specs.Words.{Words}
+use Rattle.run_model.specs.Operations.{Operations}
 use Rattle.run_model.specs.Runs.{does_all}
 
 -- what is seen of a run while it goes on: so many ticks are wanted, or an event is told
@@ -41,8 +41,8 @@ end_of_home h (returned k v m) = if nat_eq k h then gave v (without_home m h) el
 end_of_home h (failed_by e m) = failed_by e m
 end_of_home h (stopped m) = stopped m
 
--- the words of traces: each takes a memory
-abbrev pub traces : Words
+-- the operations of traces: each takes a memory
+abbrev pub traces : Operations
 traces = record {
   Act = λ A. Memory → Trace A;
   gives = λ a m. record { steps = []; end = gave a m };

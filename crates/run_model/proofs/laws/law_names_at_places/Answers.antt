@@ -9,7 +9,7 @@ pub returns-clause-doit : goal.returns-clause-doit
 returns-clause-doit g = λ i d path f n e h l. reads-doit acts i d path f n e h l
 
 pub returns-clause-entered : goal.returns-clause-entered
-returns-clause-entered g = λ ps f d scope vs k e l. inside-laid_out ps f d scope vs k e l
+returns-clause-entered g = λ ps f d scope vs k l. inside-laid_out ps f d scope vs k l
 
 pub returns-clause-statement : goal.returns-clause-statement
 returns-clause-statement g = λ scope k. round-statement scope k
