@@ -1,6 +1,7 @@
 mod SmallImages
 mod ExpressionExamples
 mod ProgramExamples
+mod SequenceExamples
 pub mod Congruence
 pub mod MoreTicks
 pub mod Depth
