@@ -9,4 +9,4 @@ pub mod Finite
 mod ControlLemmas
 mod LayoutLemmas
 pub mod RenamingLemmas
-mod MatchedLemmas
+pub mod MatchedLemmas
