@@ -120,8 +120,7 @@ impl Reader {
             BlockPart::Start => self.take_block_start(alloc, token),
             BlockPart::Parameter { parameters } => self.take_parameter(alloc, parameters, token),
             BlockPart::BehindParameter { parameters } => self.take_behind_parameter(
-                parameters,
-                token,
+                parameters, token,
             ),
             BlockPart::Temporaries { parameters } => {
                 let temporaries = Declarations::new(alloc);

@@ -93,7 +93,9 @@ fn found_sequence(reader: Reader) -> SequenceEvents
 {
     let Reader { events, head, .. } = reader;
     let Head {
-        temporaries, tail, ..
+        temporaries,
+        tail,
+        ..
     } = head;
     SequenceEvents {
         temporaries,

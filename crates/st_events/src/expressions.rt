@@ -134,11 +134,7 @@ impl Reader {
                 token,
             ),
             ExpressionPart::BehindName { from, to, name } => self.take_behind_name(
-                alloc,
-                from,
-                to,
-                name,
-                token,
+                alloc, from, to, name, token,
             ),
             ExpressionPart::BehindValue { .. } => Ok(()),
         }

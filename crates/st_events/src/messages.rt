@@ -172,12 +172,7 @@ impl Reader {
     }
 
     /// A unary message in a binary message's argument that begins at a place.
-    fn take_of_binary(
-        &mut self,
-        alloc: Global,
-        from: usize,
-        token: Token<'_>,
-    ) -> Result<(), Memory>
+    fn take_of_binary(&mut self, alloc: Global, from: usize, token: Token<'_>) -> Result<(), Memory>
         ensures { IfOk result (λ _. self.new ≡ operator_taken (Part.Message (MessagePart.OfBinary from)) from (seen token.entry) token.entry.to self.old) }
     {
         match token.sort {
@@ -287,9 +282,9 @@ impl Reader {
     {
         let to = self.last;
         match part {
-            MessagePart::BehindArgument { from, selector } => self.emit(
-                message_event(from, to, selector, 1),
-            ),
+            MessagePart::BehindArgument { from, selector } => self.emit(message_event(
+                from, to, selector, 1,
+            )),
             MessagePart::BehindKeyword {
                 from,
                 selector,

@@ -40,11 +40,17 @@ pub enum ExpressionPart {
 #[derive(Drop)]
 pub enum MessagePart {
     /// The messages of an expression, and its cascade.
-    All { from: usize },
+    All {
+        from: usize,
+    },
     /// The messages of a keyword's argument.
-    OfKeyword { from: usize },
+    OfKeyword {
+        from: usize,
+    },
     /// The messages of a binary message's argument.
-    OfBinary { from: usize },
+    OfBinary {
+        from: usize,
+    },
     /// Behind the argument of a binary message, which stands in a cascade where there is no `from`.
     BehindArgument {
         from: Option<usize>,
@@ -59,7 +65,10 @@ pub enum MessagePart {
     /// A message behind a semicolon.
     InCascade,
     /// Behind a message of a cascade, of so many messages up to there.
-    BehindCascade { from: usize, messages: usize },
+    BehindCascade {
+        from: usize,
+        messages: usize,
+    },
 }
 
 /// Literals.
@@ -83,11 +92,17 @@ pub enum BlockPart {
     /// Behind the bracket.
     Start,
     /// A parameter behind its colon.
-    Parameter { parameters: Declarations },
+    Parameter {
+        parameters: Declarations,
+    },
     /// Behind a parameter.
-    BehindParameter { parameters: Declarations },
+    BehindParameter {
+        parameters: Declarations,
+    },
     /// Temporaries, or none.
-    Temporaries { parameters: Declarations },
+    Temporaries {
+        parameters: Declarations,
+    },
     /// Temporaries behind their first bar.
     Names {
         parameters: Declarations,

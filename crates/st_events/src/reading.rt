@@ -81,12 +81,7 @@ impl Reader {
     }
 
     /// Reads a token with these comments before it.
-    pub fn read(
-        &mut self,
-        alloc: Global,
-        token: Token<'_>,
-        notes: Comments,
-    ) -> Result<(), Memory>
+    pub fn read(&mut self, alloc: Global, token: Token<'_>, notes: Comments) -> Result<(), Memory>
         ensures { IfOk result (λ _. self.new ≡ step self.old.stack self.old (lex notes token.entry.from token.entry.to (seen token.entry))) }
     {
         let part = self.next_part(alloc, token.sort, token.from)?;

@@ -76,10 +76,7 @@ impl Reader {
                 self.push(Part::Expression(ExpressionPart::Whole))
             }
             Sort::GroupEnd | Sort::BlockEnd | Sort::BraceEnd | Sort::TextEnd => self.close(
-                alloc,
-                enclosure,
-                count,
-                token.to,
+                alloc, enclosure, count, token.to,
             ),
             _ => {
                 self.begin_statement(enclosure, count, from)?;
@@ -126,10 +123,7 @@ impl Reader {
     {
         match part {
             SequencePart::Statements { enclosure, count } => self.take_statement(
-                alloc,
-                enclosure,
-                count,
-                token,
+                alloc, enclosure, count, token,
             ),
             SequencePart::BehindStatement { from } => self.state(alloc, from),
             SequencePart::Items { from, count } => self.take_item(alloc, from, count, token),

@@ -6,7 +6,9 @@ ghost use Rattle.st_faults.specs.Sorts.{terminal};
 ghost use Rattle.st_events.specs.Classes.{is_name, is_keyword, is_operator, is_message, follows_name, is_declaring, opens_body};
 ghost use Rattle.st_events.specs.Steps.{takes};
 
-use crate::part::{BlockPart, ExpressionPart, HeadPart, LiteralPart, MessagePart, Part, SequencePart};
+use crate::part::{
+    BlockPart, ExpressionPart, HeadPart, LiteralPart, MessagePart, Part, SequencePart,
+};
 use st_faults::Sort;
 
 /// Whether a token of the sort is an identifier.

@@ -11,10 +11,7 @@ fn doits(rt: HostRuntime) {
     let cases: &[(&str, &str)] = &[
         ("", ""),
         ("\"c\" .", "c\"c\" "),
-        (
-            "a := b := 3",
-            "T0,a T5,b N3 L10,11, A5,11, A0,11, s0, ",
-        ),
+        ("a := b := 3", "T0,a T5,b N3 L10,11, A5,11, A0,11, s0, "),
         (
             "x foo: 3 + 4 bar: -5 neg",
             "V0,1,x N3 L7,8, N4 L11,12, S7,12,1,+ N-5 L18,20, S18,24,0,neg S0,24,2,foo:bar: s0, ",
@@ -39,14 +36,8 @@ fn doits(rt: HostRuntime) {
             "{1. 2.} size. ^{}",
             "N1 L1,2, N2 L4,5, R0,7,2, S0,12,0,size s0, R15,17,0, ^14,17, s14, ",
         ),
-        (
-            "\"h\" | a b | a",
-            "t6,a t8,b V12,13,a s12, c\"h\" ",
-        ),
-        (
-            "^a \"x\" . \"y\" .",
-            "V1,2,a ^0,2, s0, c\"x\" c\"y\" ",
-        ),
+        ("\"h\" | a b | a", "t6,a t8,b V12,13,a s12, c\"h\" "),
+        ("^a \"x\" . \"y\" .", "V1,2,a ^0,2, s0, c\"x\" c\"y\" "),
     ];
     for (text, shown) in cases {
         assert!(rt;
@@ -60,10 +51,7 @@ fn doits(rt: HostRuntime) {
 fn methods(rt: HostRuntime) {
     let cases: &[(&str, &str)] = &[
         ("+ other", "m+ a2,other "),
-        (
-            "at: i put: x <primitive: 61>",
-            "mat:put: a4,i a11,x P61, ",
-        ),
+        ("at: i put: x <primitive: 61>", "mat:put: a4,i a11,x P61, "),
         (
             "foo \"h\" | t | \"s\" ^t \"e\"",
             "mfoo c\"h\" t10,t V19,20,t ^18,20, s18, c\"s\" c\"e\" ",

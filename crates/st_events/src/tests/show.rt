@@ -40,7 +40,13 @@ fn put_names(
     names: &Declarations,
 ) -> Result<(), Memory> {
     for declaration in names.as_slice() {
-        put(alloc, out, label, &[declaration.from], declaration.name.as_slice())?;
+        put(
+            alloc,
+            out,
+            label,
+            &[declaration.from],
+            declaration.name.as_slice(),
+        )?;
     }
     Ok(())
 }
@@ -69,7 +75,13 @@ fn put_expression(alloc: Global, out: &mut Text, event: &Event) -> Result<(), Me
             to,
             selector,
             arguments,
-        } => put(alloc, out, "S", &[*from, *to, *arguments], selector.as_slice()),
+        } => put(
+            alloc,
+            out,
+            "S",
+            &[*from, *to, *arguments],
+            selector.as_slice(),
+        ),
         Event::Message {
             selector,
             arguments,

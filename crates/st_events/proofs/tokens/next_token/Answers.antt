@@ -24,7 +24,7 @@ comments-preserved c = record {
   inside = c.in-Ok.ensures.inside;
   left = λ ts lexed.
       subst (λ notes. IsLexedFrom c.args.text.now c.in-Ok.token.to notes ts) (sym (c.in_ok-push.ensures.ok ∙ ap (λ x. c.comments.notes ++ x ∷ []) c.in_ok-from_slice.ensures)) (
-        behind_comment c.args.text.now c.comments.place c.comments.notes ts (piece c.in-Ok.token) c.in-Ok.token.text.now c.begins_digit-before_numeral.result
-        c.in-Ok.ensures.token c.in-Ok.ensures.text c.in_default-sort_of.ensures (c.comments.invariant.left ts lexed)
+      behind_comment c.args.text.now c.comments.place c.comments.notes ts (piece c.in-Ok.token) c.in-Ok.token.text.now c.begins_digit-before_numeral.result
+      c.in-Ok.ensures.token c.in-Ok.ensures.text c.in_default-sort_of.ensures (c.comments.invariant.left ts lexed)
       );
 }

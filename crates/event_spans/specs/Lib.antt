@@ -1,0 +1,7 @@
+pub mod Answers
+pub mod Building
+pub mod Descent
+pub mod Nodes
+pub mod Preorder
+pub mod Runs
+pub mod Walk

@@ -1,0 +1,7 @@
+pub mod Lists
+pub mod Mapped
+pub mod Runs
+pub mod Known
+pub mod Making
+pub mod Named
+pub mod Whole

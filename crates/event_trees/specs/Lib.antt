@@ -1,0 +1,4 @@
+pub mod Stacks
+pub mod Held
+pub mod Naming
+pub mod Trees

@@ -1,0 +1,22 @@
+// The last items of a list.
+ghost use Rattle.std.specs.Prelude.{◌≡◌, IfOk, OnOk, option_to_list};
+ghost use Rattle.event_trees.specs.Stacks.{front, last};
+
+use rb_base::Memory;
+
+/// Takes the last items off, or all where there are fewer.
+pub fn take_last<T>(items: &mut Vec<T>, count: usize) -> Result<Vec<T>, Memory>
+    ensures kept { OnOk result (items.new.items ≡ front count items.old.items) }
+    ensures taken { IfOk result (λ taken. taken.items ≡ last count items.old.items) }
+{
+    let at = items.len().saturating_sub(count);
+    Ok(items.split_off(at)?)
+}
+
+/// Takes the last item off, where there is one.
+pub fn take_one<T>(items: &mut Vec<T>) -> Option<T>
+    ensures kept { items.new.items ≡ front 1 items.old.items }
+    ensures taken { last 1 items.old.items ≡ option_to_list result }
+{
+    items.pop()
+}

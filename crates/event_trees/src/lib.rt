@@ -1,0 +1,12 @@
+//! Trees from the events of a reading: what a text spells, built with stacks, so that nothing here calls itself.
+#![tactic(auto)]
+
+mod building;
+mod last;
+mod naming;
+mod sequences;
+mod stacks;
+#[cfg(test)]
+mod tests;
+
+pub use sequences::{build_doit, build_method};

@@ -1,0 +1,252 @@
+// The parts of a tree that wait for what they are part of.
+ghost use Rattle.std.specs.Prelude.{◌≡◌, OnOk};
+ghost use Rattle.tree_model.specs.Tree.{array, bytes, var, word};
+ghost use Rattle.st_tree.specs.LiteralView.{literal_of};
+ghost use Rattle.event_trees.specs.Stacks.{nothing, with_node, with_literal, with_array, with_operand, with_send, with_message, with_cascade, with_target, with_value, with_scope, with_block, with_brace, with_return, with_statement};
+ghost use Rattle.event_trees.specs.Held.{held};
+
+use crate::last::{take_last, take_one};
+use rb_base::{Ids, Memory, NameId};
+use st_tree::{
+    Comments, Literal, LiteralKind, Literals, Message, Messages, Node, NodeKind, Nodes, Sequence,
+    Statement, Statements,
+};
+use std::alloc::Global;
+
+/// What a block declares.
+#[derive(Drop)]
+pub struct Scope {
+    pub parameters: Ids,
+    pub temporaries: Ids,
+}
+
+/// The parts that wait, in the order in which they came.
+#[derive(Drop)]
+pub struct Stacks {
+    pub nodes: Vec<Node>,
+    pub literals: Vec<Literal>,
+    /// Messages of cascades.
+    pub messages: Vec<Message>,
+    pub statements: Vec<Statement>,
+    /// Variables of assignments that have no value yet.
+    pub targets: Vec<NameId>,
+    pub scopes: Vec<Scope>,
+}
+
+impl Stacks {
+    /// No part waits.
+    pub fn new(alloc: Global) -> Stacks
+        ensures { held result ≡ nothing }
+    {
+        Stacks {
+            nodes: Vec::new(alloc),
+            literals: Vec::new(alloc),
+            messages: Vec::new(alloc),
+            statements: Vec::new(alloc),
+            targets: Vec::new(alloc),
+            scopes: Vec::new(alloc),
+        }
+    }
+
+    /// A variable is one more node.
+    pub fn variable(&mut self, name: NameId) -> Result<(), Memory>
+        ensures { OnOk result (held self.new ≡ with_node (held self.old) (var name)) }
+    {
+        self.nodes.push(Node {
+            kind: NodeKind::Var { name },
+        })?;
+        Ok(())
+    }
+
+    /// One more literal.
+    pub fn literal(&mut self, kind: LiteralKind) -> Result<(), Memory>
+        ensures { OnOk result (held self.new ≡ with_literal (held self.old) (literal_of kind)) }
+    {
+        self.literals.push(Literal { kind })?;
+        Ok(())
+    }
+
+    /// `nil`, `true` or `false` in an array is one more literal.
+    pub fn word(&mut self, name: NameId) -> Result<(), Memory>
+        ensures { OnOk result (held self.new ≡ with_literal (held self.old) (word name)) }
+    {
+        self.literal(LiteralKind::Word { name })
+    }
+
+    /// The last literals become an array.
+    pub fn array(&mut self, count: usize) -> Result<(), Memory>
+        ensures { OnOk result (held self.new ≡ with_array array (held self.old) count) }
+    {
+        let items = Literals::from_vec(take_last(&mut self.literals, count)?);
+        self.literals.push(Literal {
+            kind: LiteralKind::Array { items },
+        })?;
+        Ok(())
+    }
+
+    /// The last literals become a byte array.
+    pub fn bytes(&mut self, count: usize) -> Result<(), Memory>
+        ensures { OnOk result (held self.new ≡ with_array bytes (held self.old) count) }
+    {
+        let items = Literals::from_vec(take_last(&mut self.literals, count)?);
+        self.literals.push(Literal {
+            kind: LiteralKind::Bytes { items },
+        })?;
+        Ok(())
+    }
+
+    /// The last literal becomes a node.
+    pub fn operand(&mut self) -> Result<(), Memory>
+        ensures { OnOk result (held self.new ≡ with_operand (held self.old)) }
+    {
+        if let Some(value) = take_one(&mut self.literals) {
+            self.nodes.push(Node {
+                kind: NodeKind::Literal { value },
+            })?;
+        }
+        Ok(())
+    }
+
+    /// The last nodes are the arguments of a message to the one before them.
+    pub fn send(&mut self, alloc: Global, selector: NameId, count: usize) -> Result<(), Memory>
+        ensures { OnOk result (held self.new ≡ with_send (held self.old) selector count) }
+    {
+        let arguments = Nodes::from_vec(take_last(&mut self.nodes, count)?);
+        if let Some(receiver) = take_one(&mut self.nodes) {
+            self.nodes.push(Node {
+                kind: NodeKind::Send {
+                    receiver: Box::new(alloc, receiver)?,
+                    selector,
+                    arguments,
+                },
+            })?;
+        }
+        Ok(())
+    }
+
+    /// The last nodes are the arguments of a message of a cascade.
+    pub fn message(&mut self, selector: NameId, count: usize) -> Result<(), Memory>
+        ensures { OnOk result (held self.new ≡ with_message (held self.old) selector count) }
+    {
+        let arguments = Nodes::from_vec(take_last(&mut self.nodes, count)?);
+        self.messages.push(Message {
+            selector,
+            arguments,
+        })?;
+        Ok(())
+    }
+
+    /// The last messages go to the last node.
+    pub fn cascade(&mut self, alloc: Global, count: usize) -> Result<(), Memory>
+        ensures { OnOk result (held self.new ≡ with_cascade (held self.old) count) }
+    {
+        let messages = Messages::from_vec(take_last(&mut self.messages, count)?);
+        if let Some(receiver) = take_one(&mut self.nodes) {
+            self.nodes.push(Node {
+                kind: NodeKind::Cascade {
+                    receiver: Box::new(alloc, receiver)?,
+                    messages,
+                },
+            })?;
+        }
+        Ok(())
+    }
+
+    /// One more variable of an assignment.
+    pub fn target(&mut self, name: NameId) -> Result<(), Memory>
+        ensures { OnOk result (held self.new ≡ with_target (held self.old) name) }
+    {
+        self.targets.push(name)?;
+        Ok(())
+    }
+
+    /// The last node is the value of the last target.
+    pub fn value(&mut self, alloc: Global) -> Result<(), Memory>
+        ensures { OnOk result (held self.new ≡ with_value (held self.old)) }
+    {
+        let target = take_one(&mut self.targets);
+        let value = take_one(&mut self.nodes);
+        if let Some(name) = target {
+            if let Some(value) = value {
+                self.nodes.push(Node {
+                    kind: NodeKind::Assign {
+                        name,
+                        value: Box::new(alloc, value)?,
+                    },
+                })?;
+            }
+        }
+        Ok(())
+    }
+
+    /// One more block is opened.
+    pub fn scope(&mut self, parameters: Ids, temporaries: Ids) -> Result<(), Memory>
+        ensures { OnOk result (held self.new ≡ with_scope (held self.old) parameters temporaries) }
+    {
+        self.scopes.push(Scope {
+            parameters,
+            temporaries,
+        })?;
+        Ok(())
+    }
+
+    /// The last statements and the last declarations become a block.
+    pub fn block(&mut self, alloc: Global, count: usize, tail: Comments) -> Result<(), Memory>
+        ensures { OnOk result (held self.new ≡ with_block (held self.old) count tail) }
+    {
+        let statements = Statements::from_vec(take_last(&mut self.statements, count)?);
+        if let Some(scope) = take_one(&mut self.scopes) {
+            let Scope {
+                parameters,
+                temporaries,
+            } = scope;
+            let body = Sequence {
+                temporaries,
+                statements,
+                tail,
+            };
+            self.nodes.push(Node {
+                kind: NodeKind::Block {
+                    parameters,
+                    body: Box::new(alloc, body)?,
+                },
+            })?;
+        }
+        Ok(())
+    }
+
+    /// The last nodes become a brace array.
+    pub fn brace(&mut self, count: usize) -> Result<(), Memory>
+        ensures { OnOk result (held self.new ≡ with_brace (held self.old) count) }
+    {
+        let items = Nodes::from_vec(take_last(&mut self.nodes, count)?);
+        self.nodes.push(Node {
+            kind: NodeKind::Brace { items },
+        })?;
+        Ok(())
+    }
+
+    /// The last node is returned.
+    pub fn returned(&mut self, alloc: Global) -> Result<(), Memory>
+        ensures { OnOk result (held self.new ≡ with_return (held self.old)) }
+    {
+        if let Some(value) = take_one(&mut self.nodes) {
+            self.nodes.push(Node {
+                kind: NodeKind::Return {
+                    value: Box::new(alloc, value)?,
+                },
+            })?;
+        }
+        Ok(())
+    }
+
+    /// The last node becomes a statement.
+    pub fn statement(&mut self, comments: Comments) -> Result<(), Memory>
+        ensures { OnOk result (held self.new ≡ with_statement (held self.old) comments) }
+    {
+        if let Some(node) = take_one(&mut self.nodes) {
+            self.statements.push(Statement { comments, node })?;
+        }
+        Ok(())
+    }
+}

@@ -1,0 +1,30 @@
+-- The tree of a read method is judged.
+use Rattle.std.proofs.Common.{ap}
+use Rattle.std.proofs.lemmas.Result.{err_from_is_err_and}
+use Rattle.parse_events.specs.declared.event.MethodEvents.{MethodEvents}
+use Rattle.st_reading.proofs.Judged.{method_refused}
+use Rattle.st_reading.proofs.reading.read_method.Goals as goal
+
+pub returns-in_err-check_tree-clause-fault : goal.returns-in_err-check_tree-clause-fault
+returns-in_err-check_tree-clause-fault c =
+    let r = c.in_ok-check_method.ensures.read in
+    let same = c.in_ok-found.ensures r.tokens r.grammar.0 r.lexed r.grammar.1 in
+    let p = err_from_is_err_and c.from_residual-in_err-check_tree.result c.from_residual-in_err-check_tree.ensures.1 in
+    rw (p.1, p.2) (method_refused c.args.kernel c.args.text.now r c.in_err-check_tree.field-0.0
+    (c.in_err-check_tree.ensures.fault r.grammar.0.arguments r.grammar.0.body (ap (λ (f : MethodEvents). f.arguments) same) (ap (λ (f : MethodEvents). f.body) same)))
+
+pub returns-clause-found : goal.returns-clause-found
+returns-clause-found c =
+    let r = c.in_ok-check_method.ensures.read in
+    let same = c.in_ok-found.ensures r.tokens r.grammar.0 r.lexed r.grammar.1 in
+    record {
+      tree = r.grammar.0;
+      spells = record {
+        tokens = r.tokens;
+        lexed = r.lexed;
+        shallow = r.shallow;
+        grammar = r.grammar.1;
+        sound = c.in_ok-check_tree.ensures.sound r.grammar.0.arguments r.grammar.0.body (ap (λ (f : MethodEvents). f.arguments) same) (ap (λ (f : MethodEvents). f.body) same);
+      };
+      same = same;
+    }
