@@ -1,0 +1,3 @@
+mod BareStores
+mod BareShapes
+mod BareRuns

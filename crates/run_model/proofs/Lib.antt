@@ -1,0 +1,12 @@
+mod SmallImages
+mod ExpressionExamples
+mod ProgramExamples
+mod SequenceExamples
+pub mod Congruence
+pub mod MoreTicks
+pub mod Depth
+pub mod Finite
+mod ControlLemmas
+mod LayoutLemmas
+pub mod RenamingLemmas
+pub mod MatchedLemmas
