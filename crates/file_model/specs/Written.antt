@@ -7,6 +7,7 @@ use Rattle.rb_base.specs.Doubling.{doubled}
 use Rattle.text_model.specs.Pieces.{pieces_joined}
 use Rattle.text_model.specs.Literals.{quoted_text}
 use Rattle.image_model.specs.Image.{ClassOf, EntryOf, DoItOf, ImageOf}
+use Rattle.file_model.specs.Changes.{RunOf}
 
 -- a source as a chunk: each mark in it doubled, and a mark behind it
 abbrev pub chunk_text : List ℕ → List ℕ
@@ -55,33 +56,36 @@ class_text c =
 abbrev pub doit_text : DoItOf (List ℕ) → List ℕ
 doit_text d = paragraph d.source
 
--- whether two methods stand in one run: they have one class, one side and one protocol
-abbrev pub is_one_run : EntryOf (List ℕ) → EntryOf (List ℕ) → Bool
-is_one_run m n =
-    text_eq (unwrap_or m.class []) (unwrap_or n.class []) && (beq m.meta n.meta && text_eq m.protocol n.protocol)
+-- the run in which a method stands: its class, its side and its protocol
+abbrev pub run_of : EntryOf (List ℕ) → RunOf (List ℕ)
+run_of m = record { class = unwrap_or m.class []; meta = m.meta; protocol = m.protocol }
+
+-- whether two runs are one
+abbrev pub is_one_run : RunOf (List ℕ) → RunOf (List ℕ) → Bool
+is_one_run q r = text_eq q.class r.class && (beq q.meta r.meta && text_eq q.protocol r.protocol)
 
 -- the class or the class side to which the methods of a run belong
-abbrev pub side_text : EntryOf (List ℕ) → List ℕ
-side_text m = unwrap_or m.class [] ++ (if m.meta then codes " class" else [])
+abbrev pub side_text : RunOf (List ℕ) → List ℕ
+side_text r = r.class ++ (if r.meta then codes " class" else [])
 
--- the beginning of the run of a method: a mark, and a chunk that names class, side and protocol
-abbrev pub run_start : EntryOf (List ℕ) → List ℕ
-run_start m = 33 ∷ chunk_text (side_text m ++ codes " methodsFor: " ++ quoted_text m.protocol) ++ 10 ∷ []
+-- the beginning of a run: a mark, and a chunk that names class, side and protocol
+abbrev pub run_start : RunOf (List ℕ) → List ℕ
+run_start r = 33 ∷ chunk_text (side_text r ++ codes " methodsFor: " ++ quoted_text r.protocol) ++ 10 ∷ []
 
 -- the end of a run: a blank chunk and an empty line
 abbrev pub run_end : List ℕ
 run_end = codes " !" ++ 10 ∷ 10 ∷ []
 
--- what stands before a method, behind the one before it, if there is one: an empty line in one run, else the beginning of its run
-abbrev pub method_opening : Option (EntryOf (List ℕ)) → EntryOf (List ℕ) → List ℕ
-method_opening None m = run_start m
-method_opening (Some before) m = if is_one_run before m then 10 ∷ 10 ∷ [] else run_end ++ run_start m
+-- what stands before a method of a run, behind a method of another or the same run, if there is one: an empty line in one run, else the beginning of the run
+abbrev pub method_opening : Option (RunOf (List ℕ)) → RunOf (List ℕ) → List ℕ
+method_opening None r = run_start r
+method_opening (Some before) r = if is_one_run before r then 10 ∷ 10 ∷ [] else run_end ++ run_start r
 
--- the methods behind one, if there is one, to the end of the last run
-abbrev pub methods_text : Option (EntryOf (List ℕ)) → List (EntryOf (List ℕ)) → List ℕ
+-- methods behind one of a run, if there is one, to the end of the last run
+abbrev pub methods_text : Option (RunOf (List ℕ)) → List (EntryOf (List ℕ)) → List ℕ
 methods_text None [] = []
 methods_text (Some before) [] = run_end
-methods_text before (m ∷ ms) = method_opening before m ++ chunk_text m.source ++ methods_text (Some m) ms
+methods_text before (m ∷ ms) = method_opening before (run_of m) ++ chunk_text m.source ++ methods_text (Some (run_of m)) ms
 
 -- the classes of the user, in order
 abbrev pub user_classes : ImageOf (List ℕ) → List (ClassOf (List ℕ))
