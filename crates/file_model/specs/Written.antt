@@ -81,10 +81,14 @@ abbrev pub method_opening : Option (RunOf (List ℕ)) → RunOf (List ℕ) → L
 method_opening None r = run_start r
 method_opening (Some before) r = if is_one_run before r then 10 ∷ 10 ∷ [] else run_end ++ run_start r
 
+-- the end of the last run, if there was one
+abbrev pub last_run_end : Option (RunOf (List ℕ)) → List ℕ
+last_run_end None = []
+last_run_end (Some before) = run_end
+
 -- methods behind one of a run, if there is one, to the end of the last run
 abbrev pub methods_text : Option (RunOf (List ℕ)) → List (EntryOf (List ℕ)) → List ℕ
-methods_text None [] = []
-methods_text (Some before) [] = run_end
+methods_text before [] = last_run_end before
 methods_text before (m ∷ ms) = method_opening before (run_of m) ++ chunk_text m.source ++ methods_text (Some (run_of m)) ms
 
 -- the classes of the user, in order
