@@ -121,44 +121,64 @@ no_form = Refuses UnknownDefinition
 abbrev pub superclass_named : Bool → List ℕ → Option (List ℕ)
 superclass_named kernel p = if kernel && text_eq p (codes "nil") then None else Some p
 
--- a definition by the bytes of its strings
-abbrev pub definition_form : Bool → List ℕ → List ℕ → List ℕ → List ℕ → List ℕ → List ℕ → Form
-definition_form kernel p n instance shared pools category =
+-- the strings of a definition: a symbol, and four strings
+pub record DefinitionStrings : Type 0 where
+  pub name : List ℕ
+  pub instance : List ℕ
+  pub shared : List ℕ
+  pub pools : List ℕ
+  pub category : List ℕ
+
+-- the strings of a definition, where the arguments are such
+abbrev pub definition_strings : List Argument → Option DefinitionStrings
+definition_strings (Symbol n ∷ String i ∷ String s ∷ String p ∷ String k ∷ []) =
+    Some (record { name = n; instance = i; shared = s; pools = p; category = k })
+definition_strings xs = None
+
+-- the argument, where there is one
+abbrev pub the_argument : List Argument → Argument
+the_argument [] = Other
+the_argument (x ∷ []) = x
+the_argument (x ∷ y ∷ xs) = Other
+
+-- a definition of a class under another
+abbrev pub definition_form : Bool → List ℕ → DefinitionStrings → Form
+definition_form kernel p d =
     option_map_or Refuses (first_cause
-    (when (not (may_name n && (may_name_all instance && may_name_all shared))) UnknownDefinition
-    ∷ when (not (is_blank_string pools)) PoolsNotEmpty ∷ []))
+      (when (not (may_name d.name && (may_name_all d.instance && may_name_all d.shared))) UnknownDefinition
+      ∷ when (not (is_blank_string d.pools)) PoolsNotEmpty ∷ []))
     (Changes (Define (record {
-      name = n;
+      name = d.name;
       superclass = superclass_named kernel p;
-      instance = words_of instance;
-      shared = words_of shared;
-      category = category;
+      instance = words_of d.instance;
+      shared = words_of d.shared;
+      category = d.category;
     })))
 
 -- `P subclass: #N instanceVariableNames: '..' classVariableNames: '..' poolDictionaries: '..' category: '..'`
-abbrev pub subclass_form : Bool → List ℕ → Bool → List Argument → Form
-subclass_form kernel p false (Symbol n ∷ String i ∷ String s ∷ String pools ∷ String category ∷ []) = definition_form kernel p n i s pools category
-subclass_form kernel p meta xs = no_form
+abbrev pub subclass_form : Bool → List ℕ → Bool → Option DefinitionStrings → Form
+subclass_form kernel p false (Some d) = definition_form kernel p d
+subclass_form kernel p meta o = no_form
 
 -- `N comment: '..'`
-abbrev pub comment_form : List ℕ → Bool → List Argument → Form
-comment_form n false (String t ∷ []) = Changes (Comment n t)
-comment_form n meta xs = no_form
+abbrev pub comment_form : List ℕ → Bool → Argument → Form
+comment_form n false (String t) = Changes (Comment n t)
+comment_form n meta x = no_form
 
 -- `N methodsFor: '..'` and `N class methodsFor: '..'`
-abbrev pub run_form : List ℕ → Bool → List Argument → Form
-run_form n meta (String t ∷ []) = Opens (record { class = n; meta = meta; protocol = t })
-run_form n meta xs = no_form
+abbrev pub run_form : List ℕ → Bool → Argument → Form
+run_form n meta (String t) = Opens (record { class = n; meta = meta; protocol = t })
+run_form n meta x = no_form
 
 -- `N removeSelector: #s` and `N class removeSelector: #s`
-abbrev pub removal_form : List ℕ → Bool → List Argument → Form
-removal_form n meta (Symbol s ∷ []) = Changes (RemoveMethod n meta s)
-removal_form n meta xs = no_form
+abbrev pub removal_form : List ℕ → Bool → Argument → Form
+removal_form n meta (Symbol s) = Changes (RemoveMethod n meta s)
+removal_form n meta x = no_form
 
 -- `Smalltalk removeClassNamed: #N`
-abbrev pub class_removal_form : List ℕ → Bool → List Argument → Form
-class_removal_form n false (Symbol c ∷ []) = if text_eq n (codes "Smalltalk") then Changes (RemoveClass c) else no_form
-class_removal_form n meta xs = no_form
+abbrev pub class_removal_form : List ℕ → Bool → Argument → Form
+class_removal_form n false (Symbol c) = if text_eq n (codes "Smalltalk") then Changes (RemoveClass c) else no_form
+class_removal_form n meta x = no_form
 
 -- whether a dialect has class-instance variables of the names in a string; the first one has none
 abbrev pub has_class_side : Dialect → List ℕ → Bool
@@ -166,25 +186,30 @@ has_class_side First s = is_blank_string s
 has_class_side Second s = may_name_all s
 
 -- `N class instanceVariableNames: '..'`
-abbrev pub class_side_form : Dialect → List ℕ → Bool → List Argument → Form
-class_side_form d n true (String s ∷ []) = if has_class_side d s then Changes (SetClassSide n (words_of s)) else no_form
-class_side_form d n meta xs = no_form
+abbrev pub class_side_form : Dialect → List ℕ → Bool → Argument → Form
+class_side_form d n true (String s) = if has_class_side d s then Changes (SetClassSide n (words_of s)) else no_form
+class_side_form d n meta x = no_form
 
 -- the selector of the definition of a class
 abbrev pub definition_selector : List ℕ
 definition_selector = codes "subclass:instanceVariableNames:classVariableNames:poolDictionaries:category:"
 
--- what a message to a class says; a message with any other reserved selector is in no form
+-- what a message to a class says that neither defines a class nor sets variables; with any other reserved selector it is in no form
+abbrev pub other_form : List ℕ → Bool → List ℕ → Argument → Form
+other_form n meta s x =
+    if text_eq s (codes "comment:") then comment_form n meta x
+    else if text_eq s (codes "methodsFor:") then run_form n meta x
+    else if text_eq s (codes "removeSelector:") then removal_form n meta x
+    else if text_eq s (codes "removeClassNamed:") then class_removal_form n meta x
+    else if is_reserved_selector s then no_form
+    else Evaluates
+
+-- what a message to a class says
 abbrev pub sent_form : Dialect → Bool → Sent → Form
 sent_form d kernel m =
-    if text_eq m.selector definition_selector then subclass_form kernel m.class m.meta m.arguments
-    else if text_eq m.selector (codes "comment:") then comment_form m.class m.meta m.arguments
-    else if text_eq m.selector (codes "methodsFor:") then run_form m.class m.meta m.arguments
-    else if text_eq m.selector (codes "removeSelector:") then removal_form m.class m.meta m.arguments
-    else if text_eq m.selector (codes "removeClassNamed:") then class_removal_form m.class m.meta m.arguments
-    else if text_eq m.selector (codes "instanceVariableNames:") then class_side_form d m.class m.meta m.arguments
-    else if is_reserved_selector m.selector then no_form
-    else Evaluates
+    if text_eq m.selector definition_selector then subclass_form kernel m.class m.meta (definition_strings m.arguments)
+    else if text_eq m.selector (codes "instanceVariableNames:") then class_side_form d m.class m.meta (the_argument m.arguments)
+    else other_form m.class m.meta m.selector (the_argument m.arguments)
 
 -- what a chunk says that spells this tree, in the text of the kernel or in a user's; what is no such message is a do-it
 abbrev pub form_of : Dialect → Bool → SequenceOf (List ℕ) → Form

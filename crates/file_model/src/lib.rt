@@ -6,4 +6,4 @@
 
 mod laws;
 
-pub use laws::judges_examples;
+pub use laws::{has_one_image, judges_examples};
