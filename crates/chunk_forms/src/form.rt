@@ -22,9 +22,15 @@ pub enum ChunkForm<'a> {
     /// A class is defined, for the first time or again.
     Defines(ClassDefinition<'a>),
     /// A class has a comment.
-    Comments { class: NameId, text: &'a [u8] },
+    Comments {
+        class: NameId,
+        text: &'a [u8],
+    },
     /// A class has class-instance variables of these names, with blanks between them.
-    SetsClassSide { class: NameId, names: &'a [u8] },
+    SetsClassSide {
+        class: NameId,
+        names: &'a [u8],
+    },
     /// The methods that follow are of this class, this side and this protocol.
     Opens {
         class: NameId,
@@ -38,7 +44,9 @@ pub enum ChunkForm<'a> {
         selector: &'a [u8],
     },
     /// A class is removed.
-    RemovesClass { name: &'a [u8] },
+    RemovesClass {
+        name: &'a [u8],
+    },
     /// It defines a class with pool dictionaries, and is refused.
     HasPools,
     /// It is a message by which file-outs define and remove, but in no form that has a meaning, and is refused.

@@ -99,7 +99,9 @@ fn receiver_of(node: &Node, names: &Names) -> Option<Receiver>
             meta: false,
         }),
         NodeKind::Send {
-            receiver, selector, ..
+            receiver,
+            selector,
+            ..
         } => side_in(receiver, *selector, names),
         _ => None,
     }

@@ -145,8 +145,8 @@ the_argument (x ∷ y ∷ xs) = Other
 abbrev pub definition_form : Bool → List ℕ → DefinitionStrings → Form
 definition_form kernel p d =
     option_map_or Refuses (first_cause
-      (when (not (may_name d.name && (may_name_all d.instance && may_name_all d.shared))) UnknownDefinition
-      ∷ when (not (is_blank_string d.pools)) PoolsNotEmpty ∷ []))
+    (when (not (may_name d.name && (may_name_all d.instance && may_name_all d.shared))) UnknownDefinition
+    ∷ when (not (is_blank_string d.pools)) PoolsNotEmpty ∷ []))
     (Changes (Define (record {
       name = d.name;
       superclass = superclass_named kernel p;

@@ -106,7 +106,7 @@ doit_step xs at to source out new whole l e h n =
     let count : to - at ≡ suc (to - (at + 1)) = omega arith in
     let next : suc at ≡ at + 1 = omega arith in
     let front : take (to - at) (drop at xs) ≡ d.0 ∷ take (to - (at + 1)) (drop (at + 1) xs) =
-      ap (λ k. take k (drop at xs)) count ∙ ap (λ ys. take (suc (to - (at + 1))) ys) (drop-item xs at d.0 d.1) ∙ ap (λ k. d.0 ∷ take (to - (at + 1)) (drop k xs)) next in
+    ap (λ k. take k (drop at xs)) count ∙ ap (λ ys. take (suc (to - (at + 1))) ys) (drop-item xs at d.0 d.1) ∙ ap (λ k. d.0 ∷ take (to - (at + 1)) (drop k xs)) next in
     ap (λ t. t ++ flat_map doit_text_of (take (to - (at + 1)) (drop (at + 1) xs))) (n ∙ ap (λ t. out ++ paragraph t) d.2)
     ∙ append_assoc out (paragraph d.0.source) (flat_map doit_text_of (take (to - (at + 1)) (drop (at + 1) xs)))
     ∙ ap (λ ys. out ++ flat_map doit_text_of ys) (sym front) ∙ h
@@ -174,12 +174,12 @@ method_step s order i k before m out opened new whole g h inv o n =
     let rest = user_entries s (drop (i + 1) order) in
     let found = user_some s k (drop (i + 1) order) m h in
     let front : user_entries s (drop i order) ≡ found.0 ∷ rest =
-      ap (user_entries s) (drop-item order i k g ∙ ap (λ j. k ∷ drop j order) next) ∙ found.1 in
+    ap (user_entries s) (drop-item order i k g ∙ ap (λ j. k ∷ drop j order) next) ∙ found.1 in
     let whole_is : out ++ (method_opening (option_map run_text before) (run_of found.0) ++ chunk_text found.0.source ++ methods_text (Some (run_of found.0)) rest) ≡ whole =
-      ap (λ es. out ++ methods_text (option_map run_text before) es) (sym front) ∙ inv in
+    ap (λ es. out ++ methods_text (option_map run_text before) es) (sym front) ∙ inv in
     ap (λ r. new ++ methods_text (Some r) rest) found.2.run
     ∙ left2 out opened new (method_opening (option_map run_text before) (run_of found.0)) (chunk_text found.0.source) (methods_text (Some (run_of found.0)) rest) whole whole_is
-      (o ∙ ap (λ r. out ++ method_opening (option_map run_text before) r) found.2.run) (n ∙ ap (λ t. opened ++ chunk_text t) found.2.source)
+    (o ∙ ap (λ r. out ++ method_opening (option_map run_text before) r) found.2.run) (n ∙ ap (λ t. opened ++ chunk_text t) found.2.source)
 
 -- a method of the kernel is passed
 pub kernel_step : (s : Slots) (order : List ℕ) (i k : ℕ) (before : Option UserMethod) (out whole : List ℕ) → slice_get order i ≡ Some k → IsUserMethodAt s k None

@@ -9,7 +9,9 @@ ghost use Rattle.class_table.specs.Valid.{IsLive};
 ghost use Rattle.file_model.specs.Written.{keyword_line, names_text, definition_text, class_side_text, comment_text, class_text, user_classes, paragraph_unless_empty};
 ghost use Rattle.image_file.specs.Writable.{IsWritable, IsWritableClass, text_class, class_text_at};
 
-use crate::strings::{write_name, write_names, write_names_line, write_paragraph, write_string, write_string_line};
+use crate::strings::{
+    write_name, write_names, write_names_line, write_paragraph, write_string, write_string_line,
+};
 use class_table::{ClassId, ClassRec, Image};
 use rb_base::{Memory, Text};
 use std::alloc::Global;
@@ -40,11 +42,22 @@ fn write_head(image: &Image, rec: &ClassRec, out: &mut Text) -> Result<(), Memor
 }
 
 /// Appends the line of the instance variables of a class.
-fn write_instance(alloc: Global, image: &Image, rec: &ClassRec, out: &mut Text) -> Result<(), Memory>
+fn write_instance(
+    alloc: Global,
+    image: &Image,
+    rec: &ClassRec,
+    out: &mut Text,
+) -> Result<(), Memory>
     requires { IsWritableClass image.now rec.now }
     ensures { OnOk result (out.new ≡ out.old ++ keyword_line (codes "instanceVariableNames: ") (names_text (text_class image.now rec.now).instance)) }
 {
-    write_names_line(alloc, b"instanceVariableNames: ", rec.instance.as_slice(), image.names(), out)
+    write_names_line(
+        alloc,
+        b"instanceVariableNames: ",
+        rec.instance.as_slice(),
+        image.names(),
+        out,
+    )
 }
 
 /// Appends the line of the class variables of a class.
@@ -52,11 +65,22 @@ fn write_shared(alloc: Global, image: &Image, rec: &ClassRec, out: &mut Text) ->
     requires { IsWritableClass image.now rec.now }
     ensures { OnOk result (out.new ≡ out.old ++ keyword_line (codes "classVariableNames: ") (names_text (text_class image.now rec.now).shared)) }
 {
-    write_names_line(alloc, b"classVariableNames: ", rec.shared.as_slice(), image.names(), out)
+    write_names_line(
+        alloc,
+        b"classVariableNames: ",
+        rec.shared.as_slice(),
+        image.names(),
+        out,
+    )
 }
 
 /// Appends the lines of the instance variables and the class variables of a class.
-fn write_variables(alloc: Global, image: &Image, rec: &ClassRec, out: &mut Text) -> Result<(), Memory>
+fn write_variables(
+    alloc: Global,
+    image: &Image,
+    rec: &ClassRec,
+    out: &mut Text,
+) -> Result<(), Memory>
     requires { IsWritableClass image.now rec.now }
     ensures { OnOk result (out.new ≡ out.old ++ (keyword_line (codes "instanceVariableNames: ") (names_text (text_class image.now rec.now).instance) ++ keyword_line (codes "classVariableNames: ") (names_text (text_class image.now rec.now).shared))) }
 {
@@ -109,7 +133,12 @@ fn comment_source(alloc: Global, image: &Image, rec: &ClassRec) -> Result<Text, 
 }
 
 /// Appends the chunk of the class-instance variables of a class, if it has some.
-fn write_class_side(alloc: Global, image: &Image, rec: &ClassRec, out: &mut Text) -> Result<(), Memory>
+fn write_class_side(
+    alloc: Global,
+    image: &Image,
+    rec: &ClassRec,
+    out: &mut Text,
+) -> Result<(), Memory>
     requires { IsWritableClass image.now rec.now }
     ensures { OnOk result (out.new ≡ out.old ++ paragraph_unless_empty (text_class image.now rec.now).class_side (class_side_text (text_class image.now rec.now))) }
 {

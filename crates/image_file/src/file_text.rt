@@ -4,9 +4,9 @@ ghost use Rattle.class_table.specs.View.{image_of};
 ghost use Rattle.file_model.specs.Written.{file_of};
 ghost use Rattle.image_file.specs.Writable.{IsWritable, doit_text_of};
 
-use crate::strings::write_paragraph;
 use crate::class_texts::write_classes;
 use crate::method_texts::write_methods;
+use crate::strings::write_paragraph;
 use class_table::Image;
 use rb_base::{Memory, Text};
 use std::alloc::Global;

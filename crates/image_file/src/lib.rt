@@ -6,5 +6,7 @@ mod class_texts;
 mod file_text;
 mod method_texts;
 mod strings;
+#[cfg(test)]
+mod tests;
 
 pub use file_text::write_image;

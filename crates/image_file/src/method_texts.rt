@@ -67,7 +67,9 @@ fn same(a: &[u8], b: &[u8]) -> bool
 fn is_one_run(before: &UserMethod<'_>, method: &UserMethod<'_>) -> bool
     ensures { result ≡ is_one_run (run_text before.now) (run_text method.now) }
 {
-    same(before.class, method.class) && before.meta == method.meta && same(before.protocol, method.protocol)
+    same(before.class, method.class)
+        && before.meta == method.meta
+        && same(before.protocol, method.protocol)
 }
 
 /// Appends the class or the class side of a method.

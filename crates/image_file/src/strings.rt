@@ -116,11 +116,7 @@ pub(crate) fn write_names_line(
 }
 
 /// Appends a source as a chunk.
-pub(crate) fn write_ended_chunk(
-    alloc: Global,
-    source: &[u8],
-    out: &mut Text,
-) -> Result<(), Memory>
+pub(crate) fn write_ended_chunk(alloc: Global, source: &[u8], out: &mut Text) -> Result<(), Memory>
     ensures { OnOk result (out.new ≡ out.old ++ chunk_text source.now) }
 {
     write_chunk(alloc, source, out)?;

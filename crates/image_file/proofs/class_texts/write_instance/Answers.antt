@@ -9,6 +9,6 @@ pub returns : goal.returns
 returns c =
     on_ok_weaker c.write_names_line.result
     (λ e. e
-      ∙ ap (λ ns. c.args.out.now ++ keyword_line (codes "instanceVariableNames: ") (names_text (map (name_at ns) c.as_slice.result.now))) c.names.ensures
-      ∙ ap (λ ids. c.args.out.now ++ keyword_line (codes "instanceVariableNames: ") (names_text (map (name_at c.args.image.now.names) ids))) c.as_slice.ensures)
+    ∙ ap (λ ns. c.args.out.now ++ keyword_line (codes "instanceVariableNames: ") (names_text (map (name_at ns) c.as_slice.result.now))) c.names.ensures
+    ∙ ap (λ ids. c.args.out.now ++ keyword_line (codes "instanceVariableNames: ") (names_text (map (name_at c.args.image.now.names) ids))) c.as_slice.ensures)
     c.write_names_line.ensures

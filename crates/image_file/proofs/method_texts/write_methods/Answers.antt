@@ -13,13 +13,13 @@ loop-slot-preserved c =
     let k = c.slot-item.result in
     let there = item_at items i k c.loop-slot-test.true c.slot-item.is in
     elim c.match-user_method.branch [
-      in-None w ↦
-        ap (λ t. t ++ methods_text (option_map run_text c.match-user_method.before) (user_entries s (drop (i + 1) items))) w.out-is
-        ∙ ap (λ b. c.loop-slot.out ++ methods_text (option_map run_text b) (user_entries s (drop (i + 1) items))) w.before-is
-        ∙ kernel_step s items i k c.loop-slot.before c.loop-slot.out _ there w.in-None.ensures c.loop-slot.invariant
-    | in-Some+in_ok-write_opening-in-Some+in_ok-write_ended_chunk-in-Some w ↦
-        ap (λ b. c.match-user_method.out ++ methods_text (option_map run_text b) (user_entries s (drop (i + 1) items))) w.before-is
-        ∙ method_step s items i k c.loop-slot.before w.in-Some.method c.loop-slot.out w.write_opening.new.out c.match-user_method.out _ there w.in-Some.ensures c.loop-slot.invariant
+      | in-None w ↦
+          ap (λ t. t ++ methods_text (option_map run_text c.match-user_method.before) (user_entries s (drop (i + 1) items))) w.out-is
+          ∙ ap (λ b. c.loop-slot.out ++ methods_text (option_map run_text b) (user_entries s (drop (i + 1) items))) w.before-is
+          ∙ kernel_step s items i k c.loop-slot.before c.loop-slot.out _ there w.in-None.ensures c.loop-slot.invariant
+      | in-Some+in_ok-write_opening-in-Some+in_ok-write_ended_chunk-in-Some w ↦
+          ap (λ b. c.match-user_method.out ++ methods_text (option_map run_text b) (user_entries s (drop (i + 1) items))) w.before-is
+          ∙ method_step s items i k c.loop-slot.before w.in-Some.method c.loop-slot.out w.write_opening.new.out c.match-user_method.out _ there w.in-Some.ensures c.loop-slot.invariant
           w.in_ok-write_opening-in-Some.ensures (w.out-is ∙ w.in_ok-write_ended_chunk-in-Some.ensures)
     ]
 
