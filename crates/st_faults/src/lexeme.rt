@@ -61,8 +61,9 @@ fn binary_sort(text: &[u8], before_numeral: bool) -> Sort
     }
 }
 
-/// The sort of a token, or `None` for a comment. The flag says that a numeral begins where it ends.
-fn sort_of(kind: TokenKind, text: &[u8], before_numeral: bool) -> Option<Sort>
+/// The sort of a token of a kind with these bytes, or `None` for a comment. The flag says that a numeral begins where it
+/// ends.
+pub fn sort_of(kind: TokenKind, text: &[u8], before_numeral: bool) -> Option<Sort>
     ensures { terminal_of kind text.now before_numeral ≡ option_map (λ sort. terminal sort text.now (literal_of kind text.now)) result }
 {
     let sort = match kind {
@@ -91,8 +92,8 @@ fn sort_of(kind: TokenKind, text: &[u8], before_numeral: bool) -> Option<Sort>
     Some(sort)
 }
 
-/// Whether a digit stands here.
-fn begins_digit(text: &[u8], at: usize) -> bool
+/// Whether a digit stands at a place, in bytes from the text's start, which may lie behind the text.
+pub fn begins_digit(text: &[u8], at: usize) -> bool
     ensures { result ≡ is_digit (slice_index text.now at) }
 {
     match text.get(at) {

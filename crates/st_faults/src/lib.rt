@@ -25,6 +25,6 @@ pub use brackets::scan;
 pub use check::{check_doit, check_method};
 pub use fault::{ParseFault, word_of};
 pub use grammar_model::Wanted;
-pub use lexeme::{Lexeme, next_lexeme};
+pub use lexeme::{Lexeme, begins_digit, next_lexeme, sort_of};
 pub use sort::Sort;
 pub use token_model::LexFault;

@@ -1,0 +1,5 @@
+pub mod Lists
+pub mod Repeats
+pub mod Changes
+pub mod Assigned
+pub mod Raised

@@ -1,0 +1,4 @@
+pub mod Lists
+pub mod Duplicates
+pub mod Scopes
+pub mod Heights

@@ -1,0 +1,140 @@
+-- A reader finds the events of whole texts.
+use Rattle.std.proofs.Common.{◌≡◌, ℕ, ◌+◌, Bool, false, List, [], ◌∷◌, ◌++◌, Some, None, refl, ap, sym, ◌∙◌, subst, append_assoc}
+use Rattle.std.specs.Prelude.{Option}
+use Rattle.std.proofs.lemmas.List.{append-nil}
+use Rattle.std.specs.Str.Parse.{digits_value}
+use Rattle.tree_model.specs.Tree.{Notes}
+use Rattle.grammar_model.specs.Terminal.{Text, KeywordKind, PrimitiveKeyword, Less, Greater, Bar, SmallDigits, Terminal, Name, Keyword, Binary, Numeral}
+use Rattle.grammar_model.specs.Input.{Lexeme, Input, first_kind, kind_of, from_of, next}
+use Rattle.grammar_model.specs.Spanned.{Declared, SpannedStatements, SpannedSequence, SpannedMethod}
+use Rattle.grammar_model.specs.Ahead.{Longest, NoBar, IsOperandStart}
+use Rattle.grammar_model.specs.Grammar.{Names, OneName, NoNames, Temporaries, Declares, DeclaresNone, Sequence, Sequenced, Statements, BlankPeriod, NoMore, Returned, OneStatement}
+use Rattle.grammar_model.specs.Whole.{IsOver, IsDoIt, PatternParts, LastPatternPart, FurtherPatternPart, Pattern, UnaryPattern, BinaryPattern, KeywordPattern, WithBars, WithoutBars, OnePrimitive, Behind, Plainly, Primitively, IsMethod}
+use Rattle.grammar_model.proofs.OneTree.{starts_Expression}
+use Rattle.parse_events.specs.Found.{declarations, count_statements, statements_events, sequence_events, method_events}
+use Rattle.parse_events.specs.declared.event.Declaration.{Declaration}
+use Rattle.parse_events.specs.declared.event.Event.{Event}
+use Rattle.st_events.specs.declared.part.Part.{Part}
+use Rattle.st_events.specs.declared.part.Part.TheVariants as part
+use Rattle.st_events.specs.declared.part.Enclosure.TheVariants as enclosure
+use Rattle.st_events.specs.declared.part.SequencePart.TheVariants as sequence
+use Rattle.st_events.specs.declared.part.HeadPart.TheVariants as head
+use Rattle.st_events.specs.declared.reader.Head.{Head}
+use Rattle.st_events.specs.declared.reader.Reader.{Reader}
+use Rattle.st_events.specs.Classes.{opens_body}
+use Rattle.st_events.specs.Steps.{run}
+use Rattle.st_events.specs.Starts.{head_of, doit_start, method_start, sequence_of, method_of}
+use Rattle.st_events.proofs.Running.{found, go, takes_one, passes_one, not_keyword, not_bar}
+use Rattle.st_events.proofs.ExpressionEvents.{law_Statements}
+
+-- the statements of a whole text
+abbrev body : ℕ → List Part
+body n = part.Sequence (sequence.Statements enclosure.Text n) ∷ []
+
+-- the end of a text
+law_end : {i : Input} {c : Notes} (o : IsOver i c) (n : ℕ) (es : List Event) (h : Head) → go (body n) es h i ≡ record { stack = []; events = es; held = []; last = o.to; head = record h { tail = c } }
+law_end {i} {c} o n es h =
+    ap (λ ts. run (found (body n) es h i) ts) o.over ∙
+    ap (λ x. record { stack = []; events = es; held = []; last = o.to; head = record h { tail = x } }) (sym o.tail_is)
+
+-- the statements of a text and its end
+law_statements : {i j : Input} {c : Notes} {steps : SpannedStatements} → Statements Longest i steps j → (o : IsOver j c) (h : Head) → go (body 0) [] h i ≡ record { stack = []; events = statements_events steps; held = []; last = o.to; head = record h { tail = c } }
+law_statements {steps} b o h = law_Statements b enclosure.Text 0 [] [] h ∙ law_end o (0 + count_statements steps) (statements_events steps) h
+
+-- temporaries of a whole text
+law_Names : {i j : Input} {ds : List Declared} → Names Longest i ds j → (ss : List Part) (h : Head) → go (part.Head head.Names ∷ ss) [] h i ≡ go (part.Head head.Names ∷ ss) [] (record h { temporaries = h.temporaries ++ declarations ds }) j
+law_Names {i} {j} (OneName {c} {n} {ds} e d) ss h =
+    let q : List Declaration = record { name = n; from = from_of i } ∷ [] in
+    takes_one (part.Head head.Names) ss [] h i (Name c n) e tt refl ∙ law_Names d ss (record h { temporaries = h.temporaries ++ q }) ∙
+    ap (λ x. go (part.Head head.Names ∷ ss) [] (record h { temporaries = x }) j) (append_assoc h.temporaries q (declarations ds))
+law_Names {j} (NoNames g) ss h = ap (λ x. go (part.Head head.Names ∷ ss) [] (record h { temporaries = x }) j) (sym (append-nil h.temporaries))
+
+-- temporaries of a do-it, or none
+law_Temporaries : {i j : Input} {ds : List Declared} → Temporaries Longest i ds j → go (part.Head head.DoitTemporaries ∷ body 0) [] (head_of [] []) i ≡ go (body 0) [] (record (head_of [] []) { temporaries = declarations ds }) j
+law_Temporaries {i} (Declares {j} {s} {t} {ds} e d f) =
+    takes_one (part.Head head.DoitTemporaries) (body 0) [] (head_of [] []) i (Binary Bar s) e tt refl ∙ law_Names d (body 0) (head_of [] []) ∙
+    takes_one (part.Head head.Names) (body 0) [] (record (head_of [] []) { temporaries = declarations ds }) j (Binary Bar t) f tt refl
+law_Temporaries {i} (DeclaresNone g) = passes_one (part.Head head.DoitTemporaries) (body 0) [] (head_of [] []) i (not_bar (kind_of i) g)
+
+-- a do-it
+law_sequence : {i j : Input} {c : Notes} {ds : List Declared} {steps : SpannedStatements} → Sequence Longest i ds steps j → (o : IsOver j c) →
+    go (part.Head head.DoitTemporaries ∷ body 0) [] (head_of [] []) i ≡ record { stack = []; events = statements_events steps; held = []; last = o.to; head = record (head_of [] []) { temporaries = declarations ds; tail = c } }
+law_sequence (Sequenced {ds} d b) o = law_Temporaries d ∙ law_statements b o (record (head_of [] []) { temporaries = declarations ds })
+
+-- the reader finds the events of a do-it
+pub law_DoIt : (ts : List Lexeme) (s : SpannedSequence) → IsDoIt Longest ts s → sequence_of (run doit_start ts) ≡ sequence_events s
+law_DoIt ts s d = ap sequence_of (law_sequence d.sequence d.over)
+
+-- the first keyword of a pattern
+abbrev first_of_pattern : {i j : Input} {s : Text} {ds : List Declared} → PatternParts Longest i s ds j → (c : KeywordKind) × (k : Text) × (kind_of i ≡ Keyword c k)
+first_of_pattern (LastPatternPart {c} {k} e f h) = (c, k, e)
+first_of_pattern (FurtherPatternPart {c} {k} e f r) = (c, k, e)
+
+-- keywords with their arguments, behind the first keyword, to which others were joined
+law_PatternParts : {i j : Input} {s : Text} {ds : List Declared} (d : PatternParts Longest i s ds j) (p : Text) (qs : List Declaration) (ss : List Part) →
+    go (part.Head head.Argument ∷ part.Head head.BehindArgument ∷ ss) [] (head_of (p ++ (first_of_pattern d).1) qs) (next i) ≡ go ss [] (head_of (p ++ s) (qs ++ declarations ds)) j
+law_PatternParts {i} (LastPatternPart {d} {k} {n} e f none) p qs ss =
+    let q : List Declaration = record { name = n; from = from_of (next i) } ∷ [] in
+    takes_one (part.Head head.Argument) (part.Head head.BehindArgument ∷ ss) [] (head_of (p ++ k) qs) (next i) (Name d n) f tt refl ∙
+    passes_one (part.Head head.BehindArgument) ss [] (head_of (p ++ k) (qs ++ q)) (next (next i)) (not_keyword (kind_of (next (next i))) none)
+law_PatternParts {i} {j} (FurtherPatternPart {d = c} {k} {n} {s} {ds} e f d) p qs ss =
+    let q : List Declaration = record { name = n; from = from_of (next i) } ∷ [] in
+    let g = first_of_pattern d in
+    takes_one (part.Head head.Argument) (part.Head head.BehindArgument ∷ ss) [] (head_of (p ++ k) qs) (next i) (Name c n) f tt refl ∙
+    takes_one (part.Head head.BehindArgument) ss [] (head_of (p ++ k) (qs ++ q)) (next (next i)) (Keyword g.0 g.1) g.2 tt refl ∙
+    law_PatternParts d (p ++ k) (qs ++ q) ss ∙
+    (let a = append_assoc p k s in
+    let b = append_assoc qs q (declarations ds) in
+    λ y. go ss [] (head_of (a y) (b y)) j)
+
+-- a method's pattern
+law_Pattern : {i j : Input} {s : Text} {ds : List Declared} → Pattern Longest i s ds j → (ss : List Part) → go (part.Head head.Pattern ∷ ss) [] (head_of [] []) i ≡ go ss [] (head_of s (declarations ds)) j
+law_Pattern {i} (UnaryPattern {c} {n} e) ss = takes_one (part.Head head.Pattern) ss [] (head_of [] []) i (Name c n) e tt refl
+law_Pattern {i} (BinaryPattern {c} {d} {s} {n} e f) ss =
+    takes_one (part.Head head.Pattern) ss [] (head_of [] []) i (Binary c s) e tt refl ∙ takes_one (part.Head head.Argument) ss [] (head_of s []) (next i) (Name d n) f tt refl
+law_Pattern {i} (KeywordPattern d) ss =
+    let k = first_of_pattern d in
+    takes_one (part.Head head.Pattern) ss [] (head_of [] []) i (Keyword k.0 k.1) k.2 tt refl ∙ law_PatternParts d [] [] ss
+
+-- statements that end a text do not begin with the bracket of a primitive
+no_bracket : {i j : Input} {s : Text} {t : Notes} {steps : SpannedStatements} → Statements Longest i steps j → IsOver j t → kind_of i ≡ Binary Less s → ⊥
+no_bracket (BlankPeriod e b) o less = let k = sym e ∙ less in cc
+no_bracket (NoMore n) o less = let k = sym (ap first_kind o.over) ∙ less in cc
+no_bracket (Returned e d f) o less = let k = sym e ∙ less in cc
+no_bracket (OneStatement d a) o less = subst IsOperandStart less (starts_Expression d)
+
+-- neither a bar nor such a bracket
+not_opening : (k : Terminal) → NoBar k → ((s : Text) → k ≡ Binary Less s → ⊥) → opens_body k ≡ false
+not_opening (Binary Bar s) h g = absurd h
+not_opening (Binary Less s) h g = absurd (g s refl)
+not_opening k h g = refl
+
+-- what a method has where its pattern is over
+abbrev opened : Text → List Declaration → Notes → Option ℕ → List Declaration → Notes → Head
+opened s qs c p ds t = record { selector = s; arguments = qs; opening = c; primitive = p; temporaries = ds; tail = t }
+
+-- a reader at the end of a text
+abbrev ended : List Event → ℕ → Head → Reader
+ended es e h = record { stack = []; events = es; held = []; last = e; head = h }
+
+-- what stands behind a pattern
+law_Behind : {kernel : Bool} {i j : Input} {c t : Notes} {p : Option ℕ} {ds : List Declared} {steps : SpannedStatements} → Behind Longest kernel i c p ds steps j → (o : IsOver j t) (s : Text) (qs : List Declaration) →
+    go (part.Head head.MethodTemporaries ∷ body 0) [] (head_of s qs) i ≡ ended (statements_events steps) o.to (opened s qs c p (declarations ds) t)
+law_Behind {i} (Plainly (WithBars {m} {s = a} {t = b} {ds} e d f steps)) o s qs =
+    let h = opened s qs (next i).held None [] [] in
+    takes_one (part.Head head.MethodTemporaries) (body 0) [] (head_of s qs) i (Binary Bar a) e tt refl ∙ law_Names d (body 0) h ∙
+    takes_one (part.Head head.Names) (body 0) [] (record h { temporaries = declarations ds }) m (Binary Bar b) f tt refl ∙
+    law_statements steps o (record h { temporaries = declarations ds })
+law_Behind {i} (Plainly (WithoutBars g steps)) o s qs =
+    passes_one (part.Head head.MethodTemporaries) (body 0) [] (head_of s qs) i (not_opening (kind_of i) g (λ t less. no_bracket steps o less)) ∙ law_statements steps o (head_of s qs)
+law_Behind {i} (Primitively (OnePrimitive {s = a} {k} {t} {u} e f g z)) o s qs =
+    takes_one (part.Head head.MethodTemporaries) (body 0) [] (head_of s qs) i (Binary Less a) e tt refl ∙
+    takes_one (part.Head head.Primitive) (body 0) [] (head_of s qs) (next i) (Keyword PrimitiveKeyword k) f tt refl ∙
+    takes_one (part.Head head.PrimitiveNumber) (body 0) [] (head_of s qs) (next (next i)) (Numeral SmallDigits t) g tt refl ∙
+    takes_one (part.Sequence sequence.Mark) (body 0) [] (opened s qs [] (Some (digits_value 10 t)) [] []) (next (next (next i))) (Binary Greater u) z tt refl ∙
+    law_end o 0 [] (opened s qs [] (Some (digits_value 10 t)) [] [])
+
+-- the reader finds the events of a method
+pub law_Method : (kernel : Bool) (ts : List Lexeme) (m : SpannedMethod) → IsMethod Longest kernel ts m → method_of (run method_start ts) ≡ method_events m
+law_Method kernel ts m d =
+    ap method_of (law_Pattern d.pattern (part.Head head.MethodTemporaries ∷ body 0) ∙ law_Behind d.behind d.over m.selector (declarations m.arguments))

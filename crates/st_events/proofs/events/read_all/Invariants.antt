@@ -1,0 +1,16 @@
+use Rattle.std.proofs.Common.{◌-◌, ◌≤◌, List, length}
+use Rattle.token_model.specs.declared.kind.Dialect.TheVariants.{Second}
+use Rattle.grammar_model.specs.Input.{Lexeme}
+use Rattle.grammar_model.specs.Lexemes.{IsLexed}
+use Rattle.st_events.specs.Steps.{run}
+use Rattle.st_events.proofs.Left.{Left}
+use Rattle.st_events.proofs.events.read_all.Given as goal
+
+abbrev pub invariant-tokens : goal.invariant-tokens
+invariant-tokens l = record {
+  inside : l.place ≤ length l.text;
+  left : (ts : List Lexeme) → IsLexed Second l.text ts → Left l.text l.place l.reader (run l.fn.reader ts);
+}
+
+abbrev pub decreases-tokens : goal.decreases-tokens
+decreases-tokens l = length l.text - l.place

@@ -1,0 +1,30 @@
+use Rattle.std.proofs.Common.{[], ◌∷◌, ◌++◌, refl, sym, ◌∙◌, ap, subst, arith}
+use Rattle.st_faults.specs.Lexing.{IsLexedFrom}
+use Rattle.st_lexer.specs.Pieces.{piece}
+use Rattle.st_faults.proofs.Skipping.{end_has_sort, goes_further, comment_further}
+use Rattle.st_events.proofs.Splitting.{behind_comment, begins_token}
+use Rattle.st_events.proofs.tokens.next_token.Goals as goal
+
+pub returns-in-Some-clause-begins : goal.returns-in-Some-clause-begins
+returns-in-Some-clause-begins c = λ ts lexed.
+    begins_token c.args.text.now c.comments.place c.comments.notes ts (piece c.in-Ok.token) _ c.begins_digit-before_numeral.result
+    c.in-Ok.ensures.token refl refl c.in-Ok.ensures.text c.begins_digit-before_numeral.ensures c.in-Some.ensures (c.comments.invariant.left ts lexed)
+
+pub returns-in-Some-clause-further : goal.returns-in-Some-clause-further
+returns-in-Some-clause-further c = λ other.
+    omega (
+      arith,
+      c.comments.invariant.order,
+      goes_further c.args.text.now c.comments.place (piece c.in-Ok.token) c.in-Ok.ensures.token (λ end. other (end_has_sort c.in-Ok.token.kind c.in-Ok.token.text.now _ c.begins_digit-before_numeral.result c.in-Some.sort _ c.in-Some.ensures end)),
+    )
+
+pub comments-preserved : goal.comments-preserved
+comments-preserved c = record {
+  order = omega (arith, c.comments.invariant.order, comment_further c.args.text.now c.comments.place (piece c.in-Ok.token) c.in-Ok.token.text.now c.begins_digit-before_numeral.result c.in-Ok.ensures.token c.in_default-sort_of.ensures);
+  inside = c.in-Ok.ensures.inside;
+  left = λ ts lexed.
+      subst (λ notes. IsLexedFrom c.args.text.now c.in-Ok.token.to notes ts) (sym (c.in_ok-push.ensures.ok ∙ ap (λ x. c.comments.notes ++ x ∷ []) c.in_ok-from_slice.ensures)) (
+        behind_comment c.args.text.now c.comments.place c.comments.notes ts (piece c.in-Ok.token) c.in-Ok.token.text.now c.begins_digit-before_numeral.result
+        c.in-Ok.ensures.token c.in-Ok.ensures.text c.in_default-sort_of.ensures (c.comments.invariant.left ts lexed)
+      );
+}

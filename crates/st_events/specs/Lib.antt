@@ -1,0 +1,4 @@
+pub mod Classes
+pub mod Steps
+pub mod Tokens
+pub mod Starts

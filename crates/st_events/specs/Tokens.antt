@@ -1,0 +1,19 @@
+-- What the grammar sees of a token, and the tokens behind it.
+use Rattle.std.specs.Prelude.{◌≡◌, ◌≢◌, List, [], ◌∷◌}
+use Rattle.tree_model.specs.Tree.{Notes}
+use Rattle.grammar_model.specs.Terminal.{Text, Terminal}
+use Rattle.grammar_model.specs.Input.{Lexeme, lex}
+use Rattle.st_faults.specs.declared.sort.Sort.TheVariants.{TextEnd}
+use Rattle.st_faults.specs.Sorts.{terminal}
+use Rattle.st_faults.specs.Lexing.{literal_of, IsLexedFrom}
+use Rattle.st_events.specs.declared.token.Token.{Token}
+
+-- a token as the grammar sees it
+abbrev pub seen : Token → Terminal
+seen t = terminal t.sort t.text.now (literal_of t.kind t.text.now)
+
+-- the tokens begin with this one, which has these comments before it
+pub record Begins (text : Text) (t : Token) (notes : Notes) (ts : List Lexeme) : Type 0 where
+  pub rest : List Lexeme
+  pub whole : ts ≡ lex notes t.from t.to (seen t) ∷ rest
+  pub behind : t.sort ≢ TextEnd → IsLexedFrom text t.to [] rest

@@ -1,0 +1,166 @@
+// Operands and assignments.
+ghost use Rattle.std.specs.Prelude.{◌≡◌, IfOk};
+ghost use Rattle.st_events.specs.Steps.{begin_operand, begin_expression, begin_argument, expression_taken, passed};
+ghost use Rattle.st_events.specs.Tokens.{seen};
+
+use crate::part::{
+    BlockPart, Enclosure, ExpressionPart, LiteralPart, MessagePart, Part, SequencePart,
+};
+use crate::reader::Reader;
+use crate::token::Token;
+use parse_events::Event;
+use rb_base::{Memory, Text};
+use st_faults::Sort;
+use std::alloc::Global;
+
+impl Reader {
+    /// The first token of an operand that is no name.
+    fn begin_operand(&mut self, alloc: Global, token: Token<'_>) -> Result<(), Memory>
+        ensures { IfOk result (λ _. self.new ≡ begin_operand (seen token.entry) token.entry.from self.old) }
+    {
+        let from = token.from;
+        match token.sort {
+            Sort::GroupStart => {
+                self.push(Part::Sequence(SequencePart::Mark))?;
+                self.push(Part::Expression(ExpressionPart::Whole))
+            }
+            Sort::BlockStart => {
+                let outer = self.take_held(alloc);
+                self.push(Part::Sequence(SequencePart::Statements {
+                    enclosure: Enclosure::Block { from, outer },
+                    count: 0,
+                }))?;
+                self.push(Part::Block(BlockPart::Start))
+            }
+            Sort::BraceStart => self.push(Part::Sequence(SequencePart::Items { from, count: 0 })),
+            _ => {
+                self.push(Part::Literal(LiteralPart::BehindOperand { from }))?;
+                self.begin_literal(alloc, token)
+            }
+        }
+    }
+
+    /// The first token of an expression.
+    pub fn begin_expression(&mut self, alloc: Global, token: Token<'_>) -> Result<(), Memory>
+        ensures { IfOk result (λ _. self.new ≡ begin_expression (seen token.entry) token.entry.from token.entry.to self.old) }
+    {
+        let from = token.from;
+        match token.sort {
+            Sort::Name | Sort::Super => {
+                let name = Text::from_slice(alloc, token.text)?;
+                self.push(Part::Expression(ExpressionPart::BehindName {
+                    from,
+                    to: token.to,
+                    name,
+                }))
+            }
+            _ => {
+                self.push(Part::Message(MessagePart::All { from }))?;
+                self.begin_operand(alloc, token)
+            }
+        }
+    }
+
+    /// The first token of an argument, with the part for its messages.
+    fn begin_argument(
+        &mut self,
+        alloc: Global,
+        part: MessagePart,
+        token: Token<'_>,
+    ) -> Result<(), Memory>
+        ensures { IfOk result (λ _. self.new ≡ begin_argument (Part.Message part) (seen token.entry) token.entry.from token.entry.to self.old) }
+    {
+        match token.sort {
+            Sort::Name | Sort::Super => {
+                let name = Text::from_slice(alloc, token.text)?;
+                self.emit(Event::Var {
+                    from: token.from,
+                    to: token.to,
+                    name,
+                })?;
+                self.push(Part::Message(part))
+            }
+            _ => {
+                self.push(Part::Message(part))?;
+                self.begin_operand(alloc, token)
+            }
+        }
+    }
+
+    /// The token behind the first name of an expression.
+    fn take_behind_name(
+        &mut self,
+        alloc: Global,
+        from: usize,
+        to: usize,
+        name: Text,
+        token: Token<'_>,
+    ) -> Result<(), Memory>
+        ensures { IfOk result (λ _. self.new ≡ expression_taken (ExpressionPart.BehindName from to name) (seen token.entry) token.entry.from token.entry.to self.old) }
+    {
+        match token.sort {
+            Sort::Assignment => {
+                self.emit(Event::Target { from, name })?;
+                self.push(Part::Expression(ExpressionPart::BehindValue { from }))?;
+                self.push(Part::Expression(ExpressionPart::Whole))
+            }
+            _ => {
+                self.emit(Event::Var { from, to, name })?;
+                self.take_message(alloc, from, token)
+            }
+        }
+    }
+
+    /// A token that a part of an expression takes.
+    pub fn take_in_expression(
+        &mut self,
+        alloc: Global,
+        part: ExpressionPart,
+        token: Token<'_>,
+    ) -> Result<(), Memory>
+        ensures { IfOk result (λ _. self.new ≡ expression_taken part (seen token.entry) token.entry.from token.entry.to self.old) }
+    {
+        let from = token.from;
+        match part {
+            ExpressionPart::Whole => self.begin_expression(alloc, token),
+            ExpressionPart::BinaryArgument => self.begin_argument(
+                alloc,
+                MessagePart::OfBinary { from },
+                token,
+            ),
+            ExpressionPart::KeywordArgument => self.begin_argument(
+                alloc,
+                MessagePart::OfKeyword { from },
+                token,
+            ),
+            ExpressionPart::BehindName { from, to, name } => self.take_behind_name(
+                alloc,
+                from,
+                to,
+                name,
+                token,
+            ),
+            ExpressionPart::BehindValue { .. } => Ok(()),
+        }
+    }
+
+    /// What is found where a part of an expression is over.
+    pub fn pass_expression(&mut self, part: ExpressionPart) -> Result<(), Memory>
+        ensures { IfOk result (λ _. self.new ≡ passed (Part.Expression part) self.old) }
+    {
+        match part {
+            ExpressionPart::BehindName { from, to, name } => self.emit(Event::Var {
+                from,
+                to,
+                name,
+            }),
+            ExpressionPart::BehindValue { from } => {
+                let to = self.last;
+                self.emit(Event::Assign { from, to })
+            }
+            ExpressionPart::Whole
+            | ExpressionPart::BinaryArgument
+            | ExpressionPart::KeywordArgument => Ok(()),
+        }
+    }
+}

@@ -1,0 +1,309 @@
+// Messages and cascades.
+ghost use Rattle.std.specs.Prelude.{◌≡◌, ◌++◌, ◌+◌, ◌∷◌, [], Some, IfOk, OnOk};
+ghost use Rattle.parse_events.specs.declared.event.Event.TheVariants as event;
+ghost use Rattle.st_events.specs.Steps.{emitted, pushed, message_event, recast, message_of, message_taken, operator_taken, cascade_taken, messages_taken, passed};
+ghost use Rattle.st_events.specs.Tokens.{seen};
+
+use crate::part::{ExpressionPart, MessagePart, Part};
+use crate::reader::{Reader, one_more};
+use crate::token::Token;
+use parse_events::{Event, Events};
+use rb_base::{Memory, Text};
+use st_faults::Sort;
+use std::alloc::Global;
+
+/// The message of so many arguments to a receiver, or of a cascade where there is none.
+pub fn message_event(from: Option<usize>, to: usize, selector: Text, arguments: usize) -> Event
+    ensures { result ≡ message_event from to selector arguments }
+{
+    match from {
+        Some(from) => Event::Send {
+            from,
+            to,
+            selector,
+            arguments,
+        },
+        None => Event::Message {
+            selector,
+            arguments,
+        },
+    }
+}
+
+/// The event of a message of a cascade for that of a send.
+fn message_of(event: Event) -> Event
+    ensures { result ≡ message_of event }
+{
+    match event {
+        Event::Send {
+            selector,
+            arguments,
+            ..
+        } => Event::Message {
+            selector,
+            arguments,
+        },
+        event => event,
+    }
+}
+
+/// Makes the last event, a send, that of the first message of a cascade. Before a cascade there is one.
+#[tactic(auto, using(crate::proofs::Recasting::recast_last))]
+fn recast(events: &mut Events) -> Result<(), Memory>
+    ensures { OnOk result (events.new ≡ recast events.old) }
+{
+    let event = events.pop().ok_or(Memory)?;
+    events.push(message_of(event))?;
+    Ok(())
+}
+
+impl Reader {
+    /// A unary message, and the part that reads further ones.
+    fn unary(
+        &mut self,
+        alloc: Global,
+        part: MessagePart,
+        from: usize,
+        token: Token<'_>,
+    ) -> Result<(), Memory>
+        ensures { IfOk result (λ _. self.new ≡ pushed (Part.Message part) (emitted (event.Send from token.entry.to token.entry.text.now 0) self.old)) }
+    {
+        let selector = Text::from_slice(alloc, token.text)?;
+        self.emit(Event::Send {
+            from,
+            to: token.to,
+            selector,
+            arguments: 0,
+        })?;
+        self.push(Part::Message(part))
+    }
+
+    /// A binary message, and the part that reads further ones.
+    fn binary(
+        &mut self,
+        alloc: Global,
+        part: MessagePart,
+        from: usize,
+        token: Token<'_>,
+    ) -> Result<(), Memory>
+        ensures { IfOk result (λ _. self.new ≡ pushed (Part.Expression ExpressionPart.BinaryArgument) (pushed (Part.Message (MessagePart.BehindArgument (Some from) token.entry.text.now)) (pushed (Part.Message part) self.old))) }
+    {
+        let selector = Text::from_slice(alloc, token.text)?;
+        self.push(Part::Message(part))?;
+        self.push(Part::Message(MessagePart::BehindArgument {
+            from: Some(from),
+            selector,
+        }))?;
+        self.push(Part::Expression(ExpressionPart::BinaryArgument))
+    }
+
+    /// The keywords of a message, of which this is the first.
+    fn keywords(
+        &mut self,
+        alloc: Global,
+        from: Option<usize>,
+        token: Token<'_>,
+    ) -> Result<(), Memory>
+        ensures { IfOk result (λ _. self.new ≡ pushed (Part.Expression ExpressionPart.KeywordArgument) (pushed (Part.Message (MessagePart.BehindKeyword from token.entry.text.now 1)) self.old)) }
+    {
+        let selector = Text::from_slice(alloc, token.text)?;
+        self.push(Part::Message(MessagePart::BehindKeyword {
+            from,
+            selector,
+            arguments: 1,
+        }))?;
+        self.push(Part::Expression(ExpressionPart::KeywordArgument))
+    }
+
+    /// A message to the receiver from a place on, or its cascade.
+    pub fn take_message(
+        &mut self,
+        alloc: Global,
+        from: usize,
+        token: Token<'_>,
+    ) -> Result<(), Memory>
+        ensures { IfOk result (λ _. self.new ≡ message_taken from (seen token.entry) token.entry.to self.old) }
+    {
+        match token.sort {
+            Sort::Name | Sort::Super => self.unary(alloc, MessagePart::All { from }, from, token),
+            Sort::Binary | Sort::Sign | Sort::Less | Sort::Greater | Sort::Bar => self.binary(
+                alloc,
+                MessagePart::All { from },
+                from,
+                token,
+            ),
+            Sort::Keyword | Sort::PrimitiveKeyword => {
+                self.push(Part::Message(MessagePart::All { from }))?;
+                self.keywords(alloc, Some(from), token)
+            }
+            Sort::Semicolon => {
+                recast(&mut self.events)?;
+                self.push(Part::Message(MessagePart::BehindCascade { from, messages: 2 }))?;
+                self.push(Part::Message(MessagePart::InCascade))
+            }
+            _ => Ok(()),
+        }
+    }
+
+    /// A unary or binary message in a keyword's argument that begins at a place.
+    fn take_of_keyword(
+        &mut self,
+        alloc: Global,
+        from: usize,
+        token: Token<'_>,
+    ) -> Result<(), Memory>
+        ensures { IfOk result (λ _. self.new ≡ operator_taken (Part.Message (MessagePart.OfKeyword from)) from (seen token.entry) token.entry.to self.old) }
+    {
+        match token.sort {
+            Sort::Name | Sort::Super => self.unary(
+                alloc,
+                MessagePart::OfKeyword { from },
+                from,
+                token,
+            ),
+            Sort::Binary | Sort::Sign | Sort::Less | Sort::Greater | Sort::Bar => self.binary(
+                alloc,
+                MessagePart::OfKeyword { from },
+                from,
+                token,
+            ),
+            _ => Ok(()),
+        }
+    }
+
+    /// A unary message in a binary message's argument that begins at a place.
+    fn take_of_binary(
+        &mut self,
+        alloc: Global,
+        from: usize,
+        token: Token<'_>,
+    ) -> Result<(), Memory>
+        ensures { IfOk result (λ _. self.new ≡ operator_taken (Part.Message (MessagePart.OfBinary from)) from (seen token.entry) token.entry.to self.old) }
+    {
+        match token.sort {
+            Sort::Name | Sort::Super => self.unary(
+                alloc,
+                MessagePart::OfBinary { from },
+                from,
+                token,
+            ),
+            Sort::Binary | Sort::Sign | Sort::Less | Sort::Greater | Sort::Bar => self.binary(
+                alloc,
+                MessagePart::OfBinary { from },
+                from,
+                token,
+            ),
+            _ => Ok(()),
+        }
+    }
+
+    /// A message of a cascade.
+    fn take_in_cascade(&mut self, alloc: Global, token: Token<'_>) -> Result<(), Memory>
+        ensures { IfOk result (λ _. self.new ≡ cascade_taken (seen token.entry) self.old) }
+    {
+        match token.sort {
+            Sort::Name | Sort::Super => {
+                let selector = Text::from_slice(alloc, token.text)?;
+                self.emit(Event::Message {
+                    selector,
+                    arguments: 0,
+                })
+            }
+            Sort::Binary | Sort::Sign | Sort::Less | Sort::Greater | Sort::Bar => {
+                let selector = Text::from_slice(alloc, token.text)?;
+                self.push(Part::Message(MessagePart::BehindArgument {
+                    from: None,
+                    selector,
+                }))?;
+                self.push(Part::Expression(ExpressionPart::BinaryArgument))
+            }
+            Sort::Keyword | Sort::PrimitiveKeyword => self.keywords(alloc, None, token),
+            _ => Ok(()),
+        }
+    }
+
+    /// A further keyword of a message.
+    fn take_keyword(
+        &mut self,
+        from: Option<usize>,
+        selector: Text,
+        arguments: usize,
+        token: Token<'_>,
+    ) -> Result<(), Memory>
+        ensures { IfOk result (λ _. self.new ≡ messages_taken (MessagePart.BehindKeyword from selector arguments) (seen token.entry) token.entry.to self.old) }
+    {
+        match token.sort {
+            Sort::Keyword | Sort::PrimitiveKeyword => {
+                let mut selector = selector;
+                selector.push_slice(token.text)?;
+                let arguments = one_more(arguments)?;
+                self.push(Part::Message(MessagePart::BehindKeyword {
+                    from,
+                    selector,
+                    arguments,
+                }))?;
+                self.push(Part::Expression(ExpressionPart::KeywordArgument))
+            }
+            _ => Ok(()),
+        }
+    }
+
+    /// A further semicolon of a cascade.
+    fn take_semicolon(&mut self, from: usize, messages: usize) -> Result<(), Memory>
+        ensures { IfOk result (λ _. self.new ≡ pushed (Part.Message MessagePart.InCascade) (pushed (Part.Message (MessagePart.BehindCascade from (messages + 1))) self.old)) }
+    {
+        let messages = one_more(messages)?;
+        self.push(Part::Message(MessagePart::BehindCascade { from, messages }))?;
+        self.push(Part::Message(MessagePart::InCascade))
+    }
+
+    /// A token that a part of messages takes.
+    pub fn take_in_messages(
+        &mut self,
+        alloc: Global,
+        part: MessagePart,
+        token: Token<'_>,
+    ) -> Result<(), Memory>
+        ensures { IfOk result (λ _. self.new ≡ messages_taken part (seen token.entry) token.entry.to self.old) }
+    {
+        match part {
+            MessagePart::All { from } => self.take_message(alloc, from, token),
+            MessagePart::OfKeyword { from } => self.take_of_keyword(alloc, from, token),
+            MessagePart::OfBinary { from } => self.take_of_binary(alloc, from, token),
+            MessagePart::BehindArgument { .. } => Ok(()),
+            MessagePart::BehindKeyword {
+                from,
+                selector,
+                arguments,
+            } => self.take_keyword(from, selector, arguments, token),
+            MessagePart::InCascade => self.take_in_cascade(alloc, token),
+            MessagePart::BehindCascade { from, messages } => self.take_semicolon(from, messages),
+        }
+    }
+
+    /// What is found where a part of messages is over.
+    pub fn pass_messages(&mut self, part: MessagePart) -> Result<(), Memory>
+        ensures { IfOk result (λ _. self.new ≡ passed (Part.Message part) self.old) }
+    {
+        let to = self.last;
+        match part {
+            MessagePart::BehindArgument { from, selector } => self.emit(
+                message_event(from, to, selector, 1),
+            ),
+            MessagePart::BehindKeyword {
+                from,
+                selector,
+                arguments,
+            } => self.emit(message_event(from, to, selector, arguments)),
+            MessagePart::BehindCascade { from, messages } => self.emit(Event::Cascade {
+                from,
+                to,
+                messages,
+            }),
+            MessagePart::All { .. }
+            | MessagePart::OfKeyword { .. }
+            | MessagePart::OfBinary { .. }
+            | MessagePart::InCascade => Ok(()),
+        }
+    }
+}

@@ -1,0 +1,134 @@
+// What was found in a text so far, and what may come next.
+ghost use Rattle.std.specs.Prelude.{◌≡◌, ◌+◌, [], ◌∷◌, ◌++◌, OnOk, IfOk, IfSome, IfNone};
+ghost use Rattle.st_events.specs.Steps.{pushed, emitted, cleared, stated, declared};
+
+use crate::part::Part;
+use crate::token::Token;
+use parse_events::{Declaration, Declarations, Event, Events};
+use rb_base::{Memory, Text};
+use st_tree::Comments;
+use std::alloc::Global;
+use std::marker::Model;
+use std::mem;
+
+/// Parts that come one after the other. Contracts see a list, of which the first comes next.
+#[derive(Drop)]
+pub struct Stack {
+    parts: Vec<Part>,
+}
+
+impl Model for Stack {
+    ghost use Rattle.std.specs.Prelude.{List, reverse};
+    ghost use Rattle.st_events.specs.declared.part.Part.{Part};
+
+    ghost Value = { List Part };
+
+    ghost view = { λ a. reverse a.parts.items };
+}
+
+impl Stack {
+    /// No parts, which takes no memory.
+    pub fn new(alloc: Global) -> Stack
+        ensures { result ≡ [] }
+    {
+        Stack {
+            parts: Vec::new(alloc),
+        }
+    }
+
+    /// Puts a part before all others.
+    pub fn push(&mut self, part: Part) -> Result<(), Memory>
+        ensures { OnOk result (self.new ≡ part ∷ self.old) }
+    {
+        self.parts.push(part)?;
+        Ok(())
+    }
+
+    /// Takes the first part off.
+    pub fn pop(&mut self) -> Option<Part>
+        ensures some { IfSome result (λ part. self.old ≡ part ∷ self.new) }
+        ensures none { IfNone result (self.old ≡ []) }
+    {
+        self.parts.pop()
+    }
+}
+
+/// What a text declares, and its last comments.
+#[derive(Drop)]
+pub struct Head {
+    pub selector: Text,
+    pub arguments: Declarations,
+    pub opening: Comments,
+    pub primitive: Option<u16>,
+    pub temporaries: Declarations,
+    pub tail: Comments,
+}
+
+/// A number and one.
+pub fn one_more(count: usize) -> Result<usize, Memory>
+    ensures { IfOk result (λ more. more ≡ count + 1) }
+{
+    count.checked_add(1).ok_or(Memory)
+}
+
+/// Appends the name of a token to declarations.
+pub fn declare(
+    alloc: Global,
+    declarations: &mut Declarations,
+    token: Token<'_>,
+) -> Result<(), Memory>
+    ensures { IfOk result (λ _. declarations.new ≡ declared declarations.old token.entry.text.now token.entry.from) }
+{
+    let name = Text::from_slice(alloc, token.text)?;
+    declarations.push(Declaration {
+        name,
+        from: token.from,
+    })
+}
+
+/// A reader of a text.
+#[derive(Drop)]
+pub struct Reader {
+    /// What may come next.
+    pub stack: Stack,
+    /// What was found in statements.
+    pub events: Events,
+    /// The comments that belong to nothing yet.
+    pub held: Comments,
+    /// The place behind the last token, in bytes from the text's start.
+    pub last: usize,
+    /// What was found outside of statements.
+    pub head: Head,
+}
+
+impl Reader {
+    /// Puts a part before all others.
+    pub fn push(&mut self, part: Part) -> Result<(), Memory>
+        ensures { IfOk result (λ _. self.new ≡ pushed part self.old) }
+    {
+        self.stack.push(part)
+    }
+
+    /// Appends an event.
+    pub fn emit(&mut self, event: Event) -> Result<(), Memory>
+        ensures { IfOk result (λ _. self.new ≡ emitted event self.old) }
+    {
+        self.events.push(event)
+    }
+
+    /// Takes the comments that are held.
+    pub fn take_held(&mut self, alloc: Global) -> Comments
+        ensures held { result ≡ self.old.held }
+        ensures cleared { self.new ≡ cleared self.old }
+    {
+        mem::replace(&mut self.held, Comments::new(alloc))
+    }
+
+    /// A statement is over, and the comments that are held are its own.
+    pub fn state(&mut self, alloc: Global, from: usize) -> Result<(), Memory>
+        ensures { IfOk result (λ _. self.new ≡ stated from self.old) }
+    {
+        let comments = self.take_held(alloc);
+        self.emit(Event::Statement { from, comments })
+    }
+}

@@ -1,0 +1,155 @@
+// Statements and brace arrays.
+ghost use Rattle.std.specs.Prelude.{◌≡◌, IfOk};
+ghost use Rattle.st_events.specs.Steps.{closed, begun, statement_taken, item_taken, sequence_taken, passed};
+ghost use Rattle.st_events.specs.Tokens.{seen};
+
+use crate::part::{Enclosure, ExpressionPart, Part, SequencePart};
+use crate::reader::{Reader, one_more};
+use crate::token::Token;
+use parse_events::Event;
+use rb_base::Memory;
+use st_faults::Sort;
+use std::alloc::Global;
+use std::mem;
+
+impl Reader {
+    /// The mark behind so many statements, which ends at a place.
+    fn close(
+        &mut self,
+        alloc: Global,
+        enclosure: Enclosure,
+        statements: usize,
+        to: usize,
+    ) -> Result<(), Memory>
+        ensures { IfOk result (λ _. self.new ≡ closed enclosure statements to self.old) }
+    {
+        match enclosure {
+            Enclosure::Text => {
+                self.head.tail = self.take_held(alloc);
+                Ok(())
+            }
+            Enclosure::Block { from, outer } => {
+                let tail = mem::replace(&mut self.held, outer);
+                self.emit(Event::Block {
+                    from,
+                    to,
+                    statements,
+                    tail,
+                })
+            }
+        }
+    }
+
+    /// The first token of a statement behind so many others.
+    fn begin_statement(
+        &mut self,
+        enclosure: Enclosure,
+        count: usize,
+        from: usize,
+    ) -> Result<(), Memory>
+        ensures { IfOk result (λ _. self.new ≡ begun enclosure count from self.old) }
+    {
+        let count = one_more(count)?;
+        self.push(Part::Sequence(SequencePart::Statements { enclosure, count }))?;
+        self.push(Part::Sequence(SequencePart::BehindStatement { from }))
+    }
+
+    /// A period or the first token of a statement, or the mark behind the last statement.
+    fn take_statement(
+        &mut self,
+        alloc: Global,
+        enclosure: Enclosure,
+        count: usize,
+        token: Token<'_>,
+    ) -> Result<(), Memory>
+        ensures { IfOk result (λ _. self.new ≡ statement_taken enclosure count (seen token.entry) token.entry.from token.entry.to self.old) }
+    {
+        let from = token.from;
+        match token.sort {
+            Sort::Period => self.push(Part::Sequence(SequencePart::Statements {
+                enclosure,
+                count,
+            })),
+            Sort::Caret => {
+                self.begin_statement(enclosure, count, from)?;
+                self.push(Part::Sequence(SequencePart::BehindReturn { from }))?;
+                self.push(Part::Expression(ExpressionPart::Whole))
+            }
+            Sort::GroupEnd | Sort::BlockEnd | Sort::BraceEnd | Sort::TextEnd => self.close(
+                alloc,
+                enclosure,
+                count,
+                token.to,
+            ),
+            _ => {
+                self.begin_statement(enclosure, count, from)?;
+                self.begin_expression(alloc, token)
+            }
+        }
+    }
+
+    /// A period or the first token of an expression of a brace array, or the mark behind the last one.
+    fn take_item(
+        &mut self,
+        alloc: Global,
+        from: usize,
+        count: usize,
+        token: Token<'_>,
+    ) -> Result<(), Memory>
+        ensures { IfOk result (λ _. self.new ≡ item_taken from count (seen token.entry) token.entry.from token.entry.to self.old) }
+    {
+        match token.sort {
+            Sort::Period => self.push(Part::Sequence(SequencePart::Items { from, count })),
+            Sort::GroupEnd | Sort::BlockEnd | Sort::BraceEnd | Sort::TextEnd => self.emit(
+                Event::Brace {
+                    from,
+                    to: token.to,
+                    items: count,
+                },
+            ),
+            _ => {
+                let count = one_more(count)?;
+                self.push(Part::Sequence(SequencePart::Items { from, count }))?;
+                self.begin_expression(alloc, token)
+            }
+        }
+    }
+
+    /// A token that a part of a sequence takes.
+    pub fn take_in_sequence(
+        &mut self,
+        alloc: Global,
+        part: SequencePart,
+        token: Token<'_>,
+    ) -> Result<(), Memory>
+        ensures { IfOk result (λ _. self.new ≡ sequence_taken part (seen token.entry) token.entry.from token.entry.to self.old) }
+    {
+        match part {
+            SequencePart::Statements { enclosure, count } => self.take_statement(
+                alloc,
+                enclosure,
+                count,
+                token,
+            ),
+            SequencePart::BehindStatement { from } => self.state(alloc, from),
+            SequencePart::Items { from, count } => self.take_item(alloc, from, count, token),
+            SequencePart::BehindReturn { .. } | SequencePart::Mark => Ok(()),
+        }
+    }
+
+    /// What is found where a part of a sequence is over.
+    pub fn pass_sequence(&mut self, alloc: Global, part: SequencePart) -> Result<(), Memory>
+        ensures { IfOk result (λ _. self.new ≡ passed (Part.Sequence part) self.old) }
+    {
+        match part {
+            SequencePart::BehindStatement { from } => self.state(alloc, from),
+            SequencePart::BehindReturn { from } => {
+                let to = self.last;
+                self.emit(Event::Return { from, to })
+            }
+            SequencePart::Statements { .. } | SequencePart::Items { .. } | SequencePart::Mark => Ok(
+                (),
+            ),
+        }
+    }
+}

@@ -1,0 +1,45 @@
+// The tokens of a text, with the comments before them.
+ghost use Rattle.std.specs.Prelude.{◌≡◌, ◌≢◌, ◌≤◌, ◌<◌, List, length, IfOk};
+ghost use Rattle.grammar_model.specs.Input.{Lexeme};
+ghost use Rattle.st_faults.specs.declared.sort.Sort.TheVariants.{TextEnd};
+ghost use Rattle.st_faults.specs.Lexing.{IsLexedFrom};
+ghost use Rattle.st_events.specs.Tokens.{Begins};
+
+use crate::token::Token;
+use rb_base::{Memory, Text};
+use st_faults::{begins_digit, sort_of};
+use st_tree::Comments;
+use std::alloc::Global;
+
+/// The first token from a place on that is no comment, behind the comments before it, which are appended. The place is at
+/// most the text's length, in bytes. A text of the grammar has one there.
+pub fn next_token<'t>(
+    alloc: Global,
+    text: &'t [u8],
+    at: usize,
+    notes: &mut Comments,
+) -> Result<Token<'t>, Memory>
+    requires { at ≤ length text.now }
+    ensures begins { IfOk result (λ token. (ts : List Lexeme) → IsLexedFrom text.now at notes.old ts → Begins text.now token notes.new ts) }
+    ensures inside { IfOk result (λ token. token.to ≤ length text.now) }
+    ensures further { IfOk result (λ token. token.sort ≢ TextEnd → at < token.to) }
+{
+    let mut place = at;
+    'comments: loop {
+        let Ok(token) = st_lexer::next_token(text, place) else {
+            return Err(Memory);
+        };
+        let before_numeral = begins_digit(text, token.to);
+        if let Some(sort) = sort_of(token.kind, token.text, before_numeral) {
+            return Ok(Token {
+                sort,
+                kind: token.kind,
+                from: token.from,
+                to: token.to,
+                text: token.text,
+            });
+        }
+        notes.push(Text::from_slice(alloc, token.text)?)?;
+        place = token.to;
+    }
+}

@@ -1,0 +1,4 @@
+pub mod Paths
+pub mod Children
+pub mod Doits
+pub mod Places
