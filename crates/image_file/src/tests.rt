@@ -44,6 +44,7 @@ fn doits_are_written(rt: HostRuntime) -> Result<(), Fail> {
     let image = two_doits(rt.alloc())?;
     let mut out = Text::from_slice(rt.alloc(), b"x")?;
     write_image(rt.alloc(), &image, &mut out)?;
-    assert!(rt; out.as_slice() == b"xa!!b!\n\nc!\n\n");
+    let written: &[u8] = b"xa!!b!\n\nc!\n\n";
+    assert!(rt; out.as_slice() == written);
     Ok(())
 }
