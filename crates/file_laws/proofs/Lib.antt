@@ -1,0 +1,3 @@
+mod Braces
+mod Sources
+mod Sound
