@@ -1,3 +1,4 @@
 mod Braces
 mod Sources
 mod Sound
+mod Settled

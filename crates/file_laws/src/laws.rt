@@ -1,13 +1,16 @@
 // Laws of file-outs. Each function does nothing; its contract is the law.
-ghost use Rattle.std.specs.Prelude.{◌≡◌, false};
+ghost use Rattle.std.specs.Prelude.{◌≡◌, ◌∷◌, ◌++◌, List, Bool, false};
 ghost use Rattle.std.specs.List.{AllByRecursion};
 ghost use Rattle.token_model.specs.declared.kind.Dialect.{Dialect};
 ghost use Rattle.token_model.specs.declared.kind.Dialect.TheVariants.{First, Second};
-ghost use Rattle.image_model.specs.Image.{ImageOf, EntryOf};
-ghost use Rattle.image_model.specs.Valid.{IsFileable, IsUserMethod, IsUserDoIt};
+ghost use Rattle.rb_base.specs.Names.{text_eq};
+ghost use Rattle.image_model.specs.Image.{ImageOf, ClassOf, EntryOf};
+ghost use Rattle.image_model.specs.Valid.{IsFileable, IsUserMethod, IsUserDoIt, SuperclassesStandBefore};
+ghost use Rattle.file_model.specs.Hierarchy.{settled};
 ghost use Rattle.file_model.specs.Filing.{Text};
 ghost use Rattle.file_model.specs.Fileable.{reading_of};
-ghost use Rattle.file_model.specs.Reading.{IsKernelOf, IsImageOf};
+ghost use Rattle.file_model.specs.Reading.{IsImageOf};
+ghost use Rattle.file_laws.specs.Settling.{staying, moving, WaitsFor};
 
 /// The image of a file-out can be written as one and read again: each source of a user may stand as a chunk, each do-it is
 /// read as one, and no more do-its stand at the head than there are. Each source of a user's method spells its tree, which
@@ -22,4 +25,14 @@ pub fn gives_fileable_images()
 /// Where the first dialect has an image for a text, the second has the same image.
 pub fn reads_the_same_with_braces()
     ensures { (prelude text : Text) (image : ImageOf Text) → IsImageOf First prelude text image → IsImageOf Second prelude text image }
+{}
+
+/// Classes of which each stands behind its superclass are in order. Where one class waits for another that stands behind
+/// it, it goes behind that one with those that move with it, and all others stay: so putting classes in order takes time
+/// in the number of classes between the two.
+pub fn settles_by_moving()
+    ensures in_order { (classes : List (ClassOf Text)) → SuperclassesStandBefore classes → settled text_eq classes ≡ classes }
+    ensures moved { (moves : ClassOf Text → Bool) (front : List (ClassOf Text)) (class : ClassOf Text) (middle : List (ClassOf Text)) (above : ClassOf Text) (back : List (ClassOf Text)) →
+        WaitsFor text_eq moves front class middle above back →
+        settled text_eq (front ++ (class ∷ (middle ++ (above ∷ back)))) ≡ front ++ (staying moves middle ++ (above ∷ class ∷ (moving moves middle ++ back))) }
 {}

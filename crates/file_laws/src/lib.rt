@@ -4,4 +4,4 @@
 
 mod laws;
 
-pub use laws::{gives_fileable_images, reads_the_same_with_braces};
+pub use laws::{gives_fileable_images, reads_the_same_with_braces, settles_by_moving};
