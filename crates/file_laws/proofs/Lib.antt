@@ -2,3 +2,4 @@ mod Braces
 mod Sources
 mod Sound
 mod Settled
+mod Moves
