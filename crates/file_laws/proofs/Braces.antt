@@ -58,7 +58,7 @@ sent_either kernel m = by (text_eq m.selector definition_selector) (text_eq m.se
 
     by : (a b : Bool) → (class_side_form First m.class m.meta (the_argument m.arguments) ≡ class_side_form Second m.class m.meta (the_argument m.arguments)) ⊎ (class_side_form First m.class m.meta (the_argument m.arguments) ≡ no_form)
         → ((if a then first else (if b then class_side_form First m.class m.meta (the_argument m.arguments) else last)) ≡ (if a then first else (if b then class_side_form Second m.class m.meta (the_argument m.arguments) else last)))
-          ⊎ ((if a then first else (if b then class_side_form First m.class m.meta (the_argument m.arguments) else last)) ≡ no_form)
+        ⊎ ((if a then first else (if b then class_side_form First m.class m.meta (the_argument m.arguments) else last)) ≡ no_form)
     by true b h = inl refl
     by false true h = h
     by false false h = inl refl

@@ -3,3 +3,4 @@ mod Sources
 mod Sound
 mod Settled
 mod Moves
+mod Redefined

@@ -87,7 +87,7 @@ follows_more xs ys c cov h = by c.superclass refl h
     by (Some n) e k = cov n e k
 
 -- what is taken in turn is so where more names are taken
-turn_more : (xs ys left : List (ClassOf Text)) → ((s : Text) → stands_in text_eq s xs ≡ true → stands_in text_eq s ys ≡ true) → IsTakenInTurn text_eq xs left → IsTakenInTurn text_eq ys left
+pub turn_more : (xs ys left : List (ClassOf Text)) → ((s : Text) → stands_in text_eq s xs ≡ true → stands_in text_eq s ys ≡ true) → IsTakenInTurn text_eq xs left → IsTakenInTurn text_eq ys left
 turn_more xs ys [] cov turn = tt
 turn_more xs ys (c ∷ cs) cov turn = (follows_more xs ys c (λ s e h. cov s h) turn.0, turn_more (xs ++ c ∷ []) (ys ++ c ∷ []) cs (covers_more xs ys c cov) turn.1)
 
@@ -156,9 +156,10 @@ stay_turn m seen taken (x ∷ xs) cov turn inh = by (m x.name) refl (λ t c. sta
         at : (s : Text) → m s ≡ false → (stands_in text_eq s seen ≡ true) ⊎ (stands_in text_eq s (x ∷ []) ≡ true) → stands_in text_eq s taken ≡ true
         at s f (inl k) = cov s k f
         at s f (inr k) = absurd (true≢false (sym e ∙ ap m (sym (stands_alone s x k)) ∙ f))
-    by false e next =
-        (follows_more seen taken x (λ s q h. cov s h (sym (inh.0.below s q) ∙ e)) turn.0,
-         next (taken ++ x ∷ []) (λ s h f. at s f (stands_either s seen (x ∷ []) h)))
+    by false e next = (
+      follows_more seen taken x (λ s q h. cov s h (sym (inh.0.below s q) ∙ e)) turn.0,
+      next (taken ++ x ∷ []) (λ s h f. at s f (stands_either s seen (x ∷ []) h)),
+    )
       where
         at : (s : Text) → m s ≡ false → (stands_in text_eq s seen ≡ true) ⊎ (stands_in text_eq s (x ∷ []) ≡ true) → stands_in text_eq s (taken ++ x ∷ []) ≡ true
         at s f (inl k) = stands_left s taken (x ∷ []) (cov s k f)
@@ -172,10 +173,11 @@ move_turn m seen taken (x ∷ xs) cov turn there = by (m x.name) refl (λ t c w.
   where
     by : (b : Bool) → m x.name ≡ b → ((t : List (ClassOf Text)) → ((s : Text) → stands_in text_eq s (seen ++ x ∷ []) ≡ true → stands_in text_eq s t ≡ true) → AllByRecursion (λ (y : ClassOf Text). m y.name ≡ false → stands_in text_eq y.name t ≡ true) xs → IsTakenInTurn text_eq t (moving (λ y. m y.name) xs))
         → IsTakenInTurn text_eq taken (cond b (x ∷ moving (λ y. m y.name) xs) (moving (λ y. m y.name) xs))
-    by true e next =
-        (follows_more seen taken x (λ s q h. cov s h) turn.0,
-         next (taken ++ x ∷ []) (covers_more seen taken x cov)
-           (All-weaker (λ (y : ClassOf Text). m y.name ≡ false → stands_in text_eq y.name taken ≡ true) (λ (y : ClassOf Text). m y.name ≡ false → stands_in text_eq y.name (taken ++ x ∷ []) ≡ true) xs (λ y w f. stands_left y.name taken (x ∷ []) (w f)) there.1))
+    by true e next = (
+      follows_more seen taken x (λ s q h. cov s h) turn.0,
+      next (taken ++ x ∷ []) (covers_more seen taken x cov)
+          (All-weaker (λ (y : ClassOf Text). m y.name ≡ false → stands_in text_eq y.name taken ≡ true) (λ (y : ClassOf Text). m y.name ≡ false → stands_in text_eq y.name (taken ++ x ∷ []) ≡ true) xs (λ y w f. stands_left y.name taken (x ∷ []) (w f)) there.1),
+    )
     by false e next = next taken (λ s h. at s (stands_either s seen (x ∷ []) h)) there.1
       where
         at : (s : Text) → (stands_in text_eq s seen ≡ true) ⊎ (stands_in text_eq s (x ∷ []) ≡ true) → stands_in text_eq s taken ≡ true
@@ -237,9 +239,11 @@ none_staying m s (x ∷ xs) h = by (m x.name) (text_eq s x.name) refl h (none_st
 -- each class of a list stands in it
 members : (xs : List (ClassOf Text)) → AllByRecursion (λ (x : ClassOf Text). stands_in text_eq x.name xs ≡ true) xs
 members [] = tt
-members (x ∷ xs) =
-    (its_name x xs, All-weaker (λ (y : ClassOf Text). stands_in text_eq y.name xs ≡ true) (λ (y : ClassOf Text). stands_in text_eq y.name (x ∷ xs) ≡ true) xs
-      (λ y h. or_right (text_eq y.name x.name) (stands_in text_eq y.name xs) h) (members xs))
+members (x ∷ xs) = (
+  its_name x xs,
+  All-weaker (λ (y : ClassOf Text). stands_in text_eq y.name xs ≡ true) (λ (y : ClassOf Text). stands_in text_eq y.name (x ∷ xs) ≡ true) xs
+      (λ y h. or_right (text_eq y.name x.name) (stands_in text_eq y.name xs) h) (members xs),
+)
 
 -- each class that stays stands among those that stay
 all_there : (m : Text → Bool) (rest : List (ClassOf Text)) → AllByRecursion (λ (x : ClassOf Text). m x.name ≡ false → stands_in text_eq x.name (staying (λ y. m y.name) rest) ≡ true) rest
@@ -307,7 +311,7 @@ waits_for m front c new middle above back r = record {
     moving_turn =
         move_turn m (front ++ c ∷ []) (((front ++ staying (λ x. m x.name) middle) ++ above ∷ []) ++ new ∷ []) middle (λ s h. from_front s (stands_either s front (c ∷ []) h)) middle_turn
         (All-weaker (λ (x : ClassOf Text). m x.name ≡ false → stands_in text_eq x.name (staying (λ y. m y.name) middle) ≡ true) (λ (x : ClassOf Text). m x.name ≡ false → stands_in text_eq x.name (((front ++ staying (λ y. m y.name) middle) ++ above ∷ []) ++ new ∷ []) ≡ true) middle
-          (λ x h f. in_taken x.name (stands_right x.name front (staying (λ y. m y.name) middle) (h f))) (all_there m middle))
+        (λ x h f. in_taken x.name (stands_right x.name front (staying (λ y. m y.name) middle) (h f))) (all_there m middle))
 
     from_middle : (s : Text) (b : Bool) → m s ≡ b → stands_in text_eq s middle ≡ true → stands_in text_eq s ((((front ++ staying (λ x. m x.name) middle) ++ above ∷ []) ++ new ∷ []) ++ moving (λ x. m x.name) middle) ≡ true
     from_middle s true e h = stands_right s (((front ++ staying (λ x. m x.name) middle) ++ above ∷ []) ++ new ∷ []) (moving (λ x. m x.name) middle) (stands_moving m middle s h e)
@@ -336,19 +340,19 @@ same_classes m front new middle above back =
     let parts : IsPermutation middle (stay ++ move) = IsPermutation-filter_both (λ (x : ClassOf Text). not (m x.name)) (λ (x : ClassOf Text). m x.name) (λ x. twice (m x.name)) middle in
     let first : IsPermutation (new ∷ (middle ++ above ∷ back)) (new ∷ above ∷ (middle ++ back)) = IsPermutation-cons new (middle ++ above ∷ back) (above ∷ (middle ++ back)) (IsPermutation-middle middle above back) in
     let second : IsPermutation (new ∷ above ∷ (middle ++ back)) (new ∷ above ∷ ((stay ++ move) ++ back)) =
-      IsPermutation-cons new (above ∷ (middle ++ back)) (above ∷ ((stay ++ move) ++ back)) (IsPermutation-cons above (middle ++ back) ((stay ++ move) ++ back) (IsPermutation-append_left back middle (stay ++ move) parts)) in
+    IsPermutation-cons new (above ∷ (middle ++ back)) (above ∷ ((stay ++ move) ++ back)) (IsPermutation-cons above (middle ++ back) ((stay ++ move) ++ back) (IsPermutation-append_left back middle (stay ++ move) parts)) in
     let third : IsPermutation (new ∷ above ∷ ((stay ++ move) ++ back)) (above ∷ new ∷ ((stay ++ move) ++ back)) = IsPermutation-middle (new ∷ []) above ((stay ++ move) ++ back) in
     let third_joined : IsPermutation (new ∷ above ∷ ((stay ++ move) ++ back)) (above ∷ new ∷ (stay ++ (move ++ back))) =
-      subst (λ (ys : List (ClassOf Text)). IsPermutation (new ∷ above ∷ ((stay ++ move) ++ back)) (above ∷ new ∷ ys)) (append_assoc stay move back) third in
+    subst (λ (ys : List (ClassOf Text)). IsPermutation (new ∷ above ∷ ((stay ++ move) ++ back)) (above ∷ new ∷ ys)) (append_assoc stay move back) third in
     let fourth : IsPermutation (stay ++ above ∷ (new ∷ (move ++ back))) (above ∷ (stay ++ new ∷ (move ++ back))) = IsPermutation-middle stay above (new ∷ (move ++ back)) in
     let fifth : IsPermutation (above ∷ (stay ++ new ∷ (move ++ back))) (above ∷ new ∷ (stay ++ (move ++ back))) = IsPermutation-cons above (stay ++ new ∷ (move ++ back)) (new ∷ (stay ++ (move ++ back))) (IsPermutation-middle stay new (move ++ back)) in
     let goal_side : IsPermutation (stay ++ above ∷ (new ∷ (move ++ back))) (above ∷ new ∷ (stay ++ (move ++ back))) = IsPermutation-trans (stay ++ above ∷ (new ∷ (move ++ back))) (above ∷ (stay ++ new ∷ (move ++ back))) (above ∷ new ∷ (stay ++ (move ++ back))) fourth fifth in
     let start_side : IsPermutation (new ∷ (middle ++ above ∷ back)) (above ∷ new ∷ (stay ++ (move ++ back))) =
-      IsPermutation-trans (new ∷ (middle ++ above ∷ back)) (new ∷ above ∷ (middle ++ back)) (above ∷ new ∷ (stay ++ (move ++ back))) first
-      (IsPermutation-trans (new ∷ above ∷ (middle ++ back)) (new ∷ above ∷ ((stay ++ move) ++ back)) (above ∷ new ∷ (stay ++ (move ++ back))) second third_joined) in
+    IsPermutation-trans (new ∷ (middle ++ above ∷ back)) (new ∷ above ∷ (middle ++ back)) (above ∷ new ∷ (stay ++ (move ++ back))) first
+    (IsPermutation-trans (new ∷ above ∷ (middle ++ back)) (new ∷ above ∷ ((stay ++ move) ++ back)) (above ∷ new ∷ (stay ++ (move ++ back))) second third_joined) in
     IsPermutation-append_right front (new ∷ (middle ++ above ∷ back)) (stay ++ above ∷ (new ∷ (move ++ back)))
     (IsPermutation-trans (new ∷ (middle ++ above ∷ back)) (above ∷ new ∷ (stay ++ (move ++ back))) (stay ++ above ∷ (new ∷ (move ++ back))) start_side
-      (IsPermutation-sym (stay ++ above ∷ (new ∷ (move ++ back))) (above ∷ new ∷ (stay ++ (move ++ back))) goal_side))
+    (IsPermutation-sym (stay ++ above ∷ (new ∷ (move ++ back))) (above ∷ new ∷ (stay ++ (move ++ back))) goal_side))
   where
     twice : (b : Bool) → b ≡ not (not b)
     twice true = refl

@@ -82,9 +82,9 @@ waiting k taken wait (c ∷ cs) back moves held too turn =
         → AllByRecursion (IsHeld text_eq (taken ++ cond (not b) (c ∷ staying moves cs) (staying moves cs))) (cond b (c ∷ moving moves cs) (moving moves cs))
         → IsTakenInTurn text_eq taken (cond (not b) (c ∷ staying moves cs) (staying moves cs))
         → ((t w : List (ClassOf Text)) → AllByRecursion (IsHeld text_eq (t ++ staying moves cs)) w → AllByRecursion (IsHeld text_eq (t ++ staying moves cs)) (moving moves cs) → IsTakenInTurn text_eq t (staying moves cs)
-          → settle_behind text_eq (length (staying moves cs) + k) t (w ++ (cs ++ back)) ≡ settle_behind text_eq k (t ++ staying moves cs) (w ++ (moving moves cs ++ back)))
+        → settle_behind text_eq (length (staying moves cs) + k) t (w ++ (cs ++ back)) ≡ settle_behind text_eq k (t ++ staying moves cs) (w ++ (moving moves cs ++ back)))
         → settle_behind text_eq (length (cond (not b) (c ∷ staying moves cs) (staying moves cs)) + k) taken (wait ++ (c ∷ (cs ++ back)))
-          ≡ settle_behind text_eq k (taken ++ cond (not b) (c ∷ staying moves cs) (staying moves cs)) (wait ++ (cond b (c ∷ moving moves cs) (moving moves cs) ++ back))
+        ≡ settle_behind text_eq k (taken ++ cond (not b) (c ∷ staying moves cs) (staying moves cs)) (wait ++ (cond b (c ∷ moving moves cs) (moving moves cs) ++ back))
     by true h t u next =
         ap (settle_behind text_eq (length (staying moves cs) + k) taken) (sym (append_assoc wait (c ∷ []) (cs ++ back)))
         ∙ next taken (wait ++ c ∷ []) (All-last (IsHeld text_eq (taken ++ staying moves cs)) wait c h t.0) t.1 u
@@ -94,10 +94,10 @@ waiting k taken wait (c ∷ cs) back moves held too turn =
         let whole : taken ++ (c ∷ staying moves cs) ≡ (taken ++ c ∷ []) ++ staying moves cs = sym (append_assoc taken (c ∷ []) (staying moves cs)) in
         ap (λ n. settle_behind text_eq n taken (wait ++ (c ∷ (cs ++ back)))) more
         ∙ step (length (staying moves cs) + k) taken wait c (cs ++ back)
-          (All-weaker (IsHeld text_eq (taken ++ (c ∷ staying moves cs))) (IsHeld text_eq taken) wait (λ w held. held_before taken (c ∷ staying moves cs) w held) h) u.0
+        (All-weaker (IsHeld text_eq (taken ++ (c ∷ staying moves cs))) (IsHeld text_eq taken) wait (λ w held. held_before taken (c ∷ staying moves cs) w held) h) u.0
         ∙ next (taken ++ c ∷ []) wait
-          (subst (λ (ys : List (ClassOf Text)). AllByRecursion (IsHeld text_eq ys) wait) whole h)
-          (subst (λ (ys : List (ClassOf Text)). AllByRecursion (IsHeld text_eq ys) (moving moves cs)) whole t) u.1
+        (subst (λ (ys : List (ClassOf Text)). AllByRecursion (IsHeld text_eq ys) wait) whole h)
+        (subst (λ (ys : List (ClassOf Text)). AllByRecursion (IsHeld text_eq ys) (moving moves cs)) whole t) u.1
         ∙ ap (λ ys. settle_behind text_eq k ys (wait ++ (moving moves cs ++ back))) (sym whole)
 
 -- as many classes stay and move as there are
@@ -115,7 +115,7 @@ pub moved : (moves : ClassOf Text → Bool) (front : List (ClassOf Text)) (c : C
     → settled text_eq (front ++ (c ∷ (middle ++ (above ∷ back)))) ≡ front ++ (staying moves middle ++ (above ∷ c ∷ (moving moves middle ++ back)))
 moved moves front c middle above back w =
     let count : length (front ++ (c ∷ (middle ++ (above ∷ back)))) ≡ length front + (length (staying moves middle) + suc (length (c ∷ (moving moves middle ++ back)) + 0)) =
-      omega (arith, length-append front (c ∷ (middle ++ (above ∷ back))), length-append middle (above ∷ back), length-append (moving moves middle) back, both moves middle) in
+    omega (arith, length-append front (c ∷ (middle ++ (above ∷ back))), length-append middle (above ∷ back), length-append (moving moves middle) back, both moves middle) in
     ap (λ n. settle_behind text_eq n [] (front ++ (c ∷ (middle ++ (above ∷ back))))) count
     ∙ in_turn (length (staying moves middle) + suc (length (c ∷ (moving moves middle ++ back)) + 0)) [] front (c ∷ (middle ++ (above ∷ back))) w.front_in_turn
     ∙ waiting (suc (length (c ∷ (moving moves middle ++ back)) + 0)) front (c ∷ []) middle (above ∷ back) moves (w.waits, tt) w.wait_too w.stay_in_turn
@@ -138,7 +138,7 @@ stands_first (c ∷ cs) others n (suc j) l e = or_right (text_eq n c.name) (stan
     or_right false b h = h
 
 -- what stands at the place behind the first ones
-at_front : (front : List (ClassOf Text)) (c : ClassOf Text) (others : List (ClassOf Text)) → slice_get (front ++ c ∷ others) (length front) ≡ Some c
+pub at_front : (front : List (ClassOf Text)) (c : ClassOf Text) (others : List (ClassOf Text)) → slice_get (front ++ c ∷ others) (length front) ≡ Some c
 at_front [] c others = refl
 at_front (d ∷ ds) c others = by (omega arith) (at_front ds c others)
   where
@@ -146,7 +146,7 @@ at_front (d ∷ ds) c others = by (omega arith) (at_front ds c others)
     by more h = ap (slice_get (d ∷ (ds ++ c ∷ others))) (sym more) ∙ h
 
 -- where each superclass stands before its subclasses, classes are taken in turn
-turn_of : (front left : List (ClassOf Text)) → SuperclassesStandBefore (front ++ left) → IsTakenInTurn text_eq front left
+pub turn_of : (front left : List (ClassOf Text)) → SuperclassesStandBefore (front ++ left) → IsTakenInTurn text_eq front left
 turn_of front [] before = tt
 turn_of front (c ∷ cs) before =
     (by c.superclass refl, turn_of (front ++ c ∷ []) cs (subst SuperclassesStandBefore (sym (append_assoc front (c ∷ []) cs)) before))
@@ -157,10 +157,14 @@ turn_of front (c ∷ cs) before =
         let found = before (length front) c n (at_front front c cs) e in
         stands_first front (c ∷ cs) n found.0 found.1 found.2
 
--- classes that are in order stay in order
-pub settled_stays : (classes : List (ClassOf Text)) → SuperclassesStandBefore classes → settled text_eq classes ≡ classes
-settled_stays classes before =
+-- classes that can be taken in turn stay in their order
+pub settled_in_turn : (classes : List (ClassOf Text)) → IsTakenInTurn text_eq [] classes → settled text_eq classes ≡ classes
+settled_in_turn classes turn =
     let none : length classes ≡ length classes + 0 = omega arith in
     ap (λ n. settle_behind text_eq n [] classes) none
     ∙ ap (settle_behind text_eq (length classes + 0) []) (sym (append-nil classes))
-    ∙ in_turn 0 [] classes [] (turn_of [] classes before)
+    ∙ in_turn 0 [] classes [] turn
+
+-- classes that are in order stay in order
+pub settled_stays : (classes : List (ClassOf Text)) → SuperclassesStandBefore classes → settled text_eq classes ≡ classes
+settled_stays classes before = settled_in_turn classes (turn_of [] classes before)

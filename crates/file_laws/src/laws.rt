@@ -1,12 +1,17 @@
 // Laws of file-outs. Each function does nothing; its contract is the law.
-ghost use Rattle.std.specs.Prelude.{◌≡◌, ◌∷◌, ◌++◌, List, Bool, false};
+ghost use Rattle.std.specs.Prelude.{◌≡◌, ◌∷◌, ◌++◌, List, Bool, true, false, Some};
 ghost use Rattle.std.specs.List.{AllByRecursion};
 ghost use Rattle.token_model.specs.declared.kind.Dialect.{Dialect};
 ghost use Rattle.token_model.specs.declared.kind.Dialect.TheVariants.{First, Second};
 ghost use Rattle.rb_base.specs.Names.{text_eq};
 ghost use Rattle.image_model.specs.Image.{ImageOf, ClassOf, EntryOf};
 ghost use Rattle.image_model.specs.Valid.{IsFileable, IsUserMethod, IsUserDoIt, SuperclassesStandBefore};
-ghost use Rattle.file_model.specs.Hierarchy.{settled};
+ghost use Rattle.std.specs.List.Sorted.{IsPermutation};
+ghost use Rattle.image_model.specs.Valid.{HasNoRepeat, class_names};
+ghost use Rattle.file_model.specs.Changes.{DefinitionOf};
+ghost use Rattle.file_model.specs.Hierarchy.{has_class, settled};
+ghost use Rattle.file_model.specs.Refusals.{makes_cycle};
+ghost use Rattle.file_model.specs.Applied.{with_definition, defined};
 ghost use Rattle.file_model.specs.Filing.{Text};
 ghost use Rattle.file_model.specs.Fileable.{reading_of};
 ghost use Rattle.file_model.specs.Reading.{IsImageOf};
@@ -35,4 +40,17 @@ pub fn settles_by_moving()
     ensures moved { (moves : ClassOf Text → Bool) (front : List (ClassOf Text)) (class : ClassOf Text) (middle : List (ClassOf Text)) (above : ClassOf Text) (back : List (ClassOf Text)) →
         WaitsFor text_eq moves front class middle above back →
         settled text_eq (front ++ (class ∷ (middle ++ (above ∷ back)))) ≡ front ++ (staying moves middle ++ (above ∷ class ∷ (moving moves middle ++ back))) }
+{}
+
+/// Where a class is defined again under another that is not below it, each superclass stands before its subclasses, and
+/// the classes are those with the new definition: none is lost and none stands twice.
+pub fn keeps_superclasses_first()
+    ensures first { (classes : List (ClassOf Text)) (definition : DefinitionOf Text) (above : Text) (kernel : Bool) →
+        SuperclassesStandBefore classes → HasNoRepeat (class_names classes) → has_class text_eq classes definition.name ≡ true →
+        definition.superclass ≡ Some above → has_class text_eq classes above ≡ true → makes_cycle text_eq classes definition ≡ false →
+        SuperclassesStandBefore (defined text_eq kernel definition classes) }
+    ensures same { (classes : List (ClassOf Text)) (definition : DefinitionOf Text) (above : Text) (kernel : Bool) →
+        SuperclassesStandBefore classes → HasNoRepeat (class_names classes) → has_class text_eq classes definition.name ≡ true →
+        definition.superclass ≡ Some above → has_class text_eq classes above ≡ true → makes_cycle text_eq classes definition ≡ false →
+        IsPermutation (with_definition text_eq kernel definition classes) (defined text_eq kernel definition classes) }
 {}

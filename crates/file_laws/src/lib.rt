@@ -4,4 +4,6 @@
 
 mod laws;
 
-pub use laws::{gives_fileable_images, reads_the_same_with_braces, settles_by_moving};
+pub use laws::{
+    gives_fileable_images, keeps_superclasses_first, reads_the_same_with_braces, settles_by_moving,
+};
