@@ -30,7 +30,7 @@ no_words (b ∷ s) h = by (is_blank b) h (no_words s)
     by false h rest = absurd (true≢false (sym h))
 
 -- so each of its words may be a name
-names_of_blanks : (s : List ℕ) → is_blank_string s ≡ true → may_name_all s ≡ true
+pub names_of_blanks : (s : List ℕ) → is_blank_string s ≡ true → may_name_all s ≡ true
 names_of_blanks s h = ap (list_all may_name) (no_words s h)
 
 -- class-instance variables in both dialects: the same, or none in the first

@@ -4,3 +4,4 @@ mod Sound
 mod Settled
 mod Moves
 mod Redefined
+mod Named

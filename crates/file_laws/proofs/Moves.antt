@@ -28,7 +28,7 @@ All-append : {X : Type 0} (P : X → Type 0) (xs ys : List X) → AllByRecursion
 All-append P [] ys a b = b
 All-append P (x ∷ xs) ys a b = (a.0, All-append P xs ys a.1 b)
 
-or_either : (a b : Bool) → (a || b) ≡ true → (a ≡ true) ⊎ (b ≡ true)
+pub or_either : (a b : Bool) → (a || b) ≡ true → (a ≡ true) ⊎ (b ≡ true)
 or_either true b h = inl refl
 or_either false b h = inr h
 
@@ -37,7 +37,7 @@ or_right true b h = refl
 or_right false b h = h
 
 -- a name stands in one of two lists
-stands_either : (s : Text) (xs ys : List (ClassOf Text)) → stands_in text_eq s (xs ++ ys) ≡ true → (stands_in text_eq s xs ≡ true) ⊎ (stands_in text_eq s ys ≡ true)
+pub stands_either : (s : Text) (xs ys : List (ClassOf Text)) → stands_in text_eq s (xs ++ ys) ≡ true → (stands_in text_eq s xs ≡ true) ⊎ (stands_in text_eq s ys ≡ true)
 stands_either s [] ys h = inr h
 stands_either s (x ∷ xs) ys h = by (text_eq s x.name) h (stands_either s xs ys)
   where
@@ -46,7 +46,7 @@ stands_either s (x ∷ xs) ys h = by (text_eq s x.name) h (stands_either s xs ys
     by true k rest = inl refl
     by false k rest = rest k
 
-stands_left : (s : Text) (xs ys : List (ClassOf Text)) → stands_in text_eq s xs ≡ true → stands_in text_eq s (xs ++ ys) ≡ true
+pub stands_left : (s : Text) (xs ys : List (ClassOf Text)) → stands_in text_eq s xs ≡ true → stands_in text_eq s (xs ++ ys) ≡ true
 stands_left s [] ys h = absurd (true≢false (sym h))
 stands_left s (x ∷ xs) ys h = by (text_eq s x.name) h (stands_left s xs ys)
   where
@@ -54,12 +54,12 @@ stands_left s (x ∷ xs) ys h = by (text_eq s x.name) h (stands_left s xs ys)
     by true k rest = refl
     by false k rest = rest k
 
-stands_right : (s : Text) (xs ys : List (ClassOf Text)) → stands_in text_eq s ys ≡ true → stands_in text_eq s (xs ++ ys) ≡ true
+pub stands_right : (s : Text) (xs ys : List (ClassOf Text)) → stands_in text_eq s ys ≡ true → stands_in text_eq s (xs ++ ys) ≡ true
 stands_right s [] ys h = h
 stands_right s (x ∷ xs) ys h = or_right (text_eq s x.name) (stands_in text_eq s (xs ++ ys)) (stands_right s xs ys h)
 
 -- the name of the one class of a list
-stands_alone : (s : Text) (x : ClassOf Text) → stands_in text_eq s (x ∷ []) ≡ true → s ≡ x.name
+pub stands_alone : (s : Text) (x : ClassOf Text) → stands_in text_eq s (x ∷ []) ≡ true → s ≡ x.name
 stands_alone s x h = by (or_either (text_eq s x.name) false h)
   where
     by : (text_eq s x.name ≡ true) ⊎ (false ≡ true) → s ≡ x.name
@@ -79,7 +79,7 @@ covers_more xs ys x cov s h = by (stands_either s xs (x ∷ []) h)
     by (inr k) = stands_right s ys (x ∷ []) k
 
 -- a class follows where more names are taken
-follows_more : (xs ys : List (ClassOf Text)) (c : ClassOf Text) → ((s : Text) → c.superclass ≡ Some s → stands_in text_eq s xs ≡ true → stands_in text_eq s ys ≡ true) → can_follow text_eq xs c ≡ true → can_follow text_eq ys c ≡ true
+pub follows_more : (xs ys : List (ClassOf Text)) (c : ClassOf Text) → ((s : Text) → c.superclass ≡ Some s → stands_in text_eq s xs ≡ true → stands_in text_eq s ys ≡ true) → can_follow text_eq xs c ≡ true → can_follow text_eq ys c ≡ true
 follows_more xs ys c cov h = by c.superclass refl h
   where
     by : (o : Option Text) → c.superclass ≡ o → option_map_or (λ n. stands_in text_eq n xs) o true ≡ true → option_map_or (λ n. stands_in text_eq n ys) o true ≡ true

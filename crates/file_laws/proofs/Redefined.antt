@@ -36,7 +36,7 @@ name_at_place (y ∷ ys) zero x e = let same : y ≡ x = cc in ap (λ (z : Class
 name_at_place (y ∷ ys) (suc k) x e = name_at_place ys k x e
 
 -- behind the first name no name stands twice
-no_repeat_behind : (x : Text) (xs : List Text) → HasNoRepeat (x ∷ xs) → HasNoRepeat xs
+pub no_repeat_behind : (x : Text) (xs : List Text) → HasNoRepeat (x ∷ xs) → HasNoRepeat xs
 no_repeat_behind x xs h j k y a b = let same : suc j ≡ suc k = h (suc j) (suc k) y a b in omega (arith, same)
 
 -- a class is found by its name
@@ -54,7 +54,7 @@ named_at (y ∷ ys) (suc k) x h e = by (text_eq x.name y.name) refl (named_at ys
     by false q rest = rest
 
 -- where a name stands
-stands_place : (s : Text) (xs : List (ClassOf Text)) → stands_in text_eq s xs ≡ true → (j : ℕ) × (j < length xs) × (slice_get (class_names xs) j ≡ Some s)
+pub stands_place : (s : Text) (xs : List (ClassOf Text)) → stands_in text_eq s xs ≡ true → (j : ℕ) × (j < length xs) × (slice_get (class_names xs) j ≡ Some s)
 stands_place s [] h = absurd (true≢false (sym h))
 stands_place s (x ∷ xs) h = by (text_eq s x.name) refl h (stands_place s xs)
   where
@@ -221,7 +221,7 @@ before_in taken (x ∷ xs) turn (suc k) c n e q =
       subst (λ (ys : List (ClassOf Text)). slice_get (class_names ys) place.0 ≡ Some n) (append_assoc taken (x ∷ []) xs) place.2,
     )
 
-in_order : (classes : List (ClassOf Text)) → IsTakenInTurn text_eq [] classes → SuperclassesStandBefore classes
+pub in_order : (classes : List (ClassOf Text)) → IsTakenInTurn text_eq [] classes → SuperclassesStandBefore classes
 in_order classes turn k c n e q =
     let place = before_in [] classes turn k c n e q in
     (place.0, (let below : place.0 < 0 + k = place.1 in omega arith), place.2)

@@ -43,7 +43,7 @@ record IsSoundImage (d : Dialect) (i : ImageOf Text) : Type 0 where
   heads : i.heads ≤ length i.doits
 
 -- of the items that pass
-All-filter : {X : Type 0} (P : X → Type 0) (p : X → Bool) (xs : List X) → AllByRecursion P xs → AllByRecursion P (filter p xs)
+pub All-filter : {X : Type 0} (P : X → Type 0) (p : X → Bool) (xs : List X) → AllByRecursion P xs → AllByRecursion P (filter p xs)
 All-filter P p [] all = tt
 All-filter P p (x ∷ xs) all = by (p x) (All-filter P p xs all.1)
   where
@@ -52,7 +52,7 @@ All-filter P p (x ∷ xs) all = by (p x) (All-filter P p xs all.1)
     by false rest = rest
 
 -- of one more item
-All-last : {X : Type 0} (P : X → Type 0) (xs : List X) (x : X) → AllByRecursion P xs → P x → AllByRecursion P (xs ++ x ∷ [])
+pub All-last : {X : Type 0} (P : X → Type 0) (xs : List X) (x : X) → AllByRecursion P xs → P x → AllByRecursion P (xs ++ x ∷ [])
 All-last P [] x all h = (h, tt)
 All-last P (y ∷ ys) x all h = (all.0, All-last P ys x all.1 h)
 
@@ -66,7 +66,7 @@ All-replaced P p new (x ∷ xs) all h = (by (p x), All-replaced P p new xs all.1
     by false = all.0
 
 -- what is given unless a condition holds
-unless_ok : {X : Type 0} (cs : List Condition) (x y : X) → ◌≡◌ {A = Result X Cause} (unless cs x) (Ok y) → x ≡ y
+pub unless_ok : {X : Type 0} (cs : List Condition) (x y : X) → ◌≡◌ {A = Result X Cause} (unless cs x) (Ok y) → x ≡ y
 unless_ok {X} cs x y e = by (first_cause cs) e
   where
     by : (o : Option Cause) → ◌≡◌ {A = Result X Cause} (option_map_or Err o (Ok x)) (Ok y) → x ≡ y

@@ -1,5 +1,5 @@
 // Laws of file-outs. Each function does nothing; its contract is the law.
-ghost use Rattle.std.specs.Prelude.{◌≡◌, ◌∷◌, ◌++◌, List, Bool, true, false, Some};
+ghost use Rattle.std.specs.Prelude.{◌≡◌, ◌∷◌, ◌++◌, List, Bool, true, false, Some, IsTrue};
 ghost use Rattle.std.specs.List.{AllByRecursion};
 ghost use Rattle.token_model.specs.declared.kind.Dialect.{Dialect};
 ghost use Rattle.token_model.specs.declared.kind.Dialect.TheVariants.{First, Second};
@@ -7,14 +7,15 @@ ghost use Rattle.rb_base.specs.Names.{text_eq};
 ghost use Rattle.image_model.specs.Image.{ImageOf, ClassOf, EntryOf};
 ghost use Rattle.image_model.specs.Valid.{IsFileable, IsUserMethod, IsUserDoIt, SuperclassesStandBefore};
 ghost use Rattle.std.specs.List.Sorted.{IsPermutation};
-ghost use Rattle.image_model.specs.Valid.{HasNoRepeat, class_names};
+ghost use Rattle.image_model.specs.Valid.{HasNoRepeat, class_names, GivesNames};
 ghost use Rattle.file_model.specs.Changes.{DefinitionOf};
 ghost use Rattle.file_model.specs.Hierarchy.{has_class, settled};
 ghost use Rattle.file_model.specs.Refusals.{makes_cycle};
 ghost use Rattle.file_model.specs.Applied.{with_definition, defined};
 ghost use Rattle.file_model.specs.Filing.{Text};
 ghost use Rattle.file_model.specs.Fileable.{reading_of};
-ghost use Rattle.file_model.specs.Reading.{IsImageOf};
+ghost use Rattle.file_model.specs.Words.{may_name};
+ghost use Rattle.file_model.specs.Reading.{IsKernelOf, IsImageOf};
 ghost use Rattle.file_laws.specs.Settling.{staying, moving, WaitsFor};
 
 /// The image of a file-out can be written as one and read again: each source of a user may stand as a chunk, each do-it is
@@ -53,4 +54,19 @@ pub fn keeps_superclasses_first()
         SuperclassesStandBefore classes → HasNoRepeat (class_names classes) → has_class text_eq classes definition.name ≡ true →
         definition.superclass ≡ Some above → has_class text_eq classes above ≡ true → makes_cycle text_eq classes definition ≡ false →
         IsPermutation (with_definition text_eq kernel definition classes) (defined text_eq kernel definition classes) }
+{}
+
+/// Where it is so of the kernel, no two classes of a file-out's image have one name, each superclass stands before its
+/// subclasses, and classes and variables have names that may be given: identifiers that are no pseudo-variables and neither
+/// `Smalltalk` nor `Transcript`.
+pub fn gives_named_classes()
+    ensures distinct { (dialect : Dialect) (prelude text : Text) (kernel image : ImageOf Text) → IsKernelOf dialect prelude kernel →
+        HasNoRepeat (class_names kernel.classes) → SuperclassesStandBefore kernel.classes → AllByRecursion (GivesNames (λ n. IsTrue (may_name n))) kernel.classes →
+        IsImageOf dialect prelude text image → HasNoRepeat (class_names image.classes) }
+    ensures before { (dialect : Dialect) (prelude text : Text) (kernel image : ImageOf Text) → IsKernelOf dialect prelude kernel →
+        HasNoRepeat (class_names kernel.classes) → SuperclassesStandBefore kernel.classes → AllByRecursion (GivesNames (λ n. IsTrue (may_name n))) kernel.classes →
+        IsImageOf dialect prelude text image → SuperclassesStandBefore image.classes }
+    ensures given { (dialect : Dialect) (prelude text : Text) (kernel image : ImageOf Text) → IsKernelOf dialect prelude kernel →
+        HasNoRepeat (class_names kernel.classes) → SuperclassesStandBefore kernel.classes → AllByRecursion (GivesNames (λ n. IsTrue (may_name n))) kernel.classes →
+        IsImageOf dialect prelude text image → AllByRecursion (GivesNames (λ n. IsTrue (may_name n))) image.classes }
 {}
