@@ -1,10 +1,9 @@
 -- What the first dialect reads, the second reads alike.
-use Rattle.std.proofs.Common.{◌≡◌, ◌⊎◌, inl, inr, ℕ, Bool, true, false, not, cond, List, [], ◌∷◌, length, filter, Option, Some, None, Result, Ok, Err, refl, sym, ap, subst, ◌∙◌, true≢false}
+use Rattle.std.proofs.Common.{◌≡◌, ◌⊎◌, inl, inr, ℕ, Bool, true, false, not, cond, List, [], ◌∷◌, length, filter, Option, Some, None, Result, Ok, Err, refl, sym, ap, ◌∙◌, true≢false}
 use Rattle.std.specs.Prelude.{◌==◌, ◌&&◌, if◌then◌else◌, codes}
 use Rattle.std.specs.List.{list_all, slice_split, onto_first}
 use Rattle.std.specs.Option.{option_map_or}
 use Rattle.rb_base.specs.Names.{text_eq}
-use Rattle.token_model.specs.declared.kind.Dialect.{Dialect}
 use Rattle.token_model.specs.declared.kind.Dialect.TheVariants.{First, Second}
 use Rattle.tree_model.specs.Tree.{SequenceOf}
 use Rattle.chunk_format.specs.Blank.{is_blank}
@@ -13,11 +12,11 @@ use Rattle.chunk_format.specs.declared.chunk_iter.Unended.{Unended as NoEnd}
 use Rattle.grammar_model.proofs.Dialects.{doit_second, method_second}
 use Rattle.image_model.specs.Image.{ImageOf, DoItOf}
 use Rattle.file_model.specs.Words.{may_name, words_of, is_blank_string, may_name_all}
-use Rattle.file_model.specs.Causes.{Cause, UnknownDefinition, Syntax, Refusal}
+use Rattle.file_model.specs.Causes.{Cause, UnknownDefinition, Syntax}
 use Rattle.file_model.specs.Changes.{RunOf, SetClassSide}
-use Rattle.file_model.specs.Forms.{Argument, Symbol, String, Other, Form, Evaluates, Changes, Opens, Refuses, no_form, Sent, sent_of, definition_selector, definition_strings, the_argument, subclass_form, class_side_form, other_form, sent_form, form_of}
+use Rattle.file_model.specs.Forms.{Argument, Symbol, String, Other, Form, Evaluates, Changes, no_form, Sent, sent_of, definition_selector, definition_strings, the_argument, subclass_form, class_side_form, other_form, sent_form, form_of}
 use Rattle.file_model.specs.Filing.{Text, Filing, Item, Blank, DoItChunk, MethodChunk, Faulty, form_taken, taken}
-use Rattle.file_model.specs.Reading.{IsItem, Empty, DoItRead, DoItFault, MethodRead, MethodFault, Takes, TakesAll, Over, Cut, Taken, Refused, ReadsText, IsKernelOf, IsImageOf}
+use Rattle.file_model.specs.Reading.{IsItem, Empty, DoItRead, DoItFault, MethodRead, MethodFault, Takes, TakesAll, Over, Taken, ReadsText, IsImageOf}
 
 -- a string of blanks has no words
 no_words : (s : List ℕ) → list_all is_blank s ≡ true → filter (λ (w : List ℕ). not (length w == 0)) (slice_split is_blank s) ≡ []

@@ -1,5 +1,5 @@
 -- The names and the order of the classes of each file-out.
-use Rattle.std.proofs.Common.{◌≡◌, ◌≢◌, ◌⊎◌, inl, inr, ℕ, zero, suc, ◌+◌, ◌<◌, ◌≤◌, Bool, true, false, not, cond, List, [], ◌∷◌, ◌++◌, length, map, filter, find, Option, Some, None, Result, Ok, Err, slice_get, refl, sym, ap, subst, ◌∙◌, true≢false, arith, append_assoc}
+use Rattle.std.proofs.Common.{◌≡◌, ◌⊎◌, inl, inr, ℕ, zero, suc, ◌+◌, ◌≤◌, Bool, true, false, not, cond, List, [], ◌∷◌, ◌++◌, filter, find, Option, Some, None, Result, Ok, Err, slice_get, refl, sym, ap, subst, ◌∙◌, true≢false, arith}
 use Rattle.std.specs.Prelude.{◌&&◌, ◌||◌, if◌then◌else◌, codes, IsTrue, is_some}
 use Rattle.std.specs.List.{list_any, list_all, sum_by, AllByRecursion}
 use Rattle.std.specs.Option.{option_map_or}
@@ -21,22 +21,22 @@ use Rattle.image_model.specs.Valid.{HasNoRepeat, class_names, SuperclassesStandB
 use Rattle.image_model.proofs.Kept.{SuperclassesStandBefore-kept}
 use Rattle.file_model.specs.Words.{may_name, may_name_all, words_of, is_blank_string}
 use Rattle.file_model.specs.Causes.{Cause, PoolsNotEmpty, UnknownDefinition, Condition, when, first_cause, unless, Syntax, Cycle, UnknownSuperclass, VariableTwice, KernelReplaced, TooMany, UnknownClass}
-use Rattle.file_model.specs.Changes.{DefinitionOf, ChangeOf, Define, Comment, SetClassSide, RemoveMethod, RemoveClass, RunOf}
+use Rattle.file_model.specs.Changes.{DefinitionOf, ChangeOf, Define, Comment, SetClassSide, RemoveMethod, RemoveClass}
 use Rattle.file_model.specs.Forms.{Argument, Symbol, String, Other, Form, Evaluates, Changes, Opens, Refuses, no_form, Sent, sent_of, definition_selector, DefinitionStrings, definition_strings, the_argument, definition_form, subclass_form, comment_form, run_form, removal_form, class_removal_form, has_class_side, class_side_form, other_form, sent_form, form_of}
 use Rattle.st_kernel.specs.Selectors.{is_reserved_selector}
-use Rattle.file_model.specs.Hierarchy.{has_class, settled, is_kernel_class, stands_in, can_follow, has_subclass, has_repeat, stands_twice}
+use Rattle.file_model.specs.Hierarchy.{has_class, settled, is_kernel_class, stands_in, has_subclass, has_repeat, stands_twice}
 use Rattle.file_model.specs.Refusals.{lacks_superclass, makes_cycle, is_one_class_too_many, definition_refusals, comment_refusals, class_side_refusals, removal_refusals, class_removal_refusals, method_refusals, run_refusals}
 use Rattle.image_model.specs.Means.{of_instance, of_class_side}
 use Rattle.file_model.specs.Applied.{new_class, class_again, changed_class, with_definition, with_comment, with_class_side, defined, without_class, without_method, changed, with_method, method_added}
 use Rattle.file_model.specs.Filing.{Text, Filing, Item, Blank, DoItChunk, MethodChunk, Faulty, goes_on, with_doit, form_taken, taken}
-use Rattle.file_model.specs.Reading.{IsItem, Takes, TakesAll, Over, Taken, ReadsText, IsKernelOf, IsImageOf}
+use Rattle.file_model.specs.Reading.{TakesAll, Over, Taken, IsKernelOf, IsImageOf}
 use Rattle.file_model.proofs.OneImage.{one_kernel}
 use Rattle.file_laws.specs.Settling.{IsTakenInTurn}
 use Rattle.file_laws.proofs.Braces.{names_of_blanks}
 use Rattle.file_laws.proofs.Sound.{unless_ok, All-last, All-filter}
 use Rattle.file_laws.proofs.Settled.{turn_of}
-use Rattle.file_laws.proofs.Moves.{text_equal, All-weaker, follows_more, stands_either, stands_left, stands_right, stands_alone, or_either, turn_both}
-use Rattle.file_laws.proofs.Redefined.{IsAgain, IsSettled, again_settled, in_order, stands_place, no_repeat_behind}
+use Rattle.file_laws.proofs.Moves.{text_equal, follows_more, stands_either, stands_left, stands_right, stands_alone, turn_both}
+use Rattle.file_laws.proofs.Redefined.{again_settled, in_order, no_repeat_behind}
 
 -- one for a test that passes, and nothing for one that fails
 abbrev weight : Bool → ℕ
@@ -101,9 +101,9 @@ no_repeat (x ∷ xs) once (suc j) (suc k) t a b =
 no_repeat_moved : (cs ds : List (ClassOf Text)) → IsPermutation cs ds → HasNoRepeat (class_names cs) → HasNoRepeat (class_names ds)
 no_repeat_moved cs ds p h =
     no_repeat (class_names ds) (λ t.
-      let count : times t (class_names ds) ≡ times t (class_names cs) = sum_by-IsPermutation (λ (x : Text). weight (text_eq t x)) (class_names cs) (class_names ds) (IsPermutation-map (λ (c : ClassOf Text). c.name) cs ds p) in
-      let few : times t (class_names cs) ≤ 1 = once_each (class_names cs) h t in
-      omega (arith, count, few))
+    let count : times t (class_names ds) ≡ times t (class_names cs) = sum_by-IsPermutation (λ (x : Text). weight (text_eq t x)) (class_names cs) (class_names ds) (IsPermutation-map (λ (c : ClassOf Text). c.name) cs ds p) in
+    let few : times t (class_names cs) ≤ 1 = once_each (class_names cs) h t in
+    omega (arith, count, few))
 
 -- a fact of each class in another order
 all_moved : (P : ClassOf Text → Type 0) (cs ds : List (ClassOf Text)) → IsPermutation cs ds → AllByRecursion P cs → AllByRecursion P ds
@@ -384,9 +384,10 @@ turn_without n seen taken (x ∷ xs) cov turn none = by (text_eq n x.name) refl 
         at : (s : Text) → text_eq n s ≡ false → (stands_in text_eq s seen ≡ true) ⊎ (stands_in text_eq s (x ∷ []) ≡ true) → stands_in text_eq s taken ≡ true
         at s f (inl k) = cov s k f
         at s f (inr k) = absurd (true≢false (sym e ∙ ap (text_eq n) (sym (stands_alone s x k)) ∙ f))
-    by false e next =
-        (follows_more seen taken x (λ s q h. cov s h (ap (λ o. option_map_or (text_eq n) o false) (sym q) ∙ none.0)) turn.0,
-         next (taken ++ x ∷ []) (λ s h f. at s f (stands_either s seen (x ∷ []) h)))
+    by false e next = (
+      follows_more seen taken x (λ s q h. cov s h (ap (λ o. option_map_or (text_eq n) o false) (sym q) ∙ none.0)) turn.0,
+      next (taken ++ x ∷ []) (λ s h f. at s f (stands_either s seen (x ∷ []) h)),
+    )
       where
         at : (s : Text) → text_eq n s ≡ false → (stands_in text_eq s seen ≡ true) ⊎ (stands_in text_eq s (x ∷ []) ≡ true) → stands_in text_eq s (taken ++ x ∷ []) ≡ true
         at s f (inl k) = stands_left s taken (x ∷ []) (cov s k f)
@@ -402,9 +403,9 @@ named_defined kernel x i g none h = by (has_class text_eq i.classes x.name) refl
         not_false (has_class text_eq i.classes g.above)
         (ap (λ o. option_map_or (λ p. not (has_class text_eq i.classes p)) o false) (sym g.under)
         ∙ second_none (when (is_kernel_class text_eq i.classes x.name) KernelReplaced) (when (lacks_superclass text_eq i.classes x) UnknownSuperclass)
-          (when (makes_cycle text_eq i.classes x) Cycle
-          ∷ when (stands_twice text_eq (with_definition text_eq kernel x i.classes) of_instance x.name || (stands_twice text_eq (with_definition text_eq kernel x i.classes) of_class_side x.name || has_repeat text_eq x.shared)) VariableTwice
-          ∷ when (is_one_class_too_many text_eq i.classes x.name) TooMany ∷ []) none)
+        (when (makes_cycle text_eq i.classes x) Cycle
+        ∷ when (stands_twice text_eq (with_definition text_eq kernel x i.classes) of_instance x.name || (stands_twice text_eq (with_definition text_eq kernel x i.classes) of_class_side x.name || has_repeat text_eq x.shared)) VariableTwice
+        ∷ when (is_one_class_too_many text_eq i.classes x.name) TooMany ∷ []) none)
 
     no_cycle : makes_cycle text_eq i.classes x ≡ false
     no_cycle =
@@ -416,21 +417,21 @@ named_defined kernel x i g none h = by (has_class text_eq i.classes x.name) refl
     by true there =
         let s = again_settled i.classes x g.above kernel (record { before = h.before; distinct = h.distinct; there = there; under = g.under; above_there = above_there; no_cycle = no_cycle }) in
         let put : with_definition text_eq kernel x i.classes ≡ changed_class text_eq x.name (class_again x) i.classes =
-          ap (λ (b : Bool). if b then changed_class text_eq x.name (class_again x) i.classes else i.classes ++ new_class kernel x ∷ []) there in
+        ap (λ (b : Bool). if b then changed_class text_eq x.name (class_again x) i.classes else i.classes ++ new_class kernel x ∷ []) there in
         record {
           distinct = no_repeat_moved (with_definition text_eq kernel x i.classes) (defined text_eq kernel x i.classes) s.same
-            (subst (λ (cs : List (ClassOf Text)). HasNoRepeat (class_names cs)) (sym put) (subst HasNoRepeat (sym (names_changed x.name (class_again x) (λ c. refl) i.classes)) h.distinct));
+              (subst (λ (cs : List (ClassOf Text)). HasNoRepeat (class_names cs)) (sym put) (subst HasNoRepeat (sym (names_changed x.name (class_again x) (λ c. refl) i.classes)) h.distinct));
           before = s.first;
           given = all_moved (GivesNames MayName) (with_definition text_eq kernel x i.classes) (defined text_eq kernel x i.classes) s.same
-            (subst (AllByRecursion (GivesNames MayName)) (sym put) (given_changed x.name (class_again x) (λ c gives. record { name = gives.name; instance = g.instance; class_side = gives.class_side; shared = g.shared }) i.classes h.given));
+              (subst (AllByRecursion (GivesNames MayName)) (sym put) (given_changed x.name (class_again x) (λ c gives. record { name = gives.name; instance = g.instance; class_side = gives.class_side; shared = g.shared }) i.classes h.given));
         }
     by false fresh =
         let put : defined text_eq kernel x i.classes ≡ i.classes ++ new_class kernel x ∷ [] =
-          ap (λ (b : Bool). if b then settled_any else with_definition text_eq kernel x i.classes) fresh
-          ∙ ap (λ (b : Bool). if b then changed_class text_eq x.name (class_again x) i.classes else i.classes ++ new_class kernel x ∷ []) fresh in
+        ap (λ (b : Bool). if b then settled_any else with_definition text_eq kernel x i.classes) fresh
+        ∙ ap (λ (b : Bool). if b then changed_class text_eq x.name (class_again x) i.classes else i.classes ++ new_class kernel x ∷ []) fresh in
         let turn : IsTakenInTurn text_eq [] (i.classes ++ new_class kernel x ∷ []) =
-          turn_both [] i.classes (new_class kernel x ∷ []) (turn_of [] i.classes h.before)
-          (ap (λ o. option_map_or (λ n. stands_in text_eq n i.classes) o true) g.under ∙ there_stands i.classes g.above above_there, tt) in
+        turn_both [] i.classes (new_class kernel x ∷ []) (turn_of [] i.classes h.before)
+        (ap (λ o. option_map_or (λ n. stands_in text_eq n i.classes) o true) g.under ∙ there_stands i.classes g.above above_there, tt) in
         record {
           distinct = subst (λ (cs : List (ClassOf Text)). HasNoRepeat (class_names cs)) (sym put) (subst HasNoRepeat (sym (names_behind i.classes)) (no_repeat_last (class_names i.classes) x.name h.distinct (absent i.classes x.name fresh)));
           before = subst SuperclassesStandBefore (sym put) (in_order (i.classes ++ new_class kernel x ∷ []) turn);

@@ -1,23 +1,23 @@
 -- The classes once one of them is defined again.
-use Rattle.std.proofs.Common.{◌≡◌, ◌≢◌, ◌⊎◌, inl, inr, ℕ, zero, suc, ◌+◌, ◌<◌, ◌≤◌, Bool, true, false, not, cond, List, [], ◌∷◌, ◌++◌, length, map, find, Option, Some, None, slice_get, refl, sym, ap, subst, ◌∙◌, true≢false, arith, append_assoc, length-append}
+use Rattle.std.proofs.Common.{◌≡◌, ◌≢◌, ℕ, zero, suc, ◌+◌, ◌<◌, Bool, true, false, cond, List, [], ◌∷◌, ◌++◌, length, find, Option, Some, None, slice_get, refl, sym, ap, subst, ◌∙◌, true≢false, arith, append_assoc, length-append}
 use Rattle.std.specs.Prelude.{◌||◌, if◌then◌else◌, is_some}
-use Rattle.std.specs.List.{list_any, AllByRecursion}
+use Rattle.std.specs.List.{AllByRecursion}
 use Rattle.std.specs.Option.{option_map_or}
 use Rattle.std.specs.List.Sorted.{IsPermutation}
 use Rattle.std.proofs.lemmas.List.Sorted.{IsPermutation-refl}
 use Rattle.rb_base.specs.Names.{text_eq}
 use Rattle.rb_base.proofs.NamesLemmas.{text_eq-refl}
 use Rattle.image_model.specs.Image.{ClassOf}
-use Rattle.image_model.specs.Chain.{class_named, class_of_name, superclass_of, chain_from, chain}
+use Rattle.image_model.specs.Chain.{class_named, superclass_of, chain_from, chain}
 use Rattle.image_model.specs.Valid.{HasNoRepeat, class_names, SuperclassesStandBefore}
 use Rattle.image_model.proofs.UpwardsLemmas.{upwards-none}
 use Rattle.image_model.proofs.ChainLemmas.{chain_from-step}
 use Rattle.file_model.specs.Changes.{DefinitionOf}
 use Rattle.file_model.specs.Filing.{Text}
-use Rattle.file_model.specs.Hierarchy.{has_class, stands_in, can_follow, settled}
+use Rattle.file_model.specs.Hierarchy.{has_class, stands_in, settled}
 use Rattle.file_model.specs.Refusals.{makes_cycle}
 use Rattle.file_model.specs.Applied.{new_class, class_again, changed_class, with_definition, defined}
-use Rattle.file_laws.specs.Settling.{IsTakenInTurn, staying, moving, WaitsFor}
+use Rattle.file_laws.specs.Settling.{IsTakenInTurn, staying, moving}
 use Rattle.file_laws.proofs.Settled.{moved, settled_in_turn, turn_of, at_front}
 use Rattle.file_laws.proofs.Moves.{text_equal, All-weaker, Inherits, Redefines, waits_for, same_classes, turn_front, turn_back, turn_both, turn_more}
 

@@ -1,12 +1,12 @@
 -- How classes are put in order.
-use Rattle.std.proofs.Common.{◌≡◌, ◌⊎◌, inl, inr, ℕ, zero, suc, ◌+◌, ◌<◌, ◌≤◌, Bool, true, false, not, cond, List, [], ◌∷◌, ◌++◌, length, map, filter, find, Option, Some, None, slice_get, refl, sym, ap, subst, ◌∙◌, true≢false, arith, append_assoc, append-nil, length-append}
-use Rattle.std.specs.Prelude.{◌||◌, if◌then◌else◌, IsTrue}
+use Rattle.std.proofs.Common.{◌≡◌, ℕ, zero, suc, ◌+◌, ◌<◌, Bool, true, false, not, cond, List, [], ◌∷◌, ◌++◌, length, find, Option, Some, None, slice_get, refl, sym, ap, subst, ◌∙◌, arith, append_assoc, append-nil, length-append}
+use Rattle.std.specs.Prelude.{◌||◌, if◌then◌else◌}
 use Rattle.std.specs.List.{list_any, AllByRecursion}
 use Rattle.std.specs.Option.{option_map_or}
 use Rattle.rb_base.specs.Names.{text_eq}
 use Rattle.rb_base.proofs.NamesLemmas.{text_eq-refl}
 use Rattle.image_model.specs.Image.{ClassOf}
-use Rattle.image_model.specs.Valid.{class_names, IsNamedBefore, SuperclassesStandBefore}
+use Rattle.image_model.specs.Valid.{class_names, SuperclassesStandBefore}
 use Rattle.file_model.specs.Filing.{Text}
 use Rattle.file_model.specs.Hierarchy.{stands_in, can_follow, without_first, settle_behind, settled}
 use Rattle.file_laws.specs.Settling.{IsTakenInTurn, IsHeld, moving, staying, WaitsFor}

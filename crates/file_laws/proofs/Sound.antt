@@ -1,6 +1,6 @@
 -- What holds of the image of each file-out.
-use Rattle.std.proofs.Common.{◌≡◌, ◌≢◌, ◌⊎◌, inl, inr, ℕ, ◌+◌, ◌≤◌, Bool, true, false, not, cond, List, [], ◌∷◌, ◌++◌, length, map, filter, Option, Some, None, Result, Ok, Err, refl, sym, ap, subst, ◌∙◌, true≢false, arith, length-append}
-use Rattle.std.specs.Prelude.{◌&&◌, ◌||◌, if◌then◌else◌, codes}
+use Rattle.std.proofs.Common.{◌≡◌, ℕ, ◌+◌, ◌≤◌, Bool, true, false, not, cond, List, [], ◌∷◌, ◌++◌, length, map, filter, Option, Some, None, Result, Ok, Err, refl, sym, subst, arith, length-append}
+use Rattle.std.specs.Prelude.{◌&&◌, if◌then◌else◌, codes}
 use Rattle.std.specs.List.{AllByRecursion}
 use Rattle.std.specs.Option.{option_map_or}
 use Rattle.std.specs.Result.{result_map_both}
@@ -12,18 +12,18 @@ use Rattle.chunk_format.specs.Chunks.{Piece}
 use Rattle.chunk_format.specs.declared.chunk_iter.Unended.{Unended as NoEnd}
 use Rattle.grammar_model.specs.Spelling.{SpellsDoIt, SpellsMethod}
 use Rattle.grammar_model.proofs.Limits.{limit_DoIt, limit_Method, user_Method, normal_Method}
-use Rattle.image_model.specs.Image.{ClassOf, EntryOf, DoItOf, ImageOf, plus}
+use Rattle.image_model.specs.Image.{EntryOf, DoItOf, ImageOf}
 use Rattle.image_model.specs.Lookup.{is_method}
 use Rattle.image_model.specs.Valid.{IsFileable, IsUserMethod, IsUserDoIt}
 use Rattle.file_model.specs.Words.{may_name, may_name_all, words_of, is_blank_string}
 use Rattle.file_model.specs.Causes.{Cause, PoolsNotEmpty, UnknownDefinition, Condition, when, first_cause, unless, Syntax}
-use Rattle.file_model.specs.Changes.{DefinitionOf, ChangeOf, Define, Comment, SetClassSide, RemoveMethod, RemoveClass, RunOf}
-use Rattle.file_model.specs.Forms.{Argument, Symbol, String, Other, Form, Evaluates, Changes, Opens, Refuses, no_form, Sent, sent_of, definition_selector, DefinitionStrings, definition_strings, the_argument, superclass_named, definition_form, subclass_form, class_side_form, other_form, sent_form, form_of}
+use Rattle.file_model.specs.Changes.{ChangeOf, Define, Comment, SetClassSide, RemoveMethod, RemoveClass, RunOf}
+use Rattle.file_model.specs.Forms.{Form, Evaluates, Changes, Opens, Refuses, Sent, sent_of, definition_selector, DefinitionStrings, definition_strings, the_argument, superclass_named, definition_form, subclass_form, class_side_form, other_form, sent_form, form_of}
 use Rattle.file_model.specs.Refusals.{has_method, definition_refusals, comment_refusals, class_side_refusals, removal_refusals, class_removal_refusals, method_refusals, run_refusals}
 use Rattle.file_model.specs.Applied.{is_of_class, with_definition, with_comment, with_class_side, defined, without_class, without_method, changed, entry_in, with_method, method_added}
-use Rattle.file_model.specs.Filing.{Text, Filing, Item, Blank, DoItChunk, MethodChunk, Faulty, goes_on, with_doit, form_taken, taken}
+use Rattle.file_model.specs.Filing.{Text, Filing, Item, goes_on, with_doit, form_taken, taken}
 use Rattle.file_model.specs.Fileable.{MayStand, IsDoItChunk, reading_of}
-use Rattle.file_model.specs.Reading.{IsItem, Empty, DoItRead, DoItFault, MethodRead, MethodFault, Takes, TakesAll, Over, Taken, ReadsText, no_image, IsKernelOf, IsImageOf}
+use Rattle.file_model.specs.Reading.{IsItem, Empty, DoItRead, DoItFault, MethodRead, MethodFault, TakesAll, Over, Taken, ReadsText, no_image, IsImageOf}
 use Rattle.file_laws.proofs.Sources.{source_begins}
 
 -- a method of the kernel, or one whose source spells it and may stand as a chunk
