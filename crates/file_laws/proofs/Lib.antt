@@ -5,3 +5,4 @@ mod Settled
 mod Moves
 mod Redefined
 mod Named
+mod Methods

@@ -1,5 +1,5 @@
 // Laws of file-outs. Each function does nothing; its contract is the law.
-ghost use Rattle.std.specs.Prelude.{◌≡◌, ◌∷◌, ◌++◌, List, Bool, true, false, Some, IsTrue};
+ghost use Rattle.std.specs.Prelude.{◌≡◌, map, ◌∷◌, ◌++◌, List, Bool, true, false, Some, IsTrue};
 ghost use Rattle.std.specs.List.{AllByRecursion};
 ghost use Rattle.token_model.specs.declared.kind.Dialect.{Dialect};
 ghost use Rattle.token_model.specs.declared.kind.Dialect.TheVariants.{First, Second};
@@ -7,7 +7,7 @@ ghost use Rattle.rb_base.specs.Names.{text_eq};
 ghost use Rattle.image_model.specs.Image.{ImageOf, ClassOf, EntryOf};
 ghost use Rattle.image_model.specs.Valid.{IsFileable, IsUserMethod, IsUserDoIt, SuperclassesStandBefore};
 ghost use Rattle.std.specs.List.Sorted.{IsPermutation};
-ghost use Rattle.image_model.specs.Valid.{HasNoRepeat, class_names, GivesNames};
+ghost use Rattle.image_model.specs.Valid.{HasNoRepeat, class_names, signature, GivesNames};
 ghost use Rattle.file_model.specs.Changes.{DefinitionOf};
 ghost use Rattle.file_model.specs.Hierarchy.{has_class, settled};
 ghost use Rattle.file_model.specs.Refusals.{makes_cycle};
@@ -69,4 +69,10 @@ pub fn gives_named_classes()
     ensures given { (dialect : Dialect) (prelude text : Text) (kernel image : ImageOf Text) → IsKernelOf dialect prelude kernel →
         HasNoRepeat (class_names kernel.classes) → SuperclassesStandBefore kernel.classes → AllByRecursion (GivesNames (λ n. IsTrue (may_name n))) kernel.classes →
         IsImageOf dialect prelude text image → AllByRecursion (GivesNames (λ n. IsTrue (may_name n))) image.classes }
+{}
+
+/// Where it is so of the kernel, no two methods of a file-out's image have one class, one side and one selector.
+pub fn gives_methods_once()
+    ensures { (dialect : Dialect) (prelude text : Text) (kernel image : ImageOf Text) → IsKernelOf dialect prelude kernel →
+        HasNoRepeat (map signature kernel.methods) → IsImageOf dialect prelude text image → HasNoRepeat (map signature image.methods) }
 {}
