@@ -1,0 +1,148 @@
+-- Words of strings, and arguments by their number.
+use Rattle.std.proofs.Common.{◌≡◌, ℕ, Bool, true, false, not, cond, List, [], ◌∷◌, length, map, filter, Option, Some, None, refl, sym, ap, ◌∙◌, true≢false, arith, take, drop, suc, zero, ◌+◌}
+use Rattle.std.proofs.lemmas.Bool.{eqb-true}
+use Rattle.std.specs.Prelude.{◌==◌, ◌||◌, ◌&&◌, option_map}
+use Rattle.std.specs.List.{list_all, slice_split, onto_first, prefix_len}
+use Rattle.tree_model.specs.Tree.{TreeOf, map_trees, trees_of, map_statements}
+use Rattle.st_tree.specs.View.{statements_of}
+use Rattle.st_tree.specs.declared.tree.Statement.{Statement}
+use Rattle.file_model.specs.Forms.{Argument, Symbol, String, Other, arguments_of, the_argument, sent_in_statements, DefinitionStrings, definition_strings}
+use Rattle.chunk_forms.specs.Told.{FirstOf, symbol_first, string_first}
+
+-- all parts pass or are empty where all that are not empty pass
+pub list_all-filled : (q : List ℕ → Bool) (parts : List (List ℕ)) → list_all (λ (w : List ℕ). (length w == 0) || q w) parts ≡ list_all q (filter (λ (w : List ℕ). not (length w == 0)) parts)
+list_all-filled q [] = refl
+list_all-filled q (w ∷ ws) = by (length w == 0) (list_all-filled q ws)
+  where
+    by : (b : Bool) → list_all (λ (v : List ℕ). (length v == 0) || q v) ws ≡ list_all q (filter (λ (v : List ℕ). not (length v == 0)) ws)
+        → ((b || q w) && list_all (λ (v : List ℕ). (length v == 0) || q v) ws) ≡ list_all q (cond (not b) (w ∷ filter (λ (v : List ℕ). not (length v == 0)) ws) (filter (λ (v : List ℕ). not (length v == 0)) ws))
+    by true h = h
+    by false h = ap (λ t. q w && t) h
+
+-- two or more arguments are not one
+pub no_one_argument : (f : ℕ → List ℕ) (ts : List (TreeOf ℕ)) (t : TreeOf ℕ) (others : List (TreeOf ℕ)) → ts ≡ t ∷ others → (length others == 0) ≡ false → the_argument (arguments_of (map_trees f (trees_of ts))) ≡ Other
+no_one_argument f ts t [] e h = absurd (true≢false h)
+no_one_argument f ts t (u ∷ us) e h = ap (λ (xs : List (TreeOf ℕ)). the_argument (arguments_of (map_trees f (trees_of xs)))) e
+
+-- two or more statements are no message
+pub no_one_statement : (f : ℕ → List ℕ) (ss : List Statement) (s : Statement) (others : List Statement) → ss ≡ s ∷ others → (length others == 0) ≡ false → None ≡ sent_in_statements (map_statements f (statements_of ss))
+no_one_statement f ss s [] e h = absurd (true≢false h)
+no_one_statement f ss s (t ∷ ts) e h = sym (ap (λ (xs : List Statement). sent_in_statements (map_statements f (statements_of xs))) e)
+
+-- arguments that begin with a symbol
+symbol_is : (xs : List Argument) (r : FirstOf) → Some r ≡ symbol_first xs → xs ≡ Symbol r.text ∷ r.others
+symbol_is [] r e = absurd (cc)
+symbol_is (Symbol t ∷ xs) r e = cc
+symbol_is (String t ∷ xs) r e = absurd (cc)
+symbol_is (Other ∷ xs) r e = absurd (cc)
+
+-- arguments that begin with a string
+string_is : (xs : List Argument) (r : FirstOf) → Some r ≡ string_first xs → xs ≡ String r.text ∷ r.others
+string_is [] r e = absurd (cc)
+string_is (Symbol t ∷ xs) r e = absurd (cc)
+string_is (String t ∷ xs) r e = cc
+string_is (Other ∷ xs) r e = absurd (cc)
+
+-- a symbol and three strings
+four : (xs : List Argument) (n i s p : FirstOf) → Some n ≡ symbol_first xs → Some i ≡ string_first n.others → Some s ≡ string_first i.others → Some p ≡ string_first s.others
+    → xs ≡ Symbol n.text ∷ String i.text ∷ String s.text ∷ String p.text ∷ p.others
+four xs n i s p a b d e =
+    symbol_is xs n a
+    ∙ ap (λ ys. Symbol n.text ∷ ys) (string_is n.others i b
+    ∙ ap (λ ys. String i.text ∷ ys) (string_is i.others s d
+    ∙ ap (λ ys. String s.text ∷ ys) (string_is s.others p e)))
+
+-- no fifth string
+missing : (n i s p : List ℕ) (xs : List Argument) → None ≡ string_first xs → definition_strings (Symbol n ∷ String i ∷ String s ∷ String p ∷ xs) ≡ None
+missing n i s p [] e = refl
+missing n i s p (Symbol t ∷ xs) e = refl
+missing n i s p (String t ∷ xs) e = absurd (cc)
+missing n i s p (Other ∷ xs) e = refl
+
+-- where the fifth argument is no string, there is no definition
+pub no_category : (xs : List Argument) (n i s p : FirstOf) → Some n ≡ symbol_first xs → Some i ≡ string_first n.others → Some s ≡ string_first i.others → Some p ≡ string_first s.others → None ≡ string_first p.others
+    → None ≡ definition_strings xs
+no_category xs n i s p a b d e h =
+    sym (ap definition_strings (four xs n i s p a b d e) ∙ missing n.text i.text s.text p.text p.others h)
+
+-- a symbol and four strings
+five : (xs : List Argument) (n i s p k : FirstOf) → Some n ≡ symbol_first xs → Some i ≡ string_first n.others → Some s ≡ string_first i.others → Some p ≡ string_first s.others → Some k ≡ string_first p.others
+    → xs ≡ Symbol n.text ∷ String i.text ∷ String s.text ∷ String p.text ∷ String k.text ∷ k.others
+five xs n i s p k a b d e h =
+    four xs n i s p a b d e ∙ ap (λ ys. Symbol n.text ∷ String i.text ∷ String s.text ∷ String p.text ∷ ys) (string_is p.others k h)
+
+-- where a sixth argument follows, there is no definition
+pub more_arguments : (f : ℕ → List ℕ) (xs : List Argument) (n i s p : FirstOf) (k : List ℕ) (ts : List (TreeOf ℕ)) → (length ts == 0) ≡ false
+    → Some n ≡ symbol_first xs → Some i ≡ string_first n.others → Some s ≡ string_first i.others → Some p ≡ string_first s.others
+    → Some (record { text = k; others = arguments_of (map_trees f (trees_of ts)) }) ≡ string_first p.others → None ≡ definition_strings xs
+more_arguments f xs n i s p k [] l a b d e h = absurd (true≢false l)
+more_arguments f xs n i s p k (t ∷ ts) l a b d e h =
+    sym (ap definition_strings (five xs n i s p (record { text = k; others = arguments_of (map_trees f (trees_of (t ∷ ts))) }) a b d e h))
+
+-- where none follows, these are the strings of a definition
+pub all_strings : (f : ℕ → List ℕ) (xs : List Argument) (n i s p : FirstOf) (k : List ℕ) (ts : List (TreeOf ℕ)) → (length ts == 0) ≡ true
+    → Some n ≡ symbol_first xs → Some i ≡ string_first n.others → Some s ≡ string_first i.others → Some p ≡ string_first s.others
+    → Some (record { text = k; others = arguments_of (map_trees f (trees_of ts)) }) ≡ string_first p.others
+    → Some (record { name = n.text; instance = i.text; shared = s.text; pools = p.text; category = k }) ≡ definition_strings xs
+all_strings f xs n i s p k [] l a b d e h =
+    sym (ap definition_strings (five xs n i s p (record { text = k; others = [] }) a b d e h))
+all_strings f xs n i s p k (t ∷ ts) l a b d e h = absurd (omega (arith, eqb-true (length (t ∷ ts)) 0 l))
+
+-- a text begins with a word that a separator follows
+pub split_word : (p : ℕ → Bool) (xs : List ℕ) (x : ℕ) (others : List ℕ) → drop (prefix_len (λ b. not (p b)) xs) xs ≡ x ∷ others → slice_split p xs ≡ take (prefix_len (λ b. not (p b)) xs) xs ∷ slice_split p others
+split_word p [] x others e = absurd (cc)
+split_word p (y ∷ ys) x others e = by (p y) e (split_word p ys x others)
+  where
+    by : (b : Bool) → drop (cond (not b) (1 + prefix_len (λ c. not (p c)) ys) 0) (y ∷ ys) ≡ x ∷ others
+        → (drop (prefix_len (λ c. not (p c)) ys) ys ≡ x ∷ others → slice_split p ys ≡ take (prefix_len (λ c. not (p c)) ys) ys ∷ slice_split p others)
+        → cond b ([] ∷ slice_split p ys) (onto_first y (slice_split p ys)) ≡ take (cond (not b) (1 + prefix_len (λ c. not (p c)) ys) 0) (y ∷ ys) ∷ slice_split p others
+    by true h rest = let same : ys ≡ others = cc in ap (λ zs. [] ∷ slice_split p zs) same
+    by false h rest =
+        let next : suc (prefix_len (λ c. not (p c)) ys) ≡ 1 + prefix_len (λ c. not (p c)) ys = omega arith in
+        ap (onto_first y) (rest (ap (λ k. drop k (y ∷ ys)) next ∙ h)) ∙ ap (λ k. take k (y ∷ ys) ∷ slice_split p others) next
+
+-- a text is one word where no separator follows
+pub split_last : (p : ℕ → Bool) (xs : List ℕ) → drop (prefix_len (λ b. not (p b)) xs) xs ≡ [] → slice_split p xs ≡ take (prefix_len (λ b. not (p b)) xs) xs ∷ []
+split_last p [] e = refl
+split_last p (y ∷ ys) e = by (p y) e (split_last p ys)
+  where
+    by : (b : Bool) → drop (cond (not b) (1 + prefix_len (λ c. not (p c)) ys) 0) (y ∷ ys) ≡ []
+        → (drop (prefix_len (λ c. not (p c)) ys) ys ≡ [] → slice_split p ys ≡ take (prefix_len (λ c. not (p c)) ys) ys ∷ [])
+        → cond b ([] ∷ slice_split p ys) (onto_first y (slice_split p ys)) ≡ take (cond (not b) (1 + prefix_len (λ c. not (p c)) ys) 0) (y ∷ ys) ∷ []
+    by true h rest = absurd (cc)
+    by false h rest =
+        let next : suc (prefix_len (λ c. not (p c)) ys) ≡ 1 + prefix_len (λ c. not (p c)) ys = omega arith in
+        ap (onto_first y) (rest (ap (λ k. drop k (y ∷ ys)) next ∙ h)) ∙ ap (λ k. take k (y ∷ ys) ∷ []) next
+
+-- all words pass where the first passes and all behind it do
+pub all_split : (q : List ℕ → Bool) (p : ℕ → Bool) (xs part behind others : List ℕ) (n x : ℕ) → n ≡ prefix_len (λ b. not (p b)) xs → part ≡ take n xs → behind ≡ drop n xs → behind ≡ x ∷ others
+    → list_all q (slice_split p xs) ≡ (q part && list_all q (slice_split p others))
+all_split q p xs part behind others n x len front back cut =
+    let found : drop (prefix_len (λ b. not (p b)) xs) xs ≡ x ∷ others = ap (λ k. drop k xs) (sym len) ∙ sym back ∙ cut in
+    let word : take (prefix_len (λ b. not (p b)) xs) xs ≡ part = ap (λ k. take k xs) (sym len) ∙ sym front in
+    ap (list_all q) (split_word p xs x others found) ∙ ap (λ w. q w && list_all q (slice_split p others)) word
+
+-- all words pass where the first passes and it is the last
+pub all_split_last : (q : List ℕ → Bool) (p : ℕ → Bool) (xs part behind : List ℕ) (n : ℕ) → n ≡ prefix_len (λ b. not (p b)) xs → part ≡ take n xs → behind ≡ drop n xs → behind ≡ []
+    → list_all q (slice_split p xs) ≡ q part
+all_split_last q p xs part behind n len front back cut =
+    let found : drop (prefix_len (λ b. not (p b)) xs) xs ≡ [] = ap (λ k. drop k xs) (sym len) ∙ sym back ∙ cut in
+    let word : take (prefix_len (λ b. not (p b)) xs) xs ≡ part = ap (λ k. take k xs) (sym len) ∙ sym front in
+    ap (list_all q) (split_last p xs found) ∙ ap (λ w. q w && true) word ∙ and_true (q part)
+  where
+    and_true : (b : Bool) → (b && true) ≡ b
+    and_true true = refl
+    and_true false = refl
+
+-- not all words pass where the first one fails
+pub all_split_fails : (q : List ℕ → Bool) (p : ℕ → Bool) (xs part : List ℕ) (n : ℕ) → n ≡ prefix_len (λ b. not (p b)) xs → part ≡ take n xs → q part ≡ false → list_all q (slice_split p xs) ≡ false
+all_split_fails q p xs part n len front fails = by (drop n xs) refl
+  where
+    by : (behind : List ℕ) → drop n xs ≡ behind → list_all q (slice_split p xs) ≡ false
+    by [] e = all_split_last q p xs part [] n len front (sym e) refl ∙ fails
+    by (x ∷ others) e = all_split q p xs part (x ∷ others) others n x len front (sym e) refl ∙ ap (λ b. b && list_all q (slice_split p others)) fails
+
+-- nothing is left where the length is nothing
+pub none_left : (xs : List ℕ) → length xs ≡ 0 → xs ≡ []
+none_left [] e = refl
+none_left (x ∷ xs) e = absurd (omega (arith, e))

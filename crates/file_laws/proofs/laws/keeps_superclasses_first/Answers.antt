@@ -1,0 +1,12 @@
+use Rattle.file_laws.proofs.Redefined.{again_settled}
+use Rattle.file_laws.proofs.laws.keeps_superclasses_first.Goals as goal
+
+pub returns-clause-first : goal.returns-clause-first
+returns-clause-first c =
+    λ classes d p kernel before distinct there under above no_cycle.
+    (again_settled classes d p kernel (record { before = before; distinct = distinct; there = there; under = under; above_there = above; no_cycle = no_cycle })).first
+
+pub returns-clause-same : goal.returns-clause-same
+returns-clause-same c =
+    λ classes d p kernel before distinct there under above no_cycle.
+    (again_settled classes d p kernel (record { before = before; distinct = distinct; there = there; under = under; above_there = above; no_cycle = no_cycle })).same

@@ -1,0 +1,78 @@
+// Laws of file-outs. Each function does nothing; its contract is the law.
+ghost use Rattle.std.specs.Prelude.{◌≡◌, map, ◌∷◌, ◌++◌, List, Bool, true, false, Some, IsTrue};
+ghost use Rattle.std.specs.List.{AllByRecursion};
+ghost use Rattle.token_model.specs.declared.kind.Dialect.{Dialect};
+ghost use Rattle.token_model.specs.declared.kind.Dialect.TheVariants.{First, Second};
+ghost use Rattle.rb_base.specs.Names.{text_eq};
+ghost use Rattle.image_model.specs.Image.{ImageOf, ClassOf, EntryOf};
+ghost use Rattle.image_model.specs.Valid.{IsFileable, IsUserMethod, IsUserDoIt, SuperclassesStandBefore};
+ghost use Rattle.std.specs.List.Sorted.{IsPermutation};
+ghost use Rattle.image_model.specs.Valid.{HasNoRepeat, class_names, signature, GivesNames};
+ghost use Rattle.file_model.specs.Changes.{DefinitionOf};
+ghost use Rattle.file_model.specs.Hierarchy.{has_class, settled};
+ghost use Rattle.file_model.specs.Refusals.{makes_cycle};
+ghost use Rattle.file_model.specs.Applied.{with_definition, defined};
+ghost use Rattle.file_model.specs.Filing.{Text};
+ghost use Rattle.file_model.specs.Fileable.{reading_of};
+ghost use Rattle.file_model.specs.Words.{may_name};
+ghost use Rattle.file_model.specs.Reading.{IsKernelOf, IsImageOf};
+ghost use Rattle.file_laws.specs.Settling.{staying, moving, WaitsFor};
+
+/// The image of a file-out can be written as one and read again: each source of a user may stand as a chunk, each do-it is
+/// read as one, and no more do-its stand at the head than there are. Each source of a user's method spells its tree, which
+/// has its comments in normal form, a height of at most 200 and no primitive, and each do-it's source spells its tree,
+/// of a height of at most 200.
+pub fn gives_fileable_images()
+    ensures fileable { (dialect : Dialect) (prelude text : Text) (kernel image : ImageOf Text) → IsImageOf dialect prelude text image → IsFileable (reading_of dialect kernel) image }
+    ensures methods { (dialect : Dialect) (prelude text : Text) (kernel image : ImageOf Text) → IsImageOf dialect prelude text image → AllByRecursion (λ (m : EntryOf Text). m.kernel ≡ false → IsUserMethod (reading_of dialect kernel) m) image.methods }
+    ensures doits { (dialect : Dialect) (prelude text : Text) (kernel image : ImageOf Text) → IsImageOf dialect prelude text image → AllByRecursion (IsUserDoIt (reading_of dialect kernel)) image.doits }
+{}
+
+/// Where the first dialect has an image for a text, the second has the same image.
+pub fn reads_the_same_with_braces()
+    ensures { (prelude text : Text) (image : ImageOf Text) → IsImageOf First prelude text image → IsImageOf Second prelude text image }
+{}
+
+/// Classes of which each stands behind its superclass are in order. Where one class waits for another that stands behind
+/// it, it goes behind that one with those that move with it, and all others stay: so putting classes in order takes time
+/// in the number of classes between the two.
+pub fn settles_by_moving()
+    ensures in_order { (classes : List (ClassOf Text)) → SuperclassesStandBefore classes → settled text_eq classes ≡ classes }
+    ensures moved { (moves : ClassOf Text → Bool) (front : List (ClassOf Text)) (class : ClassOf Text) (middle : List (ClassOf Text)) (above : ClassOf Text) (back : List (ClassOf Text)) →
+        WaitsFor text_eq moves front class middle above back →
+        settled text_eq (front ++ (class ∷ (middle ++ (above ∷ back)))) ≡ front ++ (staying moves middle ++ (above ∷ class ∷ (moving moves middle ++ back))) }
+{}
+
+/// Where a class is defined again under another that is not below it, each superclass stands before its subclasses, and
+/// the classes are those with the new definition: none is lost and none stands twice.
+pub fn keeps_superclasses_first()
+    ensures first { (classes : List (ClassOf Text)) (definition : DefinitionOf Text) (above : Text) (kernel : Bool) →
+        SuperclassesStandBefore classes → HasNoRepeat (class_names classes) → has_class text_eq classes definition.name ≡ true →
+        definition.superclass ≡ Some above → has_class text_eq classes above ≡ true → makes_cycle text_eq classes definition ≡ false →
+        SuperclassesStandBefore (defined text_eq kernel definition classes) }
+    ensures same { (classes : List (ClassOf Text)) (definition : DefinitionOf Text) (above : Text) (kernel : Bool) →
+        SuperclassesStandBefore classes → HasNoRepeat (class_names classes) → has_class text_eq classes definition.name ≡ true →
+        definition.superclass ≡ Some above → has_class text_eq classes above ≡ true → makes_cycle text_eq classes definition ≡ false →
+        IsPermutation (with_definition text_eq kernel definition classes) (defined text_eq kernel definition classes) }
+{}
+
+/// Where it is so of the kernel, no two classes of a file-out's image have one name, each superclass stands before its
+/// subclasses, and classes and variables have names that may be given: identifiers that are no pseudo-variables and neither
+/// `Smalltalk` nor `Transcript`.
+pub fn gives_named_classes()
+    ensures distinct { (dialect : Dialect) (prelude text : Text) (kernel image : ImageOf Text) → IsKernelOf dialect prelude kernel →
+        HasNoRepeat (class_names kernel.classes) → SuperclassesStandBefore kernel.classes → AllByRecursion (GivesNames (λ n. IsTrue (may_name n))) kernel.classes →
+        IsImageOf dialect prelude text image → HasNoRepeat (class_names image.classes) }
+    ensures before { (dialect : Dialect) (prelude text : Text) (kernel image : ImageOf Text) → IsKernelOf dialect prelude kernel →
+        HasNoRepeat (class_names kernel.classes) → SuperclassesStandBefore kernel.classes → AllByRecursion (GivesNames (λ n. IsTrue (may_name n))) kernel.classes →
+        IsImageOf dialect prelude text image → SuperclassesStandBefore image.classes }
+    ensures given { (dialect : Dialect) (prelude text : Text) (kernel image : ImageOf Text) → IsKernelOf dialect prelude kernel →
+        HasNoRepeat (class_names kernel.classes) → SuperclassesStandBefore kernel.classes → AllByRecursion (GivesNames (λ n. IsTrue (may_name n))) kernel.classes →
+        IsImageOf dialect prelude text image → AllByRecursion (GivesNames (λ n. IsTrue (may_name n))) image.classes }
+{}
+
+/// Where it is so of the kernel, no two methods of a file-out's image have one class, one side and one selector.
+pub fn gives_methods_once()
+    ensures { (dialect : Dialect) (prelude text : Text) (kernel image : ImageOf Text) → IsKernelOf dialect prelude kernel →
+        HasNoRepeat (map signature kernel.methods) → IsImageOf dialect prelude text image → HasNoRepeat (map signature image.methods) }
+{}

@@ -1,0 +1,10 @@
+//! What holds of the image of each file-out of Smalltalk-80, and of file-outs in the two dialects. The functions of this
+//! crate are laws on the definitions: they do nothing.
+#![tactic(auto)]
+
+mod laws;
+
+pub use laws::{
+    gives_fileable_images, gives_methods_once, gives_named_classes, keeps_superclasses_first,
+    reads_the_same_with_braces, settles_by_moving,
+};

@@ -1,0 +1,12 @@
+pub mod Words
+pub mod Causes
+pub mod Changes
+pub mod Forms
+pub mod Hierarchy
+pub mod Refusals
+pub mod Applied
+pub mod Filing
+pub mod Reading
+pub mod Written
+pub mod Fileable
+pub mod Examples

@@ -1,0 +1,12 @@
+//! File-outs of Smalltalk-80 (Goldberg and Robson 1983; Krasner, "The Smalltalk-80 Code File Format", 1983): an image is
+//! written as one.
+#![tactic(auto)]
+
+mod class_texts;
+mod file_text;
+mod method_texts;
+mod strings;
+#[cfg(test)]
+mod tests;
+
+pub use file_text::write_image;
