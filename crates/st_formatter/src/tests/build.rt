@@ -665,14 +665,14 @@ fn tall_method(alloc: Global, names: &Names) -> Result<Method, Memory>
     Ok(method(names, SCALED, arguments, Comments::new(alloc), None, body))
 }
 
-pub fn noted_doit_reads(alloc: Global, names: &Names) -> Result<bool, Memory>
+fn noted_doit_reads(alloc: Global, names: &Names) -> Result<bool, Memory>
     requires { length names.now ≡ 30 }
 {
     let body = noted_doit(alloc, names)?;
     doit_reads(alloc, names, &body, "Transcript show: 'it''s'\n\"a!b\"")
 }
 
-pub fn cascade_doit_reads(alloc: Global, names: &Names) -> Result<bool, Memory>
+fn cascade_doit_reads(alloc: Global, names: &Names) -> Result<bool, Memory>
     requires { length names.now ≡ 30 }
 {
     let body = cascade_doit(alloc, names)?;
@@ -684,35 +684,35 @@ pub fn cascade_doit_reads(alloc: Global, names: &Names) -> Result<bool, Memory>
     )
 }
 
-pub fn temporary_doit_reads(alloc: Global, names: &Names) -> Result<bool, Memory>
+fn temporary_doit_reads(alloc: Global, names: &Names) -> Result<bool, Memory>
     requires { length names.now ≡ 30 }
 {
     let body = temporary_doit(alloc, names)?;
     doit_reads(alloc, names, &body, "| k |\nk := 2.\nA new note: -1")
 }
 
-pub fn brace_doit_reads(alloc: Global, names: &Names) -> Result<bool, Memory>
+fn brace_doit_reads(alloc: Global, names: &Names) -> Result<bool, Memory>
     requires { length names.now ≡ 30 }
 {
     let body = brace_doit(alloc, names)?;
     doit_reads(alloc, names, &body, "{1. {2}}")
 }
 
-pub fn operands_doit_reads(alloc: Global, names: &Names) -> Result<bool, Memory>
+fn operands_doit_reads(alloc: Global, names: &Names) -> Result<bool, Memory>
     requires { length names.now ≡ 30 }
 {
     let body = operands_doit(alloc, names)?;
     doit_reads(alloc, names, &body, "(a + (b * x)) foo + a foo * b")
 }
 
-pub fn array_doit_reads(alloc: Global, names: &Names) -> Result<bool, Memory>
+fn array_doit_reads(alloc: Global, names: &Names) -> Result<bool, Memory>
     requires { length names.now ≡ 30 }
 {
     let body = array_doit(alloc, names)?;
     doit_reads(alloc, names, &body, "#(#(1 $a #'a b' #at:put:) #[3] nil)")
 }
 
-pub fn scaled_method_reads(alloc: Global, names: &Names) -> Result<bool, Memory>
+fn scaled_method_reads(alloc: Global, names: &Names) -> Result<bool, Memory>
     requires { length names.now ≡ 30 }
 {
     let whole = scaled_method(alloc, names)?;
@@ -724,7 +724,7 @@ pub fn scaled_method_reads(alloc: Global, names: &Names) -> Result<bool, Memory>
     )
 }
 
-pub fn commented_method_reads(alloc: Global, names: &Names) -> Result<bool, Memory>
+fn commented_method_reads(alloc: Global, names: &Names) -> Result<bool, Memory>
     requires { length names.now ≡ 30 }
 {
     let whole = commented_method(alloc, names)?;
@@ -736,21 +736,21 @@ pub fn commented_method_reads(alloc: Global, names: &Names) -> Result<bool, Memo
     )
 }
 
-pub fn unary_method_reads(alloc: Global, names: &Names) -> Result<bool, Memory>
+fn unary_method_reads(alloc: Global, names: &Names) -> Result<bool, Memory>
     requires { length names.now ≡ 30 }
 {
     let whole = unary_method(alloc, names)?;
     method_reads(alloc, names, &whole, "up\n\t^self count: self count + 1")
 }
 
-pub fn primitive_method_reads(alloc: Global, names: &Names) -> Result<bool, Memory>
+fn primitive_method_reads(alloc: Global, names: &Names) -> Result<bool, Memory>
     requires { length names.now ≡ 30 }
 {
     let whole = primitive_method(alloc, names)?;
     method_reads(alloc, names, &whole, "+ anObject\n\t<primitive: 10>")
 }
 
-pub fn tall_method_reads(alloc: Global, names: &Names) -> Result<bool, Memory>
+fn tall_method_reads(alloc: Global, names: &Names) -> Result<bool, Memory>
     requires { length names.now ≡ 30 }
 {
     let whole = tall_method(alloc, names)?;
@@ -760,4 +760,39 @@ pub fn tall_method_reads(alloc: Global, names: &Names) -> Result<bool, Memory>
         &whole,
         "scaled: a by: b\n\tself do: [:x |\n\t\t\"note\"\n\t\tx foo.\n\t\tx value: [:k | ] value: []\n\t\t\"end\"]",
     )
+}
+
+/// A tree that is built by hand.
+#[derive(Clone, Copy, Debug)]
+pub enum Sample {
+    Noted,
+    Cascade,
+    Temporary,
+    Brace,
+    Operands,
+    Array,
+    Scaled,
+    Commented,
+    Unary,
+    Primitive,
+    Tall,
+}
+
+/// Whether a tree has the text that was written by hand.
+pub fn reads(alloc: Global, names: &Names, sample: Sample) -> Result<bool, Memory>
+    requires { length names.now ≡ 30 }
+{
+    match sample {
+        Sample::Noted => noted_doit_reads(alloc, names),
+        Sample::Cascade => cascade_doit_reads(alloc, names),
+        Sample::Temporary => temporary_doit_reads(alloc, names),
+        Sample::Brace => brace_doit_reads(alloc, names),
+        Sample::Operands => operands_doit_reads(alloc, names),
+        Sample::Array => array_doit_reads(alloc, names),
+        Sample::Scaled => scaled_method_reads(alloc, names),
+        Sample::Commented => commented_method_reads(alloc, names),
+        Sample::Unary => unary_method_reads(alloc, names),
+        Sample::Primitive => primitive_method_reads(alloc, names),
+        Sample::Tall => tall_method_reads(alloc, names),
+    }
 }
