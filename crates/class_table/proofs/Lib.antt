@@ -4,3 +4,5 @@ pub mod Walks
 pub mod Live
 pub mod Found
 pub mod TreeOf
+pub mod KeptLemmas
+pub mod ClassLemmas

@@ -8,3 +8,4 @@ pub mod Info
 pub mod Changing
 pub mod Lending
 pub mod Valid
+pub mod Kept

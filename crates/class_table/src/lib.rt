@@ -17,7 +17,10 @@ mod tree;
 
 pub use class_order::ClassOrder;
 pub use image::Image;
-pub use laws::{law_chain, law_class_named, law_lookup, law_names_added};
+pub use laws::{
+    law_chain, law_class_named, law_classes_orderly, law_doits_orderly, law_lookup,
+    law_methods_orderly, law_names_added,
+};
 pub use method_order::MethodOrder;
 pub use record::{
     ClassId, ClassIds, ClassRec, DoIt, MethodInfo, MethodRec, MethodSlot, Place, Slot,

@@ -20,14 +20,14 @@ find-early p (z ∷ zs) (suc i) x y at h e = by (p z) refl e (find-early p zs i 
     by false q r rest = let found = rest r in (suc found.0, (let less : found.0 ≤ i = found.1 in omega arith), found.2)
 
 -- the item whose value stands at a place of a mapped list
-slice_get-map : {X Y : Type 0} (f : X → Y) (xs : List X) (i : ℕ) (y : Y) → slice_get (map f xs) i ≡ Some y → (x : X) × (slice_get xs i ≡ Some x) × (f x ≡ y)
+pub slice_get-map : {X Y : Type 0} (f : X → Y) (xs : List X) (i : ℕ) (y : Y) → slice_get (map f xs) i ≡ Some y → (x : X) × (slice_get xs i ≡ Some x) × (f x ≡ y)
 slice_get-map f [] i y e = absurd (cc)
 slice_get-map f (x ∷ xs) zero y e = let same : f x ≡ y = cc in (x, refl, same)
 slice_get-map f (x ∷ xs) (suc i) y e = slice_get-map f xs i y e
 
 module _ {N : Type 0} (same : N → N → Bool) (reflexive : (n : N) → same n n ≡ true) (classes : List (ClassOf N)) (before : SuperclassesStandBefore classes) where
   -- the superclass of a class stands before it
-  superclass_before : (j : ℕ) (c d : ClassOf N) → slice_get classes j ≡ Some c → superclass_of same classes c ≡ Some d → (i : ℕ) × (i < j) × (slice_get classes i ≡ Some d)
+  pub superclass_before : (j : ℕ) (c d : ClassOf N) → slice_get classes j ≡ Some c → superclass_of same classes c ≡ Some d → (i : ℕ) × (i < j) × (slice_get classes i ≡ Some d)
   superclass_before j c d at e = by c.superclass refl e
     where
       by : (o : Option N) → c.superclass ≡ o → class_of_name same classes o ≡ Some d → (i : ℕ) × (i < j) × (slice_get classes i ≡ Some d)

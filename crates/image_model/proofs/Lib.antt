@@ -5,3 +5,9 @@ pub mod Changed
 pub mod Tables
 pub mod ChainLemmas
 pub mod Kept
+pub mod Ends
+pub mod GrownLemmas
+pub mod HierarchyLemmas
+pub mod SearchLemmas
+pub mod Middles
+pub mod MethodLemmas

@@ -9,3 +9,4 @@ pub mod Nodes
 pub mod Uses
 pub mod Valid
 pub mod Replaced
+pub mod Grown

@@ -3,7 +3,7 @@
 use super::*;
 use rb_base::{Ids, Memory, NameId, Names};
 use st_tree::{
-    Comments, Method, Node, NodeKind, Nodes, Part, Path, Sequence, Statement, Statements, part_at,
+    Comments, Method, Node, NodeKind, Nodes, Part, Path, Sequence, Statement, Statements,
 };
 use std::alloc::Global;
 use std::test::Fail;
@@ -71,14 +71,24 @@ fn assigning(alloc: Global, name: usize, value: usize) -> Result<Node, Memory> {
     block(alloc, &[], &[], nodes)
 }
 
+/// `[:t | self]`
+fn inner_block(alloc: Global) -> Result<Node, Memory> {
+    let mut nodes = Nodes::new(alloc);
+    nodes.push(var(5))?;
+    block(alloc, &[NameId(0)], &[], nodes)
+}
+
+/// `[:x | | y | y := t. [:t | self]]`
+fn outer_block(alloc: Global) -> Result<Node, Memory> {
+    let mut nodes = Nodes::new(alloc);
+    nodes.push(assign(alloc, 2, var(0))?)?;
+    nodes.push(inner_block(alloc)?)?;
+    block(alloc, &[NameId(1)], &[NameId(2)], nodes)
+}
+
 /// `t := [:x | | y | y := t. [:t | self]]`
 fn first_statement(alloc: Global) -> Result<Node, Memory> {
-    let mut inner = Nodes::new(alloc);
-    inner.push(var(5))?;
-    let mut outer = Nodes::new(alloc);
-    outer.push(assign(alloc, 2, var(0))?)?;
-    outer.push(block(alloc, &[NameId(0)], &[], inner)?)?;
-    assign(alloc, 0, block(alloc, &[NameId(1)], &[NameId(2)], outer)?)
+    assign(alloc, 0, outer_block(alloc)?)
 }
 
 /// `a ifTrue: [t := a] ifFalse: [t := b]`
@@ -96,18 +106,31 @@ fn second_statement(alloc: Global) -> Result<Node, Memory> {
     })
 }
 
-/// `m: a | t |` with the first two statements above and `[last := b]`.
-fn method(alloc: Global, last: usize) -> Result<Method, Memory> {
+/// The two statements above.
+fn first_two(alloc: Global) -> Result<Nodes, Memory> {
     let mut nodes = Nodes::new(alloc);
     nodes.push(first_statement(alloc)?)?;
     nodes.push(second_statement(alloc)?)?;
+    Ok(nodes)
+}
+
+/// `| t |` with the two statements above and `[last := b]`.
+fn whole_body(alloc: Global, last: usize) -> Result<Sequence, Memory> {
+    let mut nodes = first_two(alloc)?;
     nodes.push(assigning(alloc, last, 4)?)?;
+    body(alloc, &[NameId(0)], nodes)
+}
+
+/// `m: a` with that body.
+fn method(alloc: Global, last: usize) -> Result<Method, Memory> {
+    let arguments = ids(alloc, &[NameId(3)])?;
+    let body = whole_body(alloc, last)?;
     Ok(Method {
         selector: NameId(7),
-        arguments: ids(alloc, &[NameId(3)])?,
+        arguments,
         head: Comments::new(alloc),
         primitive: None,
-        body: body(alloc, &[NameId(0)], nodes)?,
+        body,
     })
 }
 
@@ -115,12 +138,63 @@ fn path(alloc: Global, steps: &[usize]) -> Result<Path, Memory> {
     Ok(Path::from_vec(Vec::from_slice(alloc, steps)?))
 }
 
+fn local(alloc: Global, steps: &[usize], name: usize) -> Result<Local, Memory> {
+    let names = table(alloc)?;
+    let method = method(alloc, 0)?;
+    let path = path(alloc, steps)?;
+    Ok(local_at(&method, &path, NameId(name), &names))
+}
+
+fn local_of_doit(alloc: Global, steps: &[usize], name: usize) -> Result<Local, Memory> {
+    let names = table(alloc)?;
+    let body = whole_body(alloc, 0)?;
+    let path = path(alloc, steps)?;
+    Ok(local_at_doit(&body, &path, NameId(name), &names))
+}
+
+/// Appends the free names of the first block.
+fn free_in_block(alloc: Global, out: &mut Ids) -> Result<(), Memory> {
+    let names = table(alloc)?;
+    let method = method(alloc, 0)?;
+    let path = path(alloc, &[0, 0])?;
+    free_names(alloc, &method, &Part::Expression { path }, &names, out)
+}
+
+/// Appends the free names of the second and third statement.
+fn free_in_run(alloc: Global, out: &mut Ids) -> Result<(), Memory> {
+    let names = table(alloc)?;
+    let body = whole_body(alloc, 0)?;
+    let run = Part::Run {
+        path: Path::new(alloc),
+        first: 1,
+        count: 2,
+    };
+    free_names_doit(alloc, &body, &run, &names, out)
+}
+
+/// Whether a closure assigns `t`.
+fn assigned(alloc: Global, last: usize) -> Result<bool, Memory> {
+    let names = table(alloc)?;
+    let method = method(alloc, last)?;
+    Ok(assigned_in_closure(&method, &Path::new(alloc), NameId(0), &names))
+}
+
+fn assigned_of_doit(alloc: Global, last: usize) -> Result<bool, Memory> {
+    let names = table(alloc)?;
+    let body = whole_body(alloc, last)?;
+    Ok(assigned_in_closure_doit(&body, &Path::new(alloc), NameId(0), &names))
+}
+
+/// Whether the second statement is a control send.
+fn second_is_control(alloc: Global) -> Result<bool, Memory> {
+    let names = table(alloc)?;
+    let node = second_statement(alloc)?;
+    Ok(is_control(&node, &names))
+}
+
 #[test]
 fn the_innermost_declaration_counts(rt: HostRuntime) -> Result<(), Fail> {
-    let names = table(rt.alloc())?;
-    let method = method(rt.alloc(), 0)?;
-    let inside = path(rt.alloc(), &[0, 0, 0, 0])?;
-    for (name, local) in [
+    for (name, expected) in [
         (0, Local::Temporary { scope: 0 }),
         (1, Local::Argument { scope: 2 }),
         (2, Local::Temporary { scope: 2 }),
@@ -128,53 +202,35 @@ fn the_innermost_declaration_counts(rt: HostRuntime) -> Result<(), Fail> {
         (4, Local::NotLocal),
         (5, Local::NotLocal),
     ] {
-        assert!(rt; local_at(&method, &inside, NameId(name), &names) == local);
+        assert!(rt;
+            local(rt.alloc(), &[0, 0, 0, 0], name)? == expected,
+            "name {name}"
+        );
     }
-    let inner = path(rt.alloc(), &[0, 0, 1, 0])?;
-    assert!(rt; local_at(&method, &inner, NameId(0), &names) == Local::Argument { scope: 3 });
-    let own = path(rt.alloc(), &[0, 0])?;
-    assert!(rt; local_at_doit(&method.body, &own, NameId(1), &names) == Local::NotLocal);
+    Ok(())
+}
+
+#[test]
+fn a_parameter_counts_inside_its_block(rt: HostRuntime) -> Result<(), Fail> {
+    assert!(rt; local(rt.alloc(), &[0, 0, 1, 0], 0)? == Local::Argument { scope: 3 });
+    assert!(rt; local_of_doit(rt.alloc(), &[0, 0], 1)? == Local::NotLocal);
     Ok(())
 }
 
 #[test]
 fn free_names_stand_once_in_the_order_of_the_text(rt: HostRuntime) -> Result<(), Fail> {
-    let names = table(rt.alloc())?;
-    let method = method(rt.alloc(), 0)?;
     let mut out = Ids::new(rt.alloc());
-    let block = path(rt.alloc(), &[0, 0])?;
-    free_names(
-        rt.alloc(),
-        &method,
-        &Part::Expression { path: block },
-        &names,
-        &mut out,
-    )?;
-    let run = Part::Run {
-        path: Path::new(rt.alloc()),
-        first: 1,
-        count: 2,
-    };
-    free_names_doit(rt.alloc(), &method.body, &run, &names, &mut out)?;
-    let expected = ids(
-        rt.alloc(),
-        &[NameId(0), NameId(5), NameId(3), NameId(0), NameId(4)],
-    )?;
-    assert!(rt; out.same(&expected));
+    free_in_block(rt.alloc(), &mut out)?;
+    free_in_run(rt.alloc(), &mut out)?;
+    let expected = [NameId(0), NameId(5), NameId(3), NameId(0), NameId(4)];
+    assert!(rt; out.as_slice() == expected.as_slice());
     Ok(())
 }
 
 #[test]
 fn blocks_of_control_sends_are_no_closures(rt: HostRuntime) -> Result<(), Fail> {
-    let names = table(rt.alloc())?;
-    let whole = Path::new(rt.alloc());
-    let with = method(rt.alloc(), 0)?;
-    assert!(rt; assigned_in_closure(&with, &whole, NameId(0), &names));
-    let without = method(rt.alloc(), 4)?;
-    assert!(rt; !assigned_in_closure_doit(&without.body, &whole, NameId(0), &names));
-    let second = path(rt.alloc(), &[1])?;
-    if let Some(node) = part_at(&with, &second) {
-        assert!(rt; is_control(node, &names));
-    }
+    assert!(rt; assigned(rt.alloc(), 0)?);
+    assert!(rt; !assigned_of_doit(rt.alloc(), 4)?);
+    assert!(rt; second_is_control(rt.alloc())?);
     Ok(())
 }
