@@ -1,0 +1,64 @@
+-- The forms of a command line's words.
+use Rattle.std.specs.Prelude.{ℕ, Bool, ◌&&◌, ◌||◌, List, [], ◌∷◌, codes, if◌then◌else◌}
+use Rattle.std.specs.Str.{bytes_eq}
+use Rattle.command_words.specs.Spelling.{is_number, is_query}
+use Rattle.command_words.specs.declared.words.Words.{Words}
+use Rattle.command_words.specs.declared.words.Words.TheVariants as words
+
+-- What the words say.
+pub data Form : Type 0 where
+  -- `apply IMAGE SCRIPT`
+  Apply : List ℕ → List ℕ → Form
+  -- `format IMAGE`
+  Format : List ℕ → Form
+  -- words in a form that is not built yet
+  Later : Form
+  -- words in no form
+  NoForm : Form
+
+-- `format IMAGE`, and `demo NUMBER` with a number from 1 to 2,000
+abbrev pub form_of_two : List ℕ → List ℕ → Form
+form_of_two command word =
+    if bytes_eq command (codes "format") then Format word else
+    (if bytes_eq command (codes "demo") && is_number 2000 word then Later else NoForm)
+
+-- `run IMAGE EXPRESSION`, `search IMAGE PATTERN`, `changes IMAGE SCRIPT`, `strip IMAGE EXPRESSION` and `team IMAGE LOG`
+abbrev pub is_later_of_three : List ℕ → Bool
+is_later_of_three command = bytes_eq command (codes "run") || bytes_eq command (codes "search") || bytes_eq command (codes "changes") || bytes_eq command (codes "strip") || bytes_eq command (codes "team")
+
+-- `apply IMAGE SCRIPT`, and the forms above
+abbrev pub form_of_three : List ℕ → List ℕ → List ℕ → Form
+form_of_three command image word =
+    if bytes_eq command (codes "apply") then Apply image word else
+    (if is_later_of_three command then Later else NoForm)
+
+-- `run IMAGE EXPRESSION BUDGET` with a budget from 1 to 10,000,000, `find IMAGE KIND NAME`, `rewrite IMAGE PATTERN REPLACEMENT` and `strip IMAGE EXPRESSION sets`
+abbrev pub is_later_of_four : List ℕ → List ℕ → List ℕ → Bool
+is_later_of_four command word last =
+    (bytes_eq command (codes "run") && is_number 10000000 last)
+    || (bytes_eq command (codes "find") && is_query word last)
+    || bytes_eq command (codes "rewrite")
+    || (bytes_eq command (codes "strip") && bytes_eq last (codes "sets"))
+
+abbrev pub form_of_four : List ℕ → List ℕ → List ℕ → Form
+form_of_four command word last = if is_later_of_four command word last then Later else NoForm
+
+abbrev pub form_of : List (List ℕ) → Form
+form_of (command ∷ word ∷ []) = form_of_two command word
+form_of (command ∷ image ∷ word ∷ []) = form_of_three command image word
+form_of (command ∷ image ∷ word ∷ last ∷ []) = form_of_four command word last
+form_of words = NoForm
+
+-- the files that a form names, in the order in which they are asked for
+abbrev pub files_of : Form → List (List ℕ)
+files_of (Apply image script) = image ∷ script ∷ []
+files_of (Format image) = image ∷ []
+files_of Later = []
+files_of NoForm = []
+
+-- the form that the program sees
+abbrev pub shows : Words → Form
+shows (words.Apply image script) = Apply image.now script.now
+shows (words.Format image) = Format image.now
+shows words.Later = Later
+shows words.NoForm = NoForm

@@ -1,0 +1,134 @@
+// How the words of a command line are spelled.
+ghost use Rattle.std.specs.Prelude.{◌≡◌, ◌-◌, nat_le, IsTrue};
+ghost use Rattle.std.specs.List.{list_all};
+ghost use Rattle.token_model.specs.Bytes as class;
+ghost use Rattle.text_model.specs.Literals as literal;
+ghost use Rattle.command_words.specs.Spelling.{value_after, is_number, ends_as_member, is_member, takes_any_name, takes_member, is_query};
+
+/// Whether the byte is a decimal digit.
+fn is_digit(byte: u8) -> bool
+    ensures { result ≡ class.is_digit byte }
+{
+    byte.is_ascii_digit()
+}
+
+/// Whether the byte is a letter.
+fn is_letter(byte: u8) -> bool
+    ensures { result ≡ class.is_letter byte }
+{
+    byte.is_ascii_alphabetic()
+}
+
+/// Whether the byte is a letter or a digit.
+fn is_word(byte: u8) -> bool
+    ensures { result ≡ class.is_word byte }
+{
+    byte.is_ascii_alphanumeric()
+}
+
+/// Whether the bytes are digits alone.
+fn are_digits(text: &[u8]) -> bool
+    ensures { result ≡ list_all class.is_digit text.now }
+{
+    text.iter().all(|byte| is_digit(*byte))
+}
+
+/// Whether the bytes are letters and digits alone.
+fn are_words(text: &[u8]) -> bool
+    ensures { result ≡ list_all class.is_word text.now }
+{
+    text.iter().all(|byte| is_word(*byte))
+}
+
+/// Whether the bytes are an identifier: a letter, and then letters and digits.
+fn is_identifier(text: &[u8]) -> bool
+    ensures { result ≡ literal.is_identifier text.now }
+{
+    match text.split_first() {
+        None => false,
+        Some((first, rest)) => is_letter(*first) && are_words(rest),
+    }
+}
+
+/// The digit that a byte writes.
+fn digit_of(byte: u8) -> u64
+    ensures { result ≡ byte - 48 }
+{
+    u64::from(byte.saturating_sub(b'0'))
+}
+
+/// Whether the number that digits write is at most this one. No number that is kept is higher.
+fn is_at_most(digits: &[u8], most: u32) -> bool
+    ensures { result ≡ nat_le (value_after 0 digits.now) most }
+{
+    let mut value = 0;
+    let mut rest = digits;
+    while let Some((byte, others)) = rest.split_first() {
+        value = value * 10 + digit_of(*byte);
+        if value > u64::from(most) {
+            return false;
+        }
+        rest = others;
+    }
+    true
+}
+
+/// Whether the word is a decimal number from 1 to `most` without a leading zero.
+pub(crate) fn is_number(word: &[u8], most: u32) -> bool
+    ensures { result ≡ is_number most word.now }
+{
+    match word.split_first() {
+        None => false,
+        Some((first, rest)) => {
+            b'1' <= *first && *first <= b'9' && are_digits(rest) && is_at_most(word, most)
+        }
+    }
+}
+
+/// Whether the bytes are letters and digits, then a period and an identifier.
+fn ends_as_member(text: &[u8]) -> bool
+    ensures { result ≡ ends_as_member text.now }
+{
+    let mut rest = text;
+    while let Some((byte, others)) = rest.split_first() {
+        if *byte == b'.' {
+            return is_identifier(others);
+        }
+        if !is_word(*byte) {
+            return false;
+        }
+        rest = others;
+    }
+    false
+}
+
+/// Whether the word names a variable of a class: two identifiers with a period between them.
+fn is_member(word: &[u8]) -> bool
+    ensures { result ≡ is_member word.now }
+{
+    match word.split_first() {
+        None => false,
+        Some((first, rest)) => is_letter(*first) && ends_as_member(rest),
+    }
+}
+
+/// Whether a thing of this kind may be searched for by any name.
+fn takes_any_name(kind: &str) -> bool
+    ensures { result ≡ takes_any_name kind.now }
+{
+    kind == "senders" || kind == "implementors" || kind == "class"
+}
+
+/// Whether a thing of this kind is searched for by a class and a variable.
+fn takes_member(kind: &str) -> bool
+    ensures { result ≡ takes_member kind.now }
+{
+    kind == "inst" || kind == "shared" || kind == "classInst"
+}
+
+/// Whether the words name a kind of thing to search for, and one of that kind.
+pub(crate) fn is_query(kind: &str, name: &str) -> bool
+    ensures { result ≡ is_query kind.now name.now }
+{
+    takes_any_name(kind) || (takes_member(kind) && is_member(name.as_bytes()))
+}

@@ -1,0 +1,121 @@
+// Words by their forms.
+use super::*;
+use rb_base::Memory;
+use std::alloc::Global;
+use std::process::Abort;
+use std::test::Fail;
+
+/// The words as the program is given them.
+fn given(alloc: Global, words: &[&str]) -> Result<Vec<String>, Memory> {
+    let mut given = Vec::new(alloc);
+    for word in words {
+        given.push(String::from_str(alloc, word)?)?;
+    }
+    Ok(given)
+}
+
+/// The form that words are in, as a word.
+fn form(words: Words<'_>) -> &'static str {
+    match words {
+        Words::Apply { .. } => "apply",
+        Words::Format { .. } => "format",
+        Words::Later => "later",
+        Words::NoForm => "none",
+    }
+}
+
+/// Compares the form of words.
+fn is_form(rt: &impl Abort, alloc: Global, words: &[&str], wanted: &str) -> Result<(), Memory> {
+    let words = given(alloc, words)?;
+    assert!(rt; form(words_of(words.as_slice())) == wanted);
+    Ok(())
+}
+
+#[test]
+fn words_have_their_forms(rt: HostRuntime) -> Result<(), Fail> {
+    for (words, wanted) in [
+        (["apply", "I", "S"].as_slice(), "apply"),
+        (&["format", "I"], "format"),
+        (&["run", "I", "3"], "later"),
+        (&["run", "I", "3", "100"], "later"),
+        (&["find", "I", "class", "?"], "later"),
+        (&["search", "I", "P"], "later"),
+        (&["rewrite", "I", "P", "R"], "later"),
+        (&["demo", "3"], "later"),
+        (&["changes", "I", "S"], "later"),
+        (&["strip", "I", "3"], "later"),
+        (&["strip", "I", "3", "sets"], "later"),
+        (&["team", "I", "L"], "later"),
+    ] {
+        is_form(&rt, rt.alloc(), words, wanted)?;
+    }
+    Ok(())
+}
+
+#[test]
+fn other_words_have_none(rt: HostRuntime) -> Result<(), Fail> {
+    for words in [
+        [].as_slice(),
+        &["format"],
+        &["format", "I", "I"],
+        &["Format", "I"],
+        &["apply", "I"],
+        &["apply", "I", "S", "S"],
+        &["run", "I"],
+        &["strip", "I", "3", "set"],
+        &["", "demo", "3"],
+        &["--help"],
+    ] {
+        is_form(&rt, rt.alloc(), words, "none")?;
+    }
+    Ok(())
+}
+
+#[test]
+fn numbers_have_limits(rt: HostRuntime) -> Result<(), Fail> {
+    for (number, wanted) in [
+        ("1", "later"),
+        ("2000", "later"),
+        ("2001", "none"),
+        ("0", "none"),
+        ("01", "none"),
+        ("+1", "none"),
+        ("1a", "none"),
+        ("", "none"),
+        ("18446744073709551617", "none"),
+    ] {
+        is_form(&rt, rt.alloc(), &["demo", number], wanted)?;
+    }
+    for (number, wanted) in [
+        ("10000000", "later"),
+        ("10000001", "none"),
+        ("0", "none"),
+        ("01", "none"),
+    ] {
+        is_form(&rt, rt.alloc(), &["run", "I", "3", number], wanted)?;
+    }
+    Ok(())
+}
+
+#[test]
+fn names_are_spelled_by_their_kind(rt: HostRuntime) -> Result<(), Fail> {
+    for (kind, name, wanted) in [
+        ("senders", "", "later"),
+        ("implementors", "at:put:", "later"),
+        ("class", "A.x", "later"),
+        ("inst", "A.x", "later"),
+        ("shared", "a1.X2", "later"),
+        ("classInst", "A.x", "later"),
+        ("inst", ".x", "none"),
+        ("inst", "A.", "none"),
+        ("inst", "A", "none"),
+        ("inst", "A.x.y", "none"),
+        ("inst", "1.x", "none"),
+        ("inst", "A.1", "none"),
+        ("inst", "A b.x", "none"),
+        ("variable", "A.x", "none"),
+    ] {
+        is_form(&rt, rt.alloc(), &["find", "I", kind, name], wanted)?;
+    }
+    Ok(())
+}

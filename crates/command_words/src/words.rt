@@ -1,0 +1,99 @@
+// The words of a command line.
+ghost use Rattle.std.specs.Prelude.{◌≡◌, map, string_bytes};
+ghost use Rattle.command_words.specs.Forms.{form_of, form_of_two, form_of_three, form_of_four, is_later_of_three, is_later_of_four, shows};
+
+use crate::spelling::{is_number, is_query};
+
+/// The highest number of `demo`.
+const MOST_CLASSES: u32 = 2000;
+
+/// The highest budget of a run, in ticks.
+const MOST_TICKS: u32 = 10000000;
+
+/// The forms of the words.
+#[derive(Clone, Copy)]
+pub enum Words<'w> {
+    /// `apply IMAGE SCRIPT`.
+    Apply { image: &'w str, script: &'w str },
+    /// `format IMAGE`.
+    Format { image: &'w str },
+    /// Words in a form that is not built yet.
+    Later,
+    /// Words in no form.
+    NoForm,
+}
+
+/// The form that two words are in.
+fn form_of_two<'w>(command: &str, word: &'w str) -> Words<'w>
+    ensures { shows result ≡ form_of_two command.now word.now }
+{
+    if command == "format" {
+        Words::Format { image: word }
+    } else if command == "demo" && is_number(word.as_bytes(), MOST_CLASSES) {
+        Words::Later
+    } else {
+        Words::NoForm
+    }
+}
+
+/// Whether the command is one of three words that is not built yet.
+fn is_later_of_three(command: &str) -> bool
+    ensures { result ≡ is_later_of_three command.now }
+{
+    command == "run"
+        || command == "search"
+        || command == "changes"
+        || command == "strip"
+        || command == "team"
+}
+
+/// The form that three words are in.
+fn form_of_three<'w>(command: &str, image: &'w str, word: &'w str) -> Words<'w>
+    ensures { shows result ≡ form_of_three command.now image.now word.now }
+{
+    if command == "apply" {
+        Words::Apply {
+            image,
+            script: word,
+        }
+    } else if is_later_of_three(command) {
+        Words::Later
+    } else {
+        Words::NoForm
+    }
+}
+
+/// Whether four words are in a form that is not built yet; the second one is that of an image.
+fn is_later_of_four(command: &str, word: &str, last: &str) -> bool
+    ensures { result ≡ is_later_of_four command.now word.now last.now }
+{
+    (command == "run" && is_number(last.as_bytes(), MOST_TICKS))
+        || (command == "find" && is_query(word, last))
+        || command == "rewrite"
+        || (command == "strip" && last == "sets")
+}
+
+/// The form that four words are in.
+fn form_of_four<'w>(command: &str, word: &str, last: &str) -> Words<'w>
+    ensures { shows result ≡ form_of_four command.now word.now last.now }
+{
+    if is_later_of_four(command, word, last) {
+        Words::Later
+    } else {
+        Words::NoForm
+    }
+}
+
+/// The form that the words are in.
+pub fn words_of<'w>(words: &'w [String]) -> Words<'w>
+    ensures { shows result ≡ form_of (map string_bytes words.now) }
+{
+    match words {
+        [command, word] => form_of_two(command.as_str(), word.as_str()),
+        [command, image, word] => form_of_three(command.as_str(), image.as_str(), word.as_str()),
+        [command, _image, word, last] => {
+            form_of_four(command.as_str(), word.as_str(), last.as_str())
+        }
+        _ => Words::NoForm,
+    }
+}
