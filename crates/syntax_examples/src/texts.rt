@@ -6,7 +6,7 @@ use crate::form::Form;
 pub type Read = (Form, &'static [u8], &'static [u8]);
 
 /// The texts.
-pub fn texts() -> [Read; 35] {
+pub fn texts() -> [Read; 51] {
     [
         (Form::Method, b"value\n\t^self ", b"value\n\t^self"),
         (Form::Method, b"value: a\n\t^\na", b"value: a\n\t^a"),
@@ -155,5 +155,53 @@ pub fn texts() -> [Read; 35] {
             b"scaled:a by:b self do:[:x|\"note\"x foo.x value:[:k|]value:[]\"end\"]",
             b"scaled: a by: b\n\tself do: [:x |\n\t\t\"note\"\n\t\tx foo.\n\t\tx value: [:k | ] value: []\n\t\t\"end\"]",
         ),
+        (
+            Form::Method,
+            b"pay: x\n\t| rate |\n\trate _ 2.\n\t^(self scaled: x by: rate)+1",
+            b"pay: x\n\t| rate |\n\trate := 2.\n\t^(self scaled: x by: rate) + 1",
+        ),
+        (
+            Form::Method,
+            b"scaled: x by: rate ^x*rate",
+            b"scaled: x by: rate\n\t^x * rate",
+        ),
+        (Form::Method, b"due ^ 3.", b"due\n\t^3"),
+        (
+            Form::Method,
+            b"start self count:0",
+            b"start\n\tself count: 0",
+        ),
+        (
+            Form::Method,
+            b"count: anObject ^count:=anObject",
+            b"count: anObject\n\t^count := anObject",
+        ),
+        (
+            Form::Method,
+            b"rate\t\"percent\"\trate isNil ifTrue: [rate _ 5].\t^rate",
+            b"rate\n\t\"percent\"\n\trate isNil ifTrue: [rate := 5].\n\t^rate",
+        ),
+        (Form::Method, b"half\t^0.5", b"half\n\t^0.5"),
+        (
+            Form::Method,
+            b"log\tArchive add: self",
+            b"log\n\tArchive add: self",
+        ),
+        (
+            Form::Method,
+            b"fresh\t^super new rate; yourself",
+            b"fresh\n\t^super new rate; yourself",
+        ),
+        (Form::Method, b"feeOf: x ^ 3", b"feeOf: x\n\t^3"),
+        (
+            Form::Method,
+            b"pay: x|t|t:=x*2.^t+1",
+            b"pay: x\n\t| t |\n\tt := x * 2.\n\t^t + 1",
+        ),
+        (Form::Method, b"pay: x ^(x*2)+1", b"pay: x\n\t^x * 2 + 1"),
+        (Form::DoIt, b"'From Smalltalk-80' .", b"'From Smalltalk-80'"),
+        (Form::DoIt, b"\"Bank classes\"", b"\"Bank classes\""),
+        (Form::DoIt, b"\"-- --\"", b"\"-- --\""),
+        (Form::DoIt, b"(A new) feeOf: 7", b"A new feeOf: 7"),
     ]
 }
