@@ -1,0 +1,5 @@
+mod Steps
+mod Entries
+mod Places
+pub mod Differ
+pub mod MethodPlaces

@@ -1,0 +1,4 @@
+pub mod Kinds
+pub mod Entries
+pub mod Early
+pub mod Names

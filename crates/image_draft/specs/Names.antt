@@ -1,0 +1,9 @@
+-- No two classes have one name.
+use Rattle.std.specs.Prelude.{◌≡◌, ℕ, List, [], ◌∷◌, false, nat_eq}
+use Rattle.image_model.specs.Image.{ClassOf}
+use Rattle.file_model.specs.Hierarchy.{has_class}
+
+-- no class has the name of one before it
+abbrev pub NamesDiffer : List (ClassOf ℕ) → Type 0
+NamesDiffer [] = Unit {0}
+NamesDiffer (c ∷ cs) = (has_class nat_eq cs c.name ≡ false) × NamesDiffer cs

@@ -1,0 +1,108 @@
+// Definitions of classes.
+ghost use Rattle.std.specs.Prelude.{◌≡◌, ◌<◌, ◌∷◌, ◌++◌, [], slice_get, slice_set, vec_len, nat_eq, IfNone, IfSome, IfOk, OnOk};
+ghost use Rattle.file_model.specs.Causes.{first_cause};
+ghost use Rattle.file_model.specs.Hierarchy as hierarchy;
+ghost use Rattle.file_model.specs.Refusals.{definition_refusals};
+ghost use Rattle.file_model.specs.Applied.{class_again, new_class, with_definition};
+ghost use Rattle.image_draft.specs.Early.{told};
+ghost use Rattle.image_draft.specs.Names.{NamesDiffer};
+
+use crate::changes::class_place;
+use crate::class_draft::{ClassDraft, Definition};
+use crate::hierarchy::has_repeat;
+use crate::refusals::{early_refusal, is_one_class_too_many, late_refusal};
+use file_faults::ImageCause;
+use rb_base::{Ids, Memory, NameId, Text};
+use std::alloc::Global;
+
+/// Defines the class at a place again, which keeps its comment and its class-instance variables.
+fn redefine(classes: &mut Vec<ClassDraft>, place: usize, definition: Definition)
+    requires { place < vec_len classes.old }
+    ensures { IfSome (slice_get classes.old.items place) (λ c. classes.new.items ≡ slice_set classes.old.items place (class_again definition c)) }
+{
+    let class = &mut classes[place];
+    class.superclass = definition.superclass;
+    class.instance = definition.instance;
+    class.shared = definition.shared;
+    class.category = definition.category;
+}
+
+/// Appends the class of a definition.
+fn add_class(
+    alloc: Global,
+    classes: &mut Vec<ClassDraft>,
+    kernel: bool,
+    definition: Definition,
+) -> Result<(), Memory>
+    ensures { OnOk result (classes.new.items ≡ classes.old.items ++ new_class kernel definition ∷ []) }
+{
+    let class = ClassDraft {
+        name: definition.name,
+        superclass: definition.superclass,
+        instance: definition.instance,
+        shared: definition.shared,
+        class_side: Ids::new(alloc),
+        category: definition.category,
+        comment: Text::new(alloc),
+        kernel,
+    };
+    classes.push(class)?;
+    Ok(())
+}
+
+/// The name of the class that a definition defines.
+fn name_of(definition: &Definition) -> NameId
+    ensures { result ≡ definition.now.name }
+{
+    definition.name
+}
+
+/// Puts the class of a definition in the place of the former one, or last.
+fn put_definition(
+    alloc: Global,
+    classes: &mut Vec<ClassDraft>,
+    kernel: bool,
+    definition: Definition,
+) -> Result<(), Memory>
+    requires { NamesDiffer classes.old.items }
+    ensures { OnOk result (classes.new.items ≡ with_definition nat_eq kernel definition classes.old.items) }
+{
+    let name = name_of(&definition);
+    match class_place(classes, name) {
+        None => add_class(alloc, classes, kernel, definition),
+        Some(place) => {
+            redefine(classes, place, definition);
+            Ok(())
+        }
+    }
+}
+
+/// Defines a class, for the first time or again, or tells why it can not be defined; then, and on want of memory, it may
+/// be defined too. The classes are not put in order.
+pub fn change_definition(
+    alloc: Global,
+    classes: &mut Vec<ClassDraft>,
+    kernel: bool,
+    definition: Definition,
+) -> Result<Option<ImageCause>, Memory>
+    requires { NamesDiffer classes.old.items }
+    ensures cause { IfOk result (λ cause. told cause ≡ first_cause (definition_refusals nat_eq classes.old.items definition (with_definition nat_eq kernel definition classes.old.items))) }
+    ensures changed { IfOk result (λ cause. IfNone cause (classes.new.items ≡ with_definition nat_eq kernel definition classes.old.items)) }
+{
+    let refusal = early_refusal(classes, &definition);
+    if refusal.is_some() {
+        return Ok(refusal);
+    }
+    let name = name_of(&definition);
+    let repeats = repeats_shared(&definition);
+    let too_many = is_one_class_too_many(classes, name);
+    put_definition(alloc, classes, kernel, definition)?;
+    late_refusal(alloc, classes, name, repeats, too_many)
+}
+
+/// Whether a class variable stands twice in the list of a definition.
+fn repeats_shared(definition: &Definition) -> bool
+    ensures { result ≡ hierarchy.has_repeat nat_eq definition.now.shared }
+{
+    has_repeat(definition.shared.as_slice())
+}

@@ -1,0 +1,149 @@
+// Chains of classes while a file-out is read, and the variables on them.
+ghost use Rattle.std.specs.Prelude.{◌≡◌, ◌&&◌, Some, nat_eq, option_copied, IfOk};
+ghost use Rattle.std.specs.List.{list_any};
+ghost use Rattle.image_model.specs.Chain.{chain_from, chain, class_of_name, superclass_of};
+ghost use Rattle.image_model.specs.Means as means;
+ghost use Rattle.file_model.specs.Hierarchy as hierarchy;
+ghost use Rattle.file_model.specs.Hierarchy.{stands_in};
+ghost use Rattle.image_draft.specs.Kinds.{kind_of};
+
+use crate::class_draft::{ClassDraft, class_named};
+use rb_base::{Memory, NameId};
+use std::alloc::Global;
+
+/// The kinds of variables of which no two of one name may stand on a chain.
+#[derive(Clone, Copy)]
+pub enum ChainKind {
+    Instance,
+    ClassSide,
+}
+
+/// The class of a name, if there is a name.
+fn class_of_name(classes: &[ClassDraft], name: Option<NameId>) -> Option<&ClassDraft>
+    ensures { option_copied result ≡ class_of_name nat_eq classes.now name }
+{
+    class_named(classes, name?)
+}
+
+/// The superclass of a class.
+fn superclass_of<'a>(classes: &'a [ClassDraft], class: &ClassDraft) -> Option<&'a ClassDraft>
+    ensures { option_copied result ≡ superclass_of nat_eq classes.now class.now }
+{
+    class_of_name(classes, class.superclass)
+}
+
+/// Whether a class of a name is this class or stands above it.
+fn is_on_chain(classes: &[ClassDraft], name: NameId, from: Option<&ClassDraft>) -> bool
+    ensures { result ≡ stands_in nat_eq name (chain_from nat_eq classes.now (option_copied from.entry)) }
+{
+    let mut at = from;
+    let mut left = classes.len();
+    while left > 0 {
+        let Some(class) = at else {
+            return false;
+        };
+        if name == class.name {
+            return true;
+        }
+        at = superclass_of(classes, class);
+        left -= 1;
+    }
+    false
+}
+
+/// Whether a class of a name is the class of another name or stands above it.
+pub fn stands_above(classes: &[ClassDraft], name: NameId, from: Option<NameId>) -> bool
+    ensures { result ≡ stands_in nat_eq name (chain nat_eq classes.now from) }
+{
+    is_on_chain(classes, name, class_of_name(classes, from))
+}
+
+/// The variables of a kind that a class defines itself.
+fn variables(class: &ClassDraft, kind: ChainKind) -> &[NameId]
+    ensures { result.now ≡ means.variables (kind_of kind) class.now }
+{
+    match kind {
+        ChainKind::Instance => class.instance.as_slice(),
+        ChainKind::ClassSide => class.class_side.as_slice(),
+    }
+}
+
+/// The variables of a kind on the chain of a class.
+fn chain_variables(
+    alloc: Global,
+    classes: &[ClassDraft],
+    kind: ChainKind,
+    class: &ClassDraft,
+) -> Result<Vec<NameId>, Memory>
+    ensures { IfOk result (λ names. names.items ≡ hierarchy.chain_variables nat_eq classes.now (kind_of kind) class.now) }
+{
+    let mut names = Vec::new(alloc);
+    let mut at = Some(class);
+    let mut left = classes.len();
+    while left > 0 {
+        let Some(class) = at else {
+            return Ok(names);
+        };
+        names.extend_from_slice(variables(class, kind))?;
+        at = superclass_of(classes, class);
+        left -= 1;
+    }
+    Ok(names)
+}
+
+/// Whether a name stands among these.
+fn stands_among(name: NameId, names: &[NameId]) -> bool
+    ensures { result ≡ list_any (nat_eq name) names.now }
+{
+    names.iter().any(|other| name == *other)
+}
+
+/// Whether a name stands twice among these.
+pub fn has_repeat(names: &[NameId]) -> bool
+    ensures { result ≡ hierarchy.has_repeat nat_eq names.now }
+{
+    let mut rest = names;
+    while let Some((name, others)) = rest.split_first() {
+        if stands_among(*name, others) {
+            return true;
+        }
+        rest = others;
+    }
+    false
+}
+
+/// Whether a class is that of a name or stands below it, and a variable of a kind stands twice on its chain.
+fn repeats_below(
+    alloc: Global,
+    classes: &[ClassDraft],
+    kind: ChainKind,
+    name: NameId,
+    class: &ClassDraft,
+) -> Result<bool, Memory>
+    ensures { IfOk result (λ found. found ≡ (stands_in nat_eq name (chain_from nat_eq classes.now (Some class.now)) && hierarchy.has_repeat nat_eq (hierarchy.chain_variables nat_eq classes.now (kind_of kind) class.now))) }
+{
+    if !is_on_chain(classes, name, Some(class)) {
+        return Ok(false);
+    }
+    let names = chain_variables(alloc, classes, kind, class)?;
+    Ok(has_repeat(&names))
+}
+
+/// Whether a variable of a kind stands twice on the chain of a class or of one below it.
+pub fn stands_twice(
+    alloc: Global,
+    classes: &[ClassDraft],
+    kind: ChainKind,
+    name: NameId,
+) -> Result<bool, Memory>
+    ensures { IfOk result (λ found. found ≡ hierarchy.stands_twice nat_eq classes.now (kind_of kind) name) }
+{
+    let mut rest = classes;
+    while let Some((class, others)) = rest.split_first() {
+        if repeats_below(alloc, classes, kind, name, class)? {
+            return Ok(true);
+        }
+        rest = others;
+    }
+    Ok(false)
+}

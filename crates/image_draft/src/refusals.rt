@@ -1,0 +1,209 @@
+// Why changes are refused.
+ghost use Rattle.std.specs.Prelude.{◌≡◌, ◌∷◌, ◌||◌, [], is_some, map, not, nat_eq, IfOk};
+ghost use Rattle.std.specs.Option.{option_map_or};
+ghost use Rattle.file_model.specs.Causes.{first_cause, when};
+ghost use Rattle.file_model.specs.Refusals as refusals;
+ghost use Rattle.image_draft.specs.Entries.{entry_of};
+ghost use Rattle.file_model.specs.Causes as causes;
+ghost use Rattle.file_model.specs.Hierarchy as hierarchy;
+ghost use Rattle.file_model.specs.Hierarchy.{stands_twice};
+ghost use Rattle.image_model.specs.Means.{of_instance, of_class_side};
+ghost use Rattle.image_draft.specs.Early.{told, early_refusals, late_refusals, early_side_refusals, late_side_refusals};
+
+use crate::class_draft::{ClassDraft, Definition, has_class, has_subclass, is_kernel_class};
+use crate::hierarchy::{ChainKind, stands_above, stands_twice};
+use crate::method_draft::{MethodDraft, has_method, is_kernel_method};
+use file_faults::ImageCause;
+use rb_base::{Memory, NameId};
+use std::alloc::Global;
+
+/// How many classes there may be, those of the kernel among them.
+const CLASS_LIMIT: usize = 10_000;
+
+/// How many methods there may be, those of the kernel among them.
+const METHOD_LIMIT: usize = 200_000;
+
+/// Whether the superclass that a definition names is no class.
+fn lacks_superclass(classes: &[ClassDraft], definition: &Definition) -> bool
+    ensures { result ≡ refusals.lacks_superclass nat_eq classes.now definition.now }
+{
+    match definition.superclass {
+        None => false,
+        Some(above) => !has_class(classes, above),
+    }
+}
+
+/// Whether a class is new, and there are as many as there may be.
+pub fn is_one_class_too_many(classes: &[ClassDraft], name: NameId) -> bool
+    ensures { result ≡ refusals.is_one_class_too_many nat_eq classes.now name }
+{
+    !has_class(classes, name) && CLASS_LIMIT <= classes.len()
+}
+
+/// Whether a method is new, and there are as many as there may be.
+fn is_one_method_too_many(
+    methods: &[MethodDraft],
+    class: NameId,
+    meta: bool,
+    selector: NameId,
+) -> bool
+    ensures { result ≡ refusals.is_one_method_too_many nat_eq (map entry_of methods.now) class meta selector }
+{
+    !has_method(methods, class, meta, selector) && METHOD_LIMIT <= methods.len()
+}
+
+/// Why a definition is refused by the classes before it.
+pub fn early_refusal(classes: &[ClassDraft], definition: &Definition) -> Option<ImageCause>
+    ensures cause { told result ≡ first_cause (early_refusals classes.now definition.now) }
+    ensures some { is_some result ≡ is_some (first_cause (early_refusals classes.now definition.now)) }
+{
+    if is_kernel_class(classes, definition.name) {
+        return Some(ImageCause::KernelReplaced);
+    }
+    if lacks_superclass(classes, definition) {
+        return Some(ImageCause::UnknownSuperclass);
+    }
+    if stands_above(classes, definition.name, definition.superclass) {
+        return Some(ImageCause::Cycle);
+    }
+    None
+}
+
+/// Why the comment of a class is refused.
+pub fn comment_refusal(classes: &[ClassDraft], name: NameId) -> Option<ImageCause>
+    ensures { told result ≡ first_cause (refusals.comment_refusals nat_eq classes.now name) }
+{
+    if !has_class(classes, name) {
+        return Some(ImageCause::UnknownClass);
+    }
+    if is_kernel_class(classes, name) {
+        return Some(ImageCause::KernelReplaced);
+    }
+    None
+}
+
+/// Why the removal of a class is refused.
+pub fn class_removal_refusal(classes: &[ClassDraft], name: NameId) -> Option<ImageCause>
+    ensures { told result ≡ first_cause (refusals.class_removal_refusals nat_eq classes.now name) }
+{
+    if !has_class(classes, name) {
+        return Some(ImageCause::UnknownClass);
+    }
+    if is_kernel_class(classes, name) {
+        return Some(ImageCause::KernelReplaced);
+    }
+    if has_subclass(classes, name) {
+        return Some(ImageCause::UnknownSuperclass);
+    }
+    None
+}
+
+/// Why class-instance variables are refused by the classes before they are set.
+pub fn early_side_refusal(
+    classes: &[ClassDraft],
+    name: NameId,
+    names: &[NameId],
+) -> Option<ImageCause>
+    ensures cause { told result ≡ first_cause (early_side_refusals classes.now name names.now) }
+    ensures some { is_some result ≡ is_some (first_cause (early_side_refusals classes.now name names.now)) }
+{
+    if !has_class(classes, name) {
+        return Some(ImageCause::UnknownClass);
+    }
+    if is_kernel_class(classes, name) && !names.is_empty() {
+        return Some(ImageCause::KernelReplaced);
+    }
+    None
+}
+
+/// Whether an instance variable or a class-instance variable stands twice on the chain of a class or of one below it.
+fn repeats_on_chains(alloc: Global, new: &[ClassDraft], name: NameId) -> Result<bool, Memory>
+    ensures { IfOk result (λ found. found ≡ (stands_twice nat_eq new.now of_instance name || stands_twice nat_eq new.now of_class_side name)) }
+{
+    if stands_twice(alloc, new, ChainKind::Instance, name)? {
+        return Ok(true);
+    }
+    stands_twice(alloc, new, ChainKind::ClassSide, name)
+}
+
+/// Why a definition of a class of a name is refused by the classes with it, where it is known whether a class variable
+/// stands twice in its list, and whether there is a class too many.
+pub fn late_refusal(
+    alloc: Global,
+    new: &[ClassDraft],
+    name: NameId,
+    repeats: bool,
+    too_many: bool,
+) -> Result<Option<ImageCause>, Memory>
+    ensures { IfOk result (λ cause. told cause ≡ first_cause (late_refusals new.now name repeats too_many)) }
+{
+    if repeats || repeats_on_chains(alloc, new, name)? {
+        return Ok(Some(ImageCause::VariableTwice));
+    }
+    if too_many {
+        return Ok(Some(ImageCause::TooMany));
+    }
+    Ok(None)
+}
+
+/// Why class-instance variables are refused by the classes with them.
+pub fn late_side_refusal(
+    alloc: Global,
+    new: &[ClassDraft],
+    name: NameId,
+) -> Result<Option<ImageCause>, Memory>
+    ensures { IfOk result (λ cause. told cause ≡ first_cause (late_side_refusals new.now name)) }
+{
+    if stands_twice(alloc, new, ChainKind::ClassSide, name)? {
+        return Ok(Some(ImageCause::VariableTwice));
+    }
+    Ok(None)
+}
+
+/// Why a run of methods is refused, by the name of its class.
+pub fn run_refusal(classes: &[ClassDraft], class: NameId) -> Option<ImageCause>
+    ensures { told result ≡ first_cause (when (not (hierarchy.has_class nat_eq classes.now class)) causes.UnknownClass ∷ []) }
+{
+    if has_class(classes, class) {
+        None
+    } else {
+        Some(ImageCause::UnknownClass)
+    }
+}
+
+/// Why the removal of a method is refused.
+pub fn removal_refusal(
+    classes: &[ClassDraft],
+    methods: &[MethodDraft],
+    class: NameId,
+    meta: bool,
+    selector: NameId,
+) -> Option<ImageCause>
+    ensures { told result ≡ first_cause (when (not (hierarchy.has_class nat_eq classes.now class)) causes.UnknownClass ∷ when (refusals.is_kernel_method nat_eq (map entry_of methods.now) class meta selector) causes.KernelReplaced ∷ []) }
+{
+    if !has_class(classes, class) {
+        return Some(ImageCause::UnknownClass);
+    }
+    if is_kernel_method(methods, class, meta, selector) {
+        return Some(ImageCause::KernelReplaced);
+    }
+    None
+}
+
+/// Why a method is refused, by its class, its side and its selector.
+pub fn method_refusal(
+    methods: &[MethodDraft],
+    class: NameId,
+    meta: bool,
+    selector: NameId,
+) -> Option<ImageCause>
+    ensures { told result ≡ first_cause (when (refusals.is_kernel_method nat_eq (map entry_of methods.now) class meta selector) causes.KernelReplaced ∷ when (refusals.is_one_method_too_many nat_eq (map entry_of methods.now) class meta selector) causes.TooMany ∷ []) }
+{
+    if is_kernel_method(methods, class, meta, selector) {
+        return Some(ImageCause::KernelReplaced);
+    }
+    if is_one_method_too_many(methods, class, meta, selector) {
+        return Some(ImageCause::TooMany);
+    }
+    None
+}
