@@ -6,11 +6,7 @@ use crate::form::Form;
 pub type Read = (Form, &'static [u8], &'static [u8]);
 
 /// The texts.
-<<<<<<< HEAD
-pub fn texts() -> [Read; 35] {
-=======
 pub fn texts() -> [Read; 51] {
->>>>>>> b5fa1b36730aee158d436e5d4ca2094eef110e69
     [
         (Form::Method, b"value\n\t^self ", b"value\n\t^self"),
         (Form::Method, b"value: a\n\t^\na", b"value: a\n\t^a"),
@@ -159,8 +155,6 @@ pub fn texts() -> [Read; 51] {
             b"scaled:a by:b self do:[:x|\"note\"x foo.x value:[:k|]value:[]\"end\"]",
             b"scaled: a by: b\n\tself do: [:x |\n\t\t\"note\"\n\t\tx foo.\n\t\tx value: [:k | ] value: []\n\t\t\"end\"]",
         ),
-<<<<<<< HEAD
-=======
         (
             Form::Method,
             b"pay: x\n\t| rate |\n\trate _ 2.\n\t^(self scaled: x by: rate)+1",
@@ -209,6 +203,5 @@ pub fn texts() -> [Read; 51] {
         (Form::DoIt, b"\"Bank classes\"", b"\"Bank classes\""),
         (Form::DoIt, b"\"-- --\"", b"\"-- --\""),
         (Form::DoIt, b"(A new) feeOf: 7", b"A new feeOf: 7"),
->>>>>>> b5fa1b36730aee158d436e5d4ca2094eef110e69
     ]
 }
