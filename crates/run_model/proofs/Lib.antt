@@ -2,6 +2,7 @@ mod SmallImages
 mod ExpressionExamples
 mod ProgramExamples
 mod SequenceExamples
+mod FurtherExamples
 pub mod Congruence
 pub mod MoreTicks
 pub mod Depth
