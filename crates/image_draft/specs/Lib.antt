@@ -2,3 +2,4 @@ pub mod Kinds
 pub mod Entries
 pub mod Early
 pub mod Names
+pub mod Drafted
