@@ -11,6 +11,7 @@ mod hierarchy;
 mod method_change;
 mod method_draft;
 mod methods;
+mod order;
 mod refusals;
 
 pub use change::{Change, Run};
