@@ -6,3 +6,9 @@ mod Moves
 mod Redefined
 mod Named
 mod Methods
+mod Chains
+mod KernelOrder
+mod KernelPart
+mod Beside
+mod Kept
+mod Whole

@@ -106,11 +106,11 @@ no_repeat_moved cs ds p h =
     omega (arith, count, few))
 
 -- a fact of each class in another order
-all_moved : (P : ClassOf Text → Type 0) (cs ds : List (ClassOf Text)) → IsPermutation cs ds → AllByRecursion P cs → AllByRecursion P ds
+pub all_moved : (P : ClassOf Text → Type 0) (cs ds : List (ClassOf Text)) → IsPermutation cs ds → AllByRecursion P cs → AllByRecursion P ds
 all_moved P cs ds p all = recursion_from_All P ds (All-permutation P cs ds p (All-from_recursion P cs all))
 
 -- a name may be given
-abbrev MayName : Text → Type 0
+abbrev pub MayName : Text → Type 0
 MayName n = IsTrue (may_name n)
 
 -- the names of an image: no class has that of another, each superclass stands before its subclasses, and all names may be given
@@ -120,7 +120,7 @@ pub record IsNamed (i : ImageOf Text) : Type 0 where
   pub given : AllByRecursion (GivesNames MayName) i.classes
 
 -- where no condition holds, the first does not, and none behind it
-first_none : (c : Condition) (cs : List Condition) → first_cause (c ∷ cs) ≡ None → (c.holds ≡ false) × (first_cause cs ≡ None)
+pub first_none : (c : Condition) (cs : List Condition) → first_cause (c ∷ cs) ≡ None → (c.holds ≡ false) × (first_cause cs ≡ None)
 first_none c cs e = by c.holds refl e
   where
     by : (b : Bool) → c.holds ≡ b → (if b then Some c.cause else first_cause cs) ≡ None → (c.holds ≡ false) × (first_cause cs ≡ None)
@@ -128,14 +128,14 @@ first_none c cs e = by c.holds refl e
     by false h k = (h, k)
 
 -- nor does the second, nor the third
-second_none : (a b : Condition) (cs : List Condition) → first_cause (a ∷ b ∷ cs) ≡ None → b.holds ≡ false
+pub second_none : (a b : Condition) (cs : List Condition) → first_cause (a ∷ b ∷ cs) ≡ None → b.holds ≡ false
 second_none a b cs e = (first_none b cs (first_none a (b ∷ cs) e).1).0
 
-third_none : (a b c : Condition) (cs : List Condition) → first_cause (a ∷ b ∷ c ∷ cs) ≡ None → c.holds ≡ false
+pub third_none : (a b c : Condition) (cs : List Condition) → first_cause (a ∷ b ∷ c ∷ cs) ≡ None → c.holds ≡ false
 third_none a b c cs e = second_none b c cs (first_none a (b ∷ c ∷ cs) e).1
 
 -- what is given under conditions is given where none holds
-unless_none : {X : Type 0} (cs : List Condition) (x y : X) → ◌≡◌ {A = Result X Cause} (unless cs x) (Ok y) → first_cause cs ≡ None
+pub unless_none : {X : Type 0} (cs : List Condition) (x y : X) → ◌≡◌ {A = Result X Cause} (unless cs x) (Ok y) → first_cause cs ≡ None
 unless_none {X} cs x y e = by (first_cause cs) e
   where
     by : (o : Option Cause) → ◌≡◌ {A = Result X Cause} (option_map_or Err o (Ok x)) (Ok y) → o ≡ None
@@ -162,21 +162,21 @@ pub record IsGoodDefinition (d : DefinitionOf Text) : Type 0 where
   pub instance : AllByRecursion MayName d.instance
   pub shared : AllByRecursion MayName d.shared
 
-abbrev IsGood : ChangeOf Text → Type 0
+abbrev pub IsGood : ChangeOf Text → Type 0
 IsGood (Define d) = IsGoodDefinition d
 IsGood (Comment n t) = Unit {0}
 IsGood (SetClassSide n ns) = AllByRecursion MayName ns
 IsGood (RemoveMethod c meta s) = Unit {0}
 IsGood (RemoveClass n) = Unit {0}
 
-abbrev IsGoodForm : Form → Type 0
+abbrev pub IsGoodForm : Form → Type 0
 IsGoodForm Evaluates = Unit {0}
 IsGoodForm (Changes c) = IsGood c
 IsGoodForm (Opens r) = Unit {0}
 IsGoodForm (Refuses cause) = Unit {0}
 
 -- both of two tests pass where their negation fails
-not_false : (b : Bool) → not b ≡ false → b ≡ true
+pub not_false : (b : Bool) → not b ≡ false → b ≡ true
 not_false true h = refl
 not_false false h = absurd (true≢false h)
 
@@ -258,7 +258,7 @@ good_other n meta s x = by (text_eq s (codes "comment:")) (text_eq s (codes "met
     by false false false false true = tt
     by false false false false false = tt
 
-good_form : (d : Dialect) (b : SequenceOf Text) → IsGoodForm (form_of d false b)
+pub good_form : (d : Dialect) (b : SequenceOf Text) → IsGoodForm (form_of d false b)
 good_form d b = by (sent_of b b.temporaries)
   where
     at : (m : Sent) (a c : Bool) → IsGoodForm (if a then subclass_form false m.class m.meta (definition_strings m.arguments) else (if c then class_side_form d m.class m.meta (the_argument m.arguments) else other_form m.class m.meta m.selector (the_argument m.arguments)))
@@ -302,7 +302,7 @@ no_repeat_filter p cs h =
     no_repeat (class_names (filter p cs)) (λ t. let fewer : times t (class_names (filter p cs)) ≤ times t (class_names cs) = times_filter t p cs in let few : times t (class_names cs) ≤ 1 = once_each (class_names cs) h t in omega (arith, fewer, few))
 
 -- a class that is not there has its name at no place
-absent : (cs : List (ClassOf Text)) (n : Text) → has_class text_eq cs n ≡ false → (j : ℕ) → slice_get (class_names cs) j ≡ Some n → ⊥
+pub absent : (cs : List (ClassOf Text)) (n : Text) → has_class text_eq cs n ≡ false → (j : ℕ) → slice_get (class_names cs) j ≡ Some n → ⊥
 absent [] n h j e = cc
 absent (y ∷ ys) n h j e = by (text_eq n y.name) refl h j e (absent ys n)
   where
@@ -313,7 +313,7 @@ absent (y ∷ ys) n h j e = by (text_eq n y.name) refl h j e (absent ys n)
     by false q g (suc k) f rest = rest g k f
 
 -- a class that is there stands among the classes
-there_stands : (cs : List (ClassOf Text)) (n : Text) → has_class text_eq cs n ≡ true → stands_in text_eq n cs ≡ true
+pub there_stands : (cs : List (ClassOf Text)) (n : Text) → has_class text_eq cs n ≡ true → stands_in text_eq n cs ≡ true
 there_stands [] n h = absurd (true≢false (sym h))
 there_stands (y ∷ ys) n h = by (text_eq n y.name) h (there_stands ys n)
   where
@@ -322,12 +322,12 @@ there_stands (y ∷ ys) n h = by (text_eq n y.name) h (there_stands ys n)
     by false g rest = rest g
 
 -- a change of one class that keeps its name and its superclass, and gives names that may be given
-record Keeps (f : ClassOf Text → ClassOf Text) : Type 0 where
-  name : (c : ClassOf Text) → (f c).name ≡ c.name
-  superclass : (c : ClassOf Text) → (f c).superclass ≡ c.superclass
-  given : (c : ClassOf Text) → GivesNames MayName c → GivesNames MayName (f c)
+pub record Keeps (f : ClassOf Text → ClassOf Text) : Type 0 where
+  pub name : (c : ClassOf Text) → (f c).name ≡ c.name
+  pub superclass : (c : ClassOf Text) → (f c).superclass ≡ c.superclass
+  pub given : (c : ClassOf Text) → GivesNames MayName c → GivesNames MayName (f c)
 
-names_changed : (n : Text) (f : ClassOf Text → ClassOf Text) → ((c : ClassOf Text) → (f c).name ≡ c.name) → (cs : List (ClassOf Text)) → class_names (changed_class text_eq n f cs) ≡ class_names cs
+pub names_changed : (n : Text) (f : ClassOf Text → ClassOf Text) → ((c : ClassOf Text) → (f c).name ≡ c.name) → (cs : List (ClassOf Text)) → class_names (changed_class text_eq n f cs) ≡ class_names cs
 names_changed n f keeps [] = refl
 names_changed n f keeps (c ∷ cs) = by (text_eq n c.name) (names_changed n f keeps cs)
   where
@@ -343,7 +343,7 @@ given_changed n f keeps (c ∷ cs) all = (by (text_eq n c.name), given_changed n
     by true = keeps c all.0
     by false = all.0
 
-hierarchy_kept : (n : Text) (f : ClassOf Text → ClassOf Text) → Keeps f → (cs : List (ClassOf Text)) → AllByRecursion (KeepsHierarchy (λ (c : ClassOf Text). if text_eq n c.name then f c else c)) cs
+pub hierarchy_kept : (n : Text) (f : ClassOf Text → ClassOf Text) → Keeps f → (cs : List (ClassOf Text)) → AllByRecursion (KeepsHierarchy (λ (c : ClassOf Text). if text_eq n c.name then f c else c)) cs
 hierarchy_kept n f k [] = tt
 hierarchy_kept n f k (c ∷ cs) = (record { name = named (text_eq n c.name); superclass = under (text_eq n c.name) }, hierarchy_kept n f k cs)
   where
@@ -363,7 +363,7 @@ named_kept n f i k h = record {
 }
 
 -- no item passes
-none_pass : {X : Type 0} (q : X → Bool) (xs : List X) → list_any q xs ≡ false → AllByRecursion (λ x. q x ≡ false) xs
+pub none_pass : {X : Type 0} (q : X → Bool) (xs : List X) → list_any q xs ≡ false → AllByRecursion (λ x. q x ≡ false) xs
 none_pass q [] h = tt
 none_pass q (x ∷ xs) h = by (q x) refl h (none_pass q xs)
   where
@@ -454,7 +454,7 @@ named_without n i none h = record {
 }
 
 -- a change keeps it
-named_changed : (kernel : Bool) (c : ChangeOf Text) (i j : ImageOf Text) → IsGood c → changed text_eq kernel c i ≡ Ok j → IsNamed i → IsNamed j
+pub named_changed : (kernel : Bool) (c : ChangeOf Text) (i j : ImageOf Text) → IsGood c → changed text_eq kernel c i ≡ Ok j → IsNamed i → IsNamed j
 named_changed kernel (Define x) i j g e h =
     subst IsNamed (unless_ok (definition_refusals text_eq i.classes x (with_definition text_eq kernel x i.classes)) (record i { classes = defined text_eq kernel x i.classes }) j e)
     (named_defined kernel x i g (unless_none (definition_refusals text_eq i.classes x (with_definition text_eq kernel x i.classes)) (record i { classes = defined text_eq kernel x i.classes }) j e) h)

@@ -30,7 +30,7 @@ text_differs s t other = by (text_eq s t) refl
     by false e = refl
 
 -- the name at a place
-name_at_place : (cs : List (ClassOf Text)) (k : ℕ) (x : ClassOf Text) → slice_get cs k ≡ Some x → slice_get (class_names cs) k ≡ Some x.name
+pub name_at_place : (cs : List (ClassOf Text)) (k : ℕ) (x : ClassOf Text) → slice_get cs k ≡ Some x → slice_get (class_names cs) k ≡ Some x.name
 name_at_place [] k x e = absurd (cc)
 name_at_place (y ∷ ys) zero x e = let same : y ≡ x = cc in ap (λ (z : ClassOf Text). Some z.name) same
 name_at_place (y ∷ ys) (suc k) x e = name_at_place ys k x e
@@ -40,7 +40,7 @@ pub no_repeat_behind : (x : Text) (xs : List Text) → HasNoRepeat (x ∷ xs) �
 no_repeat_behind x xs h j k y a b = let same : suc j ≡ suc k = h (suc j) (suc k) y a b in omega (arith, same)
 
 -- a class is found by its name
-named_at : (cs : List (ClassOf Text)) (k : ℕ) (x : ClassOf Text) → HasNoRepeat (class_names cs) → slice_get cs k ≡ Some x → class_named text_eq cs x.name ≡ Some x
+pub named_at : (cs : List (ClassOf Text)) (k : ℕ) (x : ClassOf Text) → HasNoRepeat (class_names cs) → slice_get cs k ≡ Some x → class_named text_eq cs x.name ≡ Some x
 named_at [] k x h e = absurd (cc)
 named_at (y ∷ ys) zero x h e =
     let same : y ≡ x = cc in
