@@ -14,6 +14,7 @@ use Rattle.file_model.specs.Applied.{changed_class}
 use Rattle.file_model.specs.Filing.{Text}
 use Rattle.file_model.specs.Hierarchy.{has_class}
 use Rattle.file_laws.proofs.Chains.{IsBeside}
+use Rattle.file_laws.proofs.Defined.{has_changed}
 use Rattle.file_laws.proofs.Moves.{text_equal}
 
 -- what holds of each class, where that of a name is changed
@@ -34,9 +35,9 @@ module _ (n : Text) (f : ClassOf Text → ClassOf Text) (keeps : (c : ClassOf Te
       by false e = e
       by true e = absurd (true≢false (sym (ap (text_eq n) (text_equal m t e ∙ sym same) ∙ text_eq-refl n) ∙ differs))
 
-  named_changed : (cs : List (ClassOf Text)) (m : Text) → text_eq n m ≡ false → class_named text_eq (changed_class text_eq n f cs) m ≡ class_named text_eq cs m
-  named_changed [] m differs = refl
-  named_changed (c ∷ cs) m differs = by (text_eq n c.name) refl (named_changed cs m differs)
+  found_changed : (cs : List (ClassOf Text)) (m : Text) → text_eq n m ≡ false → class_named text_eq (changed_class text_eq n f cs) m ≡ class_named text_eq cs m
+  found_changed [] m differs = refl
+  found_changed (c ∷ cs) m differs = by (text_eq n c.name) refl (found_changed cs m differs)
     where
       by : (b : Bool) → text_eq n c.name ≡ b → class_named text_eq (changed_class text_eq n f cs) m ≡ class_named text_eq cs m
           → class_named text_eq ((if b then f c else c) ∷ changed_class text_eq n f cs) m ≡ class_named text_eq (c ∷ cs) m
@@ -45,21 +46,6 @@ module _ (n : Text) (f : ClassOf Text → ClassOf Text) (keeps : (c : ClassOf Te
           ap (λ (b : Bool). cond b (Some (f c)) (class_named text_eq (changed_class text_eq n f cs) m)) (ap (text_eq m) (keeps c) ∙ other)
           ∙ rest ∙ sym (ap (λ (b : Bool). cond b (Some c) (class_named text_eq cs m)) other)
       by false e rest = ap (cond (text_eq m c.name) (Some c)) rest
-
-  pub has_changed : (cs : List (ClassOf Text)) (m : Text) → has_class text_eq (changed_class text_eq n f cs) m ≡ has_class text_eq cs m
-  has_changed [] m = refl
-  has_changed (c ∷ cs) m = by (text_eq n c.name) (has_changed cs m)
-    where
-      at : (d : ClassOf Text) → d.name ≡ c.name → has_class text_eq (changed_class text_eq n f cs) m ≡ has_class text_eq cs m → has_class text_eq (d ∷ changed_class text_eq n f cs) m ≡ has_class text_eq (c ∷ cs) m
-      at d same rest = ap (λ (t : Text). is_some (cond (text_eq m t) (Some d) (class_named text_eq (changed_class text_eq n f cs) m))) same ∙ either (text_eq m c.name)
-        where
-          either : (b : Bool) → is_some (cond b (Some d) (class_named text_eq (changed_class text_eq n f cs) m)) ≡ is_some (cond b (Some c) (class_named text_eq cs m))
-          either true = refl
-          either false = rest
-
-      by : (b : Bool) → has_class text_eq (changed_class text_eq n f cs) m ≡ has_class text_eq cs m → has_class text_eq ((if b then f c else c) ∷ changed_class text_eq n f cs) m ≡ has_class text_eq (c ∷ cs) m
-      by true rest = at (f c) (keeps c) rest
-      by false rest = at c refl rest
 
   -- a class of another name stands where it stood
   old_place : (cs : List (ClassOf Text)) (j : ℕ) (c : ClassOf Text) → slice_get (changed_class text_eq n f cs) j ≡ Some c → text_eq n c.name ≡ false → (k : ℕ) × (slice_get cs k ≡ Some c)
@@ -74,8 +60,8 @@ module _ (n : Text) (f : ClassOf Text → ClassOf Text) (keeps : (c : ClassOf Te
   -- the classes with another class for that of a name
   pub changed_beside : (cs : List (ClassOf Text)) → SuperclassesStandBefore cs → has_class text_eq cs n ≡ true → IsBeside n (changed_class text_eq n f cs) cs
   changed_beside cs before there = record {
-    there = has_changed cs n ∙ there;
-    agree = named_changed cs;
+    there = has_changed text_eq text_eq-refl text_equal n n f keeps cs ∙ there;
+    agree = found_changed cs;
     from_old = old_place cs;
     long = omega (arith, length-map (λ (x : ClassOf Text). if text_eq n x.name then f x else x) cs);
     before = before;

@@ -22,8 +22,9 @@ use Rattle.file_model.specs.Filing.{Text}
 use Rattle.file_model.specs.Hierarchy.{has_class, stands_in, has_subclass, has_repeat, chain_variables, stands_twice}
 use Rattle.file_laws.proofs.Methods.{Differ, no_repeat_of}
 use Rattle.file_laws.proofs.Moves.{text_equal, All-weaker}
-use Rattle.file_laws.proofs.Named.{all_moved, none_pass}
+use Rattle.file_laws.proofs.Named.{all_moved}
 use Rattle.file_laws.proofs.Redefined.{named_at}
+use Rattle.file_laws.proofs.Repeats.{none_pass}
 use Rattle.file_laws.proofs.Sound.{All-filter}
 
 -- neither of two tests passes
@@ -156,7 +157,7 @@ module _ (mid new : List (ClassOf Text)) (moved : IsPermutation mid new) (distin
   named_moved m = by (class_named text_eq new m) refl
     where
       found : (cs : List (ClassOf Text)) → HasNoRepeat (class_names cs) → AllByRecursion (λ (c : ClassOf Text). class_named text_eq cs c.name ≡ Some c) cs
-      found cs h = all_places _ cs (λ k c at. named_at cs k c h at)
+      found cs h = all_places _ cs (λ k c at. named_at text_eq text_eq-refl text_equal cs k c h at)
 
       among : (cs ds : List (ClassOf Text)) → AllByRecursion (λ (c : ClassOf Text). class_named text_eq ds c.name ≡ Some c) cs → (c : ClassOf Text) → class_named text_eq cs m ≡ Some c → class_named text_eq ds m ≡ Some c
       among cs ds all c e =

@@ -10,6 +10,7 @@ use Rattle.std.proofs.lemmas.List.{map-append}
 use Rattle.std.proofs.lemmas.List.Elements.{Contains-append_left}
 use Rattle.std.proofs.lemmas.List.Sorted.{IsPermutation-map, Contains-permutation}
 use Rattle.rb_base.specs.Names.{text_eq}
+use Rattle.rb_base.proofs.NamesLemmas.{text_eq-refl}
 use Rattle.tree_model.specs.Tree.{MethodOf}
 use Rattle.image_model.specs.Image.{ClassOf, EntryOf, ImageOf}
 use Rattle.image_model.specs.Lookup.{is_method}
@@ -32,8 +33,10 @@ use Rattle.file_laws.proofs.KernelOrder.{of_kernel, kernel_settled}
 use Rattle.file_laws.proofs.KernelPart.{is_of_kernel, unfiltered, filter_without, filter_replaced, user_classes, user_methods, user_class_methods, kernel_with_method}
 use Rattle.file_laws.proofs.Methods.{IsOnce, once_changed, once_added}
 use Rattle.file_laws.proofs.Moves.{text_equal, All-weaker}
-use Rattle.file_laws.proofs.Named.{MayName, IsNamed, IsGoodDefinition, IsGood, all_moved, first_none, second_none, third_none, unless_none, not_false, named_changed, names_changed, hierarchy_kept, there_stands}
+use Rattle.file_laws.proofs.Named.{MayName, IsNamed, IsGoodDefinition, IsGood, all_moved, not_false, named_changed, hierarchy_kept}
 use Rattle.file_laws.proofs.Redefined.{again_settled, name_at_place, stands_place}
+use Rattle.file_laws.proofs.Refused.{first_none, second_none, third_none, unless_none}
+use Rattle.file_laws.proofs.Repeats.{names_changed, there_stands}
 use Rattle.file_laws.proofs.Settled.{turn_of}
 use Rattle.file_laws.proofs.Sound.{unless_ok, All-filter, All-last, All-replaced}
 
@@ -78,7 +81,7 @@ both P Q (c ∷ cs) p q = ((p.0, q.0), both P Q cs p.1 q.1)
 
 -- a class of a name that is there has its name among the names
 pub there_contains : (cs : List (ClassOf Text)) (n : Text) → has_class text_eq cs n ≡ true → Contains (class_names cs) n
-there_contains cs n h = let place = stands_place n cs (there_stands cs n h) in place-contains (class_names cs) place.0 n place.2
+there_contains cs n h = let place = stands_place text_eq text_eq-refl text_equal n cs (there_stands text_eq text_eq-refl text_equal cs n h) in place-contains (class_names cs) place.0 n place.2
 
 -- the classes of methods are there where as many names are
 homes_kept : (cs ds : List (ClassOf Text)) (ms : List (EntryOf Text)) → ((n : Text) → Contains (class_names cs) n → Contains (class_names ds) n) → AllByRecursion (HasClass cs) ms → AllByRecursion (HasClass ds) ms
@@ -188,10 +191,10 @@ module _ (kernel : List (ClassOf Text)) (kernel_before : SuperclassesStandBefore
     in_order = ap (λ (b : Bool). if b then settled text_eq mid else mid) there
 
     mid_distinct : HasNoRepeat (class_names mid)
-    mid_distinct = subst (λ (cs : List (ClassOf Text)). HasNoRepeat (class_names cs)) (sym put) (subst HasNoRepeat (sym (names_changed x.name (class_again x) (λ c. refl) i.classes)) named.distinct)
+    mid_distinct = subst (λ (cs : List (ClassOf Text)). HasNoRepeat (class_names cs)) (sym put) (subst HasNoRepeat (sym (names_changed text_eq text_eq-refl text_equal x.name (class_again x) (λ c. refl) i.classes)) named.distinct)
 
     moved : IsPermutation mid (defined text_eq false x i.classes)
-    moved = (again_settled i.classes x good.above false (record { before = named.before; distinct = named.distinct; there = there; under = good.under; above_there = above_there; no_cycle = no_cycle })).same
+    moved = (again_settled text_eq text_eq-refl text_equal i.classes x good.above false (record { before = named.before; distinct = named.distinct; there = there; under = good.under; above_there = above_there; no_cycle = no_cycle })).same
 
     again_defined : HasNoRepeat (class_names (defined text_eq false x i.classes)) → IsKeptClasses kernel (defined text_eq false x i.classes)
     again_defined still = record {
@@ -199,13 +202,13 @@ module _ (kernel : List (ClassOf Text)) (kernel_before : SuperclassesStandBefore
       instance = once_moved mid (defined text_eq false x i.classes) moved mid_distinct still of_instance mid_kept.instance;
       class_side = once_moved mid (defined text_eq false x i.classes) moved mid_distinct still of_class_side mid_kept.class_side;
       shared = all_moved (λ (c : ClassOf Text). HasNoRepeat c.shared) mid (defined text_eq false x i.classes) moved mid_kept.shared;
-      kernel_classes = ap (filter of_kernel) in_order ∙ kernel_settled mid (subst (IsTakenInTurn text_eq []) (sym mid_kept.kernel_classes) (turn_of [] kernel kernel_before)) ∙ mid_kept.kernel_classes;
+      kernel_classes = ap (filter of_kernel) in_order ∙ kernel_settled mid (subst (IsTakenInTurn text_eq []) (sym mid_kept.kernel_classes) (turn_of text_eq text_eq-refl text_equal [] kernel kernel_before)) ∙ mid_kept.kernel_classes;
     }
 
     again_names : (n : Text) → Contains (class_names i.classes) n → Contains (class_names (defined text_eq false x i.classes)) n
     again_names n has =
         Contains-permutation (class_names mid) (class_names (defined text_eq false x i.classes)) n (IsPermutation-map (λ (c : ClassOf Text). c.name) mid (defined text_eq false x i.classes) moved)
-        (subst (λ (ns : List Text). Contains ns n) (sym (ap class_names put ∙ names_changed x.name (class_again x) (λ c. refl) i.classes)) has)
+        (subst (λ (ns : List Text). Contains ns n) (sym (ap class_names put ∙ names_changed text_eq text_eq-refl text_equal x.name (class_again x) (λ c. refl) i.classes)) has)
 
   module _ (fresh : has_class text_eq i.classes x.name ≡ false) where
     abbrev more : List (ClassOf Text)
@@ -392,7 +395,7 @@ with_kept k i cs named new wider h = record {
 
 -- names that stay
 same_names : (n : Text) (f : ClassOf Text → ClassOf Text) → ((c : ClassOf Text) → (f c).name ≡ c.name) → (cs : List (ClassOf Text)) (m : Text) → Contains (class_names cs) m → Contains (class_names (changed_class text_eq n f cs)) m
-same_names n f keeps cs m has = subst (λ (ns : List Text). Contains ns m) (sym (names_changed n f keeps cs)) has
+same_names n f keeps cs m has = subst (λ (ns : List Text). Contains ns m) (sym (names_changed text_eq text_eq-refl text_equal n f keeps cs)) has
 
 -- a change keeps it
 pub kept_changed : (k : ImageOf Text) → IsKernel k → (c : ChangeOf Text) (i j : ImageOf Text) → IsGood c → changed text_eq false c i ≡ Ok j → IsKept k i → IsKept k j

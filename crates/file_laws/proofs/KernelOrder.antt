@@ -6,11 +6,12 @@ use Rattle.std.specs.Option.{option_map_or}
 use Rattle.std.proofs.lemmas.List.{append-nil}
 use Rattle.std.proofs.lemmas.List.Elements.{filter-append}
 use Rattle.rb_base.specs.Names.{text_eq}
+use Rattle.rb_base.proofs.NamesLemmas.{text_eq-refl}
 use Rattle.image_model.specs.Image.{ClassOf}
 use Rattle.file_model.specs.Filing.{Text}
 use Rattle.file_model.specs.Hierarchy.{can_follow, without_first, settle_behind, settled}
 use Rattle.file_laws.specs.Settling.{IsTakenInTurn}
-use Rattle.file_laws.proofs.Moves.{stands_left, turn_more}
+use Rattle.file_laws.proofs.Moves.{text_equal, stands_left, turn_more}
 use Rattle.file_laws.proofs.Sound.{All-filter}
 
 -- whether a class is one of the kernel
@@ -102,7 +103,7 @@ kernel_settle (suc k) taken left few turn = by (find (can_follow text_eq taken) 
         let last : filter of_kernel (c ∷ []) ≡ [] = ap (λ (b : Bool). cond b (c ∷ []) []) user in
         let before : filter of_kernel (taken ++ c ∷ []) ≡ filter of_kernel taken = filter-append of_kernel taken (c ∷ []) ∙ ap (λ (cs : List (ClassOf Text)). filter of_kernel taken ++ cs) last ∙ append-nil (filter of_kernel taken) in
         ap (λ (rest : List (ClassOf Text)). filter of_kernel (settle_behind text_eq k (taken ++ c ∷ []) rest)) s.without
-        ∙ next (s.front ++ s.back) (fewer c s) (turn_more taken (taken ++ c ∷ []) (filter of_kernel (s.front ++ s.back)) (λ t h. stands_left t taken (c ∷ []) h) (subst (IsTakenInTurn text_eq taken) whole turn))
+        ∙ next (s.front ++ s.back) (fewer c s) (turn_more text_eq text_eq-refl text_equal taken (taken ++ c ∷ []) (filter of_kernel (s.front ++ s.back)) (λ t h. stands_left text_eq text_eq-refl text_equal t taken (c ∷ []) h) (subst (IsTakenInTurn text_eq taken) whole turn))
         ∙ (λ i. before i ++ sym whole i)
       where
         fewer : (d : ClassOf Text) (t : IsSplit (can_follow text_eq taken) left d) → length (t.front ++ t.back) ≤ k

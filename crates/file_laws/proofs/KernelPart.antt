@@ -4,6 +4,7 @@ use Rattle.std.specs.Prelude.{if◌then◌else◌}
 use Rattle.std.specs.List.{AllByRecursion}
 use Rattle.std.specs.Option.{option_map_or}
 use Rattle.rb_base.specs.Names.{text_eq}
+use Rattle.rb_base.proofs.NamesLemmas.{text_eq-refl}
 use Rattle.tree_model.specs.Tree.{MethodOf}
 use Rattle.image_model.specs.Image.{ClassOf, EntryOf}
 use Rattle.image_model.specs.Chain.{class_named}
@@ -71,7 +72,7 @@ filter_replaced {X} q p f keeps (x ∷ xs) h = by (p x) refl (filter_replaced q 
 pub user_classes : (cs : List (ClassOf Text)) (n : Text) → HasNoRepeat (class_names cs) → is_kernel_class text_eq cs n ≡ false → AllByRecursion (λ (c : ClassOf Text). text_eq n c.name ≡ true → of_kernel c ≡ false) cs
 user_classes cs n distinct h =
     all_places _ cs (λ k c at same.
-    sym (ap (λ o. option_map_or of_kernel o false) (ap (class_named text_eq cs) (text_equal n c.name same) ∙ named_at cs k c distinct at)) ∙ h)
+    sym (ap (λ o. option_map_or of_kernel o false) (ap (class_named text_eq cs) (text_equal n c.name same) ∙ named_at text_eq text_eq-refl text_equal cs k c distinct at)) ∙ h)
 
 -- a method is the only one of its signature
 pub user_methods : (ms : List (EntryOf Text)) (c : Text) (meta : Bool) (s : Text) → Differ (map signature ms) → is_kernel_method text_eq ms c meta s ≡ false → AllByRecursion (λ (m : EntryOf Text). is_method text_eq c meta s m ≡ true → is_of_kernel m ≡ false) ms

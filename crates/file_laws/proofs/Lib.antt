@@ -1,9 +1,12 @@
 mod Braces
 mod Sources
 mod Sound
-mod Settled
-mod Moves
-mod Redefined
+pub mod Refused
+pub mod Settled
+pub mod Moves
+pub mod Redefined
+pub mod Repeats
+pub mod Defined
 mod Named
 mod Methods
 mod Chains
@@ -12,3 +15,4 @@ mod KernelPart
 mod Beside
 mod Kept
 mod Whole
+mod Plain

@@ -24,7 +24,8 @@ use Rattle.file_laws.proofs.KernelOrder.{of_kernel}
 use Rattle.file_laws.proofs.KernelPart.{all_pass_whole}
 use Rattle.file_laws.proofs.Methods.{differ_of, no_repeat_of}
 use Rattle.file_laws.proofs.Moves.{All-weaker}
-use Rattle.file_laws.proofs.Named.{IsGoodForm, first_none, unless_none, not_false, good_form}
+use Rattle.file_laws.proofs.Named.{IsGoodForm, not_false, good_form}
+use Rattle.file_laws.proofs.Refused.{first_none, unless_none}
 use Rattle.file_laws.proofs.Sound.{unless_ok, user_methods_spelled, doits_spelled}
 
 -- what is known of how far a file-out was read: of the image so far, and that the class of the run of methods is there

@@ -85,3 +85,9 @@ pub fn gives_valid_images()
         IsValid text_words (reading_of dialect kernel) kernel → AllByRecursion (λ (c : ClassOf Text). c.class_side ≡ []) kernel.classes →
         IsImageOf dialect prelude text image → IsValid text_words (reading_of dialect kernel) image }
 {}
+
+/// In the first dialect no class has class-instance variables, of the kernel or of the image of a file-out.
+pub fn gives_plain_classes()
+    ensures kernel { (prelude : Text) (kernel : ImageOf Text) → IsKernelOf First prelude kernel → AllByRecursion (λ (c : ClassOf Text). c.class_side ≡ []) kernel.classes }
+    ensures image { (prelude text : Text) (image : ImageOf Text) → IsImageOf First prelude text image → AllByRecursion (λ (c : ClassOf Text). c.class_side ≡ []) image.classes }
+{}
