@@ -9,3 +9,10 @@ pub mod Repeats
 pub mod Defined
 mod Named
 mod Methods
+mod Chains
+mod KernelOrder
+mod KernelPart
+mod Beside
+mod Kept
+mod Whole
+mod Plain

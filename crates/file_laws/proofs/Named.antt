@@ -1,5 +1,5 @@
 -- The names and the order of the classes of each file-out.
-use Rattle.std.proofs.Common.{◌≡◌, ◌+◌, Bool, true, false, not, List, [], ◌∷◌, ◌++◌, Option, Some, None, Result, Ok, Err, refl, sym, ap, subst, ◌∙◌, true≢false}
+use Rattle.std.proofs.Common.{◌≡◌, Bool, true, false, not, List, [], ◌∷◌, ◌++◌, Option, Some, None, Result, Ok, Err, refl, sym, ap, subst, ◌∙◌, true≢false}
 use Rattle.std.specs.Prelude.{◌&&◌, ◌||◌, if◌then◌else◌, codes, IsTrue}
 use Rattle.std.specs.List.{list_all, AllByRecursion}
 use Rattle.std.specs.Option.{option_map_or}
@@ -19,7 +19,7 @@ use Rattle.image_model.specs.Replaced.{KeepsHierarchy}
 use Rattle.image_model.specs.Valid.{HasNoRepeat, class_names, SuperclassesStandBefore, GivesNames}
 use Rattle.image_model.proofs.Kept.{SuperclassesStandBefore-kept}
 use Rattle.file_model.specs.Words.{may_name, may_name_all, words_of, is_blank_string}
-use Rattle.file_model.specs.Causes.{Cause, PoolsNotEmpty, UnknownDefinition, Condition, when, first_cause, unless, Syntax, Cycle, UnknownSuperclass, VariableTwice, KernelReplaced, TooMany, UnknownClass}
+use Rattle.file_model.specs.Causes.{Cause, PoolsNotEmpty, UnknownDefinition, when, first_cause, Syntax, Cycle, UnknownSuperclass, VariableTwice, KernelReplaced, TooMany, UnknownClass}
 use Rattle.file_model.specs.Changes.{DefinitionOf, ChangeOf, Define, Comment, SetClassSide, RemoveMethod, RemoveClass}
 use Rattle.file_model.specs.Forms.{Argument, Symbol, String, Other, Form, Evaluates, Changes, Opens, Refuses, no_form, Sent, sent_of, definition_selector, DefinitionStrings, definition_strings, the_argument, definition_form, subclass_form, comment_form, run_form, removal_form, class_removal_form, has_class_side, class_side_form, other_form, sent_form, form_of}
 use Rattle.st_kernel.specs.Selectors.{is_reserved_selector}
@@ -39,11 +39,11 @@ use Rattle.file_laws.proofs.Repeats.{names_changed}
 use Rattle.file_laws.proofs.Defined.{Leaves, defined_leaves, removed_order}
 
 -- a fact of each class in another order
-all_moved : (P : ClassOf Text → Type 0) (cs ds : List (ClassOf Text)) → IsPermutation cs ds → AllByRecursion P cs → AllByRecursion P ds
+pub all_moved : (P : ClassOf Text → Type 0) (cs ds : List (ClassOf Text)) → IsPermutation cs ds → AllByRecursion P cs → AllByRecursion P ds
 all_moved P cs ds p all = recursion_from_All P ds (All-permutation P cs ds p (All-from_recursion P cs all))
 
 -- a name may be given
-abbrev MayName : Text → Type 0
+abbrev pub MayName : Text → Type 0
 MayName n = IsTrue (may_name n)
 
 -- the names of an image: no class has that of another, each superclass stands before its subclasses, and all names may be given
@@ -69,21 +69,21 @@ pub record IsGoodDefinition (d : DefinitionOf Text) : Type 0 where
   pub instance : AllByRecursion MayName d.instance
   pub shared : AllByRecursion MayName d.shared
 
-abbrev IsGood : ChangeOf Text → Type 0
+abbrev pub IsGood : ChangeOf Text → Type 0
 IsGood (Define d) = IsGoodDefinition d
 IsGood (Comment n t) = Unit {0}
 IsGood (SetClassSide n ns) = AllByRecursion MayName ns
 IsGood (RemoveMethod c meta s) = Unit {0}
 IsGood (RemoveClass n) = Unit {0}
 
-abbrev IsGoodForm : Form → Type 0
+abbrev pub IsGoodForm : Form → Type 0
 IsGoodForm Evaluates = Unit {0}
 IsGoodForm (Changes c) = IsGood c
 IsGoodForm (Opens r) = Unit {0}
 IsGoodForm (Refuses cause) = Unit {0}
 
 -- both of two tests pass where their negation fails
-not_false : (b : Bool) → not b ≡ false → b ≡ true
+pub not_false : (b : Bool) → not b ≡ false → b ≡ true
 not_false true h = refl
 not_false false h = absurd (true≢false h)
 
@@ -165,7 +165,7 @@ good_other n meta s x = by (text_eq s (codes "comment:")) (text_eq s (codes "met
     by false false false false true = tt
     by false false false false false = tt
 
-good_form : (d : Dialect) (b : SequenceOf Text) → IsGoodForm (form_of d false b)
+pub good_form : (d : Dialect) (b : SequenceOf Text) → IsGoodForm (form_of d false b)
 good_form d b = by (sent_of b b.temporaries)
   where
     at : (m : Sent) (a c : Bool) → IsGoodForm (if a then subclass_form false m.class m.meta (definition_strings m.arguments) else (if c then class_side_form d m.class m.meta (the_argument m.arguments) else other_form m.class m.meta m.selector (the_argument m.arguments)))
@@ -178,10 +178,10 @@ good_form d b = by (sent_of b b.temporaries)
     by (Some m) = at m (text_eq m.selector definition_selector) (text_eq m.selector (codes "instanceVariableNames:"))
 
 -- a change of one class that keeps its name and its superclass, and gives names that may be given
-record Keeps (f : ClassOf Text → ClassOf Text) : Type 0 where
-  name : (c : ClassOf Text) → (f c).name ≡ c.name
-  superclass : (c : ClassOf Text) → (f c).superclass ≡ c.superclass
-  given : (c : ClassOf Text) → GivesNames MayName c → GivesNames MayName (f c)
+pub record Keeps (f : ClassOf Text → ClassOf Text) : Type 0 where
+  pub name : (c : ClassOf Text) → (f c).name ≡ c.name
+  pub superclass : (c : ClassOf Text) → (f c).superclass ≡ c.superclass
+  pub given : (c : ClassOf Text) → GivesNames MayName c → GivesNames MayName (f c)
 
 given_changed : (n : Text) (f : ClassOf Text → ClassOf Text) → ((c : ClassOf Text) → GivesNames MayName c → GivesNames MayName (f c)) → (cs : List (ClassOf Text)) → AllByRecursion (GivesNames MayName) cs → AllByRecursion (GivesNames MayName) (changed_class text_eq n f cs)
 given_changed n f keeps [] all = tt
@@ -191,7 +191,7 @@ given_changed n f keeps (c ∷ cs) all = (by (text_eq n c.name), given_changed n
     by true = keeps c all.0
     by false = all.0
 
-hierarchy_kept : (n : Text) (f : ClassOf Text → ClassOf Text) → Keeps f → (cs : List (ClassOf Text)) → AllByRecursion (KeepsHierarchy (λ (c : ClassOf Text). if text_eq n c.name then f c else c)) cs
+pub hierarchy_kept : (n : Text) (f : ClassOf Text → ClassOf Text) → Keeps f → (cs : List (ClassOf Text)) → AllByRecursion (KeepsHierarchy (λ (c : ClassOf Text). if text_eq n c.name then f c else c)) cs
 hierarchy_kept n f k [] = tt
 hierarchy_kept n f k (c ∷ cs) = (record { name = named (text_eq n c.name); superclass = under (text_eq n c.name) }, hierarchy_kept n f k cs)
   where
@@ -262,7 +262,7 @@ named_without n i none h =
     }
 
 -- a change keeps it
-named_changed : (kernel : Bool) (c : ChangeOf Text) (i j : ImageOf Text) → IsGood c → changed text_eq kernel c i ≡ Ok j → IsNamed i → IsNamed j
+pub named_changed : (kernel : Bool) (c : ChangeOf Text) (i j : ImageOf Text) → IsGood c → changed text_eq kernel c i ≡ Ok j → IsNamed i → IsNamed j
 named_changed kernel (Define x) i j g e h =
     subst IsNamed (unless_ok (definition_refusals text_eq i.classes x (with_definition text_eq kernel x i.classes)) (record i { classes = defined text_eq kernel x i.classes }) j e)
     (named_defined kernel x i g (unless_none (definition_refusals text_eq i.classes x (with_definition text_eq kernel x i.classes)) (record i { classes = defined text_eq kernel x i.classes }) j e) h)

@@ -19,7 +19,7 @@ use Rattle.file_laws.proofs.Settled.{moved, settled_in_turn, turn_of, at_front}
 use Rattle.file_laws.proofs.Moves.{All-weaker, Inherits, Redefines, waits_for, same_classes, turn_front, turn_back, turn_both, turn_more}
 
 -- the name at a place
-name_at_place : {N : Type 0} (cs : List (ClassOf N)) (k : ℕ) (x : ClassOf N) → slice_get cs k ≡ Some x → slice_get (class_names cs) k ≡ Some x.name
+pub name_at_place : {N : Type 0} (cs : List (ClassOf N)) (k : ℕ) (x : ClassOf N) → slice_get cs k ≡ Some x → slice_get (class_names cs) k ≡ Some x.name
 name_at_place [] k x e = absurd (cc)
 name_at_place (y ∷ ys) zero x e = let same : y ≡ x = cc in ap (λ (z : ClassOf _). Some z.name) same
 name_at_place (y ∷ ys) (suc k) x e = name_at_place ys k x e
@@ -104,7 +104,7 @@ module _ {N : Type 0} (is_same : N → N → Bool) (reflexive : (n : N) → is_s
       by false e = refl
 
   -- a class is found by its name
-  named_at : (cs : List (ClassOf N)) (k : ℕ) (x : ClassOf N) → HasNoRepeat (class_names cs) → slice_get cs k ≡ Some x → class_named is_same cs x.name ≡ Some x
+  pub named_at : (cs : List (ClassOf N)) (k : ℕ) (x : ClassOf N) → HasNoRepeat (class_names cs) → slice_get cs k ≡ Some x → class_named is_same cs x.name ≡ Some x
   named_at [] k x h e = absurd (cc)
   named_at (y ∷ ys) zero x h e =
       let same : y ≡ x = cc in

@@ -18,3 +18,6 @@ pub use change::{Change, Run};
 pub use class_draft::{ClassDraft, Definition};
 pub use draft::{Draft, DraftParts};
 pub use method_draft::MethodDraft;
+
+#[cfg(test)]
+mod tests;
