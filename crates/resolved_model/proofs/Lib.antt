@@ -1,0 +1,5 @@
+mod ResolvedStores
+mod Environments
+mod ResolvingLemmas
+mod ShapeLemmas
+mod RunLemmas

@@ -1,0 +1,6 @@
+pub mod ResolvedTrees
+pub mod Resolving
+pub mod ResolvedActs
+pub mod ResolvedShapes
+pub mod ResolvedEval
+pub mod ResolvedRuns
