@@ -28,7 +28,7 @@ module _ {N : Type 0} (same : N → N → Bool) (h : ClassOf N → ClassOf N) (c
   class_of_name-kept (Some n) = class_named-kept n
 
   -- what is known of the class of a name
-  class_of_name-keeps : (o : Option N) → OptionNames (KeepsHierarchy h) (class_of_name same classes o)
+  pub class_of_name-keeps : (o : Option N) → OptionNames (KeepsHierarchy h) (class_of_name same classes o)
   class_of_name-keeps None = tt
   class_of_name-keeps (Some n) = find-all (KeepsHierarchy h) (λ c. same n c.name) classes keeps
 
@@ -40,7 +40,7 @@ module _ {N : Type 0} (same : N → N → Bool) (h : ClassOf N → ClassOf N) (c
       (λ c k. ap (class_of_name same (map h classes)) k.superclass ∙ class_of_name-kept c.superclass) (length classes) o p
 
   -- what is known of the classes of a chain
-  chain_from-keeps : (o : Option (ClassOf N)) → OptionNames (KeepsHierarchy h) o → AllByRecursion (KeepsHierarchy h) (chain_from same classes o)
+  pub chain_from-keeps : (o : Option (ClassOf N)) → OptionNames (KeepsHierarchy h) o → AllByRecursion (KeepsHierarchy h) (chain_from same classes o)
   chain_from-keeps o p = upwards-all (KeepsHierarchy h) (superclass_of same classes) (λ c k. class_of_name-keeps c.superclass) (length classes) o p
 
   pub chain-kept : (o : Option N) → chain same (map h classes) o ≡ map h (chain same classes o)
