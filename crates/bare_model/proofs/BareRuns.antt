@@ -27,8 +27,8 @@ use Rattle.run_model.specs.Shapes.{Branch, runs, is_just, Shape, two_ways, loops
 use Rattle.run_model.specs.Eval.{Task, node, turn, Evaluator, gives_integer, literal_value, literal_values, statements, values, inside, held, in_cells, sequence, enters_with, tells_any, follows, does_primitive, outermost, does, runs_found, message, super_message, is_super, sends, chooses, takes, does_send, goes_on, messages, makes_closure, returns_home, does_node, step, eval}
 use Rattle.run_model.specs.Runs.{doit_class, does_doit, does_doits, comes_to, seen, run}
 use Rattle.run_model.specs.Renamings.{no_renaming}
-use Rattle.run_model.specs.Matched.{IsMatchedBy, IsMatchedBefore, AreMatched}
-use Rattle.run_model.proofs.MatchedLemmas.{matched-same}
+use Rattle.run_model.specs.Matched.{AreMatched}
+use Rattle.run_model.proofs.MatchedLemmas.{matched-runs}
 use Rattle.bare_model.specs.BareImages.{bare_class, bare_entry, bare_doit, bare_image}
 use Rattle.bare_model.proofs.BareStores.{bare_closure, bare_memory, bare_result, Bares, same, gives-bare, fails-bare, goes_home-bare, then_bare, memory-bare, tells-bare, pays-bare, at_home-bare}
 use Rattle.bare_model.proofs.BareShapes.{bare_branch, bare_shape, shape-bare, is_super-bare, hierarchy, primitive-bare, arity-bare}
@@ -350,9 +350,4 @@ runs-same i j e n = sym (run-bare i n) ∙ ap (λ x. run x n) e ∙ run-bare j n
 
 -- they are matched with nothing renamed
 pub matched-bare : (i j : ImageOf Name) → bare_image i ≡ bare_image j → AreMatched i j no_renaming
-matched-bare i j e =
-    let m = matched-same i in
-    record {
-      forward = λ n. let a = m.forward n in (a.0, subst (λ y. IsMatchedBy no_renaming (run i n) y) (runs-same i j e a.0) a.1);
-      backward = λ n. let a = m.backward n in (a.0, subst (λ x. IsMatchedBefore no_renaming x (run i a.0)) (runs-same i j e n) a.1);
-    }
+matched-bare i j e = matched-runs i j (runs-same i j e)

@@ -1,24 +1,21 @@
 -- Shapes of sends and primitives, without comments.
-use Rattle.std.proofs.Common.{◌≡◌, ℕ, List, [], ◌∷◌, length, Option, Some, None, refl, ap, ◌∙◌}
+use Rattle.std.proofs.Common.{◌≡◌, List, [], ◌∷◌, length, Option, Some, None, refl, ap, ◌∙◌}
 use mathlib.Core.Path.{fun_ext}
-use Rattle.std.specs.Prelude.{Bool, true, false, ◌==◌, ◌||◌, cond, if◌then◌else◌, map, find, slice_get, option_map, option_and_then, unwrap_or, codes}
-use Rattle.std.specs.List.{list_any, AllByRecursion}
-use Rattle.std.specs.Option.{option_map_or}
+use Rattle.std.specs.Prelude.{Bool, true, false, if◌then◌else◌, map, slice_get, option_map, option_and_then, unwrap_or, codes}
+use Rattle.std.specs.List.{AllByRecursion}
 use Rattle.std.proofs.lemmas.Option.{slice_get-map}
 use Rattle.rb_base.specs.Names.{text_eq}
 use Rattle.tree_model.specs.Tree.{TreeOf, var, literal, send, cascade, assign, block, brace, return, TreesOf, no_trees, more_trees, SequenceOf}
 use Rattle.tree_model.specs.Bare.{bare, bare_trees, bare_sequence}
 use Rattle.image_model.specs.Image.{ClassOf}
-use Rattle.image_model.specs.Chain.{chain}
 use Rattle.image_model.specs.Replaced.{KeepsHierarchy}
-use Rattle.image_model.proofs.Kept.{chain-kept}
-use Rattle.run_model.specs.Values.{Name, true_value, false_value, bad_argument}
+use Rattle.run_model.specs.Values.{Name}
 use Rattle.run_model.specs.Store.{Closure, arity_in}
-use Rattle.run_model.specs.Calls.{Call, PrimResult, faults, argument, as_class, demands, at_once}
-use Rattle.run_model.specs.ObjectPrimitives.{is_on_chain, is_kind_of, instance_class}
-use Rattle.run_model.specs.Primitives.{rows, primitive}
+use Rattle.run_model.specs.Calls.{Call}
+use Rattle.run_model.specs.Primitives.{primitive}
 use Rattle.run_model.specs.Shapes.{Branch, runs, is_just, Shape, two_ways, loops, a_message, plain_block, one_block, with_block, with_blocks, with_loop, shape_of}
 use Rattle.run_model.specs.Eval.{is_super}
+use Rattle.run_model.proofs.PrimitiveLemmas.{primitive-kept}
 use Rattle.bare_model.specs.BareImages.{bare_class}
 use Rattle.bare_model.proofs.BareStores.{bare_closure}
 
@@ -123,125 +120,13 @@ pub hierarchy : (classes : List (ClassOf Name)) → AllByRecursion (KeepsHierarc
 hierarchy [] = tt
 hierarchy (c ∷ cs) = (record { name = refl; superclass = refl }, hierarchy cs)
 
--- a class is on a chain of classes without comments where it is on the chain
-any-bare : (d : Name) (cs : List (ClassOf Name)) → list_any (λ (k : ClassOf Name). text_eq d k.name) (map bare_class cs) ≡ list_any (λ (k : ClassOf Name). text_eq d k.name) cs
-any-bare d [] = refl
-any-bare d (c ∷ cs) = ap (λ b. text_eq d c.name || b) (any-bare d cs)
-
--- the same chain
-on_chain-bare : (classes : List (ClassOf Name)) (d n : Name) → is_on_chain (map bare_class classes) d n ≡ is_on_chain classes d n
-on_chain-bare classes d n =
-    ap (λ b. if b then true_value else false_value) (ap (λ cs. list_any (λ (k : ClassOf Name). text_eq d k.name) cs) (chain-kept text_eq bare_class classes (hierarchy classes) (Some n)) ∙ any-bare d (chain text_eq classes (Some n)))
-
 -- what a primitive is given, with the classes without comments
 abbrev pub bare_call : Call → Call
 bare_call c = record c { classes = map bare_class c.classes }
 
--- the primitive that looks at classes
-kind-bare : (c : Call) → is_kind_of (bare_call c) ≡ is_kind_of c
-kind-bare c = by (as_class (argument c 0))
-  where
-    by : (o : Option Name) → demands (bare_call c) o (λ d. at_once (bare_call c) (is_on_chain (map bare_class c.classes) d (instance_class c.heap c.receiver))) ≡ demands c o (λ d. at_once c (is_on_chain c.classes d (instance_class c.heap c.receiver)))
-    by (Some d) = ap (λ v. at_once c v) (on_chain-bare c.classes d (instance_class c.heap c.receiver))
-    by None = refl
-
--- a row that comes to the same
-abbrev IsSameRow : Call → ℕ × (Call → PrimResult) → Type 0
-IsSameRow c row = row.1 (bare_call c) ≡ row.1 c
-
--- the row that is found
-found-bare : (c : Call) (xs : List (ℕ × (Call → PrimResult))) → AllByRecursion (IsSameRow c) xs → option_map_or (λ row. row.1 (bare_call c)) (find (λ row. row.0 == c.number) xs) (faults (bad_argument c.number)) ≡ option_map_or (λ row. row.1 c) (find (λ row. row.0 == c.number) xs) (faults (bad_argument c.number))
-found-bare c [] all = refl
-found-bare c (x ∷ xs) all = by (x.0 == c.number) (found-bare c xs all.1)
-  where
-    by : (b : Bool) → option_map_or (λ row. row.1 (bare_call c)) (find (λ row. row.0 == c.number) xs) (faults (bad_argument c.number)) ≡ option_map_or (λ row. row.1 c) (find (λ row. row.0 == c.number) xs) (faults (bad_argument c.number)) →
-        option_map_or (λ row. row.1 (bare_call c)) (cond b (Some x) (find (λ row. row.0 == c.number) xs)) (faults (bad_argument c.number)) ≡ option_map_or (λ row. row.1 c) (cond b (Some x) (find (λ row. row.0 == c.number) xs)) (faults (bad_argument c.number))
-    by true ih = all.0
-    by false ih = ih
-
--- each row comes to the same
-rows-bare : (c : Call) → AllByRecursion (IsSameRow c) rows
-rows-bare c = (
-  refl,
-  (
-    refl,
-    (
-      kind-bare c,
-      (
-        refl,
-        (
-          refl,
-          (
-            refl,
-            (
-              refl,
-              (
-                refl,
-                (
-                  refl,
-                  (
-                    refl,
-                    (
-                      refl,
-                      (
-                        refl,
-                        (
-                          refl,
-                          (
-                            refl,
-                            (
-                              refl,
-                              (
-                                refl,
-                                (
-                                  refl,
-                                  (
-                                    refl,
-                                    (
-                                      refl,
-                                      (
-                                        refl,
-                                        (
-                                          refl,
-                                          (
-                                            refl,
-                                            (
-                                              refl,
-                                              (
-                                                refl,
-                                                (
-                                                  refl,
-                                                  (refl, (refl, (refl, (refl, (refl, (refl, (refl, (refl, (refl, (refl, (refl, (refl, (refl, (refl, (refl, tt))))))))))))))),
-                                                ),
-                                              ),
-                                            ),
-                                          ),
-                                        ),
-                                      ),
-                                    ),
-                                  ),
-                                ),
-                              ),
-                            ),
-                          ),
-                        ),
-                      ),
-                    ),
-                  ),
-                ),
-              ),
-            ),
-          ),
-        ),
-      ),
-    ),
-  ),
-)
-
 -- a primitive comes to the same
 pub primitive-bare : (c : Call) → primitive (bare_call c) ≡ primitive c
-unfolding primitive
-primitive-bare c = found-bare c rows (rows-bare c)
+primitive-bare c = primitive-kept bare_class c.classes (hierarchy c.classes) c
 
 -- closures have as many parameters
 pub arity-bare : (cs : List Closure) → arity_in (map bare_closure cs) ≡ arity_in cs

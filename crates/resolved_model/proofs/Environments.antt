@@ -1,7 +1,7 @@
 -- What an environment of names says, by the names alone and by what stands there.
-use Rattle.std.proofs.Common.{◌≡◌, ℕ, zero, suc, ◌+◌, List, [], ◌∷◌, ◌++◌, length, Option, Some, None, refl, sym, ap, ◌∙◌, arith, append_assoc}
+use Rattle.std.proofs.Common.{◌≡◌, ℕ, suc, ◌+◌, List, [], ◌∷◌, ◌++◌, length, Option, Some, None, refl, sym, ap, ◌∙◌, arith, append_assoc}
 use Rattle.std.specs.Prelude.{Bool, true, false, not, ◌||◌, cond, if◌then◌else◌, map, find, slice_get, option_map}
-use Rattle.std.specs.List.{flat_map, list_any, prefix_len, position_or_len}
+use Rattle.std.specs.List.{position_or_len}
 use Rattle.std.proofs.lemmas.List.{map-append}
 use Rattle.rb_base.specs.Names.{text_eq}
 use Rattle.scope_model.specs.SpecialNames.{is_pseudo_variable}

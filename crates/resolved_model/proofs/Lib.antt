@@ -1,5 +1,6 @@
 mod ResolvedStores
 mod Environments
 mod ResolvingLemmas
+mod LookupLemmas
 mod ShapeLemmas
 mod RunLemmas

@@ -1,6 +1,6 @@
 -- Names resolved by what is declared round them, and that this is what they mean at their places.
-use Rattle.std.proofs.Common.{◌≡◌, ℕ, zero, suc, ◌+◌, List, [], ◌∷◌, ◌++◌, length, Option, Some, None, refl, sym, ap, ◌∙◌, arith, append_assoc}
-use Rattle.std.specs.Prelude.{Bool, true, false, if◌then◌else◌, option_map, unwrap_or}
+use Rattle.std.proofs.Common.{◌≡◌, ℕ, zero, suc, ◌+◌, List, [], ◌∷◌, ◌++◌, length, Some, None, refl, ap, ◌∙◌, arith, append_assoc}
+use Rattle.std.specs.Prelude.{false, if◌then◌else◌, option_map, unwrap_or}
 use Rattle.std.specs.List.{position_or_len}
 use Rattle.rb_base.specs.Names.{text_eq}
 use Rattle.scope_model.specs.SpecialNames.{is_pseudo_variable}

@@ -14,23 +14,29 @@ use Rattle.image_model.specs.Lookup.{lookup, super_lookup}
 use Rattle.image_model.specs.Means.{VariableKind, of_instance, of_class_side, of_class, MeaningOf, pseudo, argument, temporary, variable, a_class, transcript, undeclared}
 use Rattle.run_model.specs.Values.{Name, Value, nil_value, true_value, false_value, int_value, char_value, string_value, symbol_value, class_value, object_value, array_value, closure_value, transcript_value, Event, RunError, not_assignable}
 use Rattle.run_model.specs.Store.{Object, field_of, with_field, class_side_of, with_class_side, object_with, with_objects, Binding, holds, in_cell, Frame, Closure, Memory, start, returns, ends_by, out_of_ticks, Result, fine, leaves, arity_in}
-use Rattle.run_model.specs.Acts.{Act, acts, with_memory}
+use Rattle.run_model.specs.Acts.{Act, acts}
 use Rattle.run_model.specs.Numbers.{numeral_integer}
 use Rattle.run_model.specs.Views.{is_meta}
 use Rattle.run_model.specs.Calls.{PrimResult, answers, faults, enters}
 use Rattle.run_model.specs.Primitives.{primitive}
 use Rattle.run_model.specs.Reading.{binding_of, meaning_of, reads_pseudo, reads_meaning, reads_binding, reads, assigns_meaning, assigns_binding, assigns}
 use Rattle.run_model.specs.Shapes.{Branch, runs, is_just, Shape, two_ways, loops, a_message, shape_of}
-use Rattle.run_model.specs.Eval.{Task, node, turn, Evaluator, gives_integer, literal_value, literal_values, statements, values, inside, held, in_cells, sequence, enters_with, tells_any, follows, does_primitive, outermost, does, runs_found, message, super_message, is_super, sends, chooses, takes, does_send, goes_on, messages, makes_closure, returns_home, does_node, step, eval}
+use Rattle.run_model.specs.Eval.{Task, node, turn, Evaluator, gives_integer, literal_value, literal_values, statements, values, inside, held, in_cells, sequence, enters_with, tells_any, follows, does_primitive, outermost, does, runs_found, message, super_message, is_super, sends, chooses, takes, does_send, goes_on, messages, returns_home, does_node, step, eval}
 use Rattle.run_model.specs.Runs.{doit_class, does_doit, does_doits, comes_to, seen, run_to, run}
+use Rattle.run_model.proofs.PrimitiveLemmas.{primitive-kept}
+use Rattle.run_model.specs.Renamings.{no_renaming}
+use Rattle.run_model.specs.Matched.{AreMatched}
+use Rattle.run_model.proofs.MatchedLemmas.{matched-runs}
 use Rattle.resolved_model.specs.ResolvedTrees.{of_word, to_fixed, reading, ResolvedCode}
-use Rattle.resolved_model.specs.Resolving.{reference_of, target_of, resolved_method, resolved_doit}
-use Rattle.resolved_model.specs.ResolvedActs.{ResolvedFrame, ResolvedClosure, ResolvedAct, beside, resolved_acts}
+use Rattle.resolved_model.specs.Resolving.{reference_of, target_of, resolved_doit}
+use Rattle.resolved_model.specs.ResolvedImages.{plain_class, doing_of, resolved_entry, resolved_image}
+use Rattle.resolved_model.specs.ResolvedActs.{ResolvedFrame, ResolvedClosure, ResolvedAct, resolved_acts}
 use Rattle.resolved_model.specs.ResolvedEval.{ResolvedTask, at_node, at_turn, values_held, cells_from, within, without_locals, first_frame, parameters_in, reads_super, ResolvedEvaluator, reads_local, reads_reference, assigns_local, assigns_target, lines, node_values, does_code, enters_closure_with, follows_on, does_primitive_of, runs_method, runs_one, sends_to, sends_to_super, sends_message, takes_branch, does_sending, sends_each, returns_to, does_resolved, resolved_step, resolved_eval}
 use Rattle.resolved_model.specs.ResolvedRuns.{runs_doit, runs_doits, resolved_run_to, resolved_run}
 use Rattle.resolved_model.proofs.ResolvedStores.{no_closures, same, apart, Resolves, gives-resolved, fails-resolved, goes_home-resolved, stops-resolved, then_resolved, memory-resolved, looks-resolved, keeps-resolved, tells-resolved, pays-resolved, home-resolved}
 use Rattle.resolved_model.proofs.Environments.{Declared, reference_by, target_by, reference_in, target_in, opened, kind_in, place_in, is_cell, slots_declare, slots_stand, by_slots, declare-inside, stand-inside}
 use Rattle.resolved_model.proofs.ResolvingLemmas.{tree_in, trees_in, messages_in, statements_in, code_in, method-resolved, doit-resolved}
+use Rattle.resolved_model.proofs.LookupLemmas.{plain-hierarchy, finds-resolved, finds_above-resolved, doits-class}
 use Rattle.resolved_model.proofs.ShapeLemmas.{branch_in, shape_in, shape-in}
 
 -- the second of three alternatives of which none holds
@@ -50,7 +56,9 @@ reads-other (Some b) k g n e = refl
 reads-other None k pseudo n e = e
 reads-other None k (argument scope) n e = refl
 reads-other None k (temporary scope) n e = refl
-reads-other None k (variable kind c) n e = refl
+reads-other None k (variable of_instance c) n e = refl
+reads-other None k (variable of_class_side c) n e = refl
+reads-other None k (variable of_class c) n e = refl
 reads-other None k (a_class c) n e = refl
 reads-other None k transcript n e = refl
 reads-other None k undeclared n e = refl
@@ -177,28 +185,28 @@ module _ (i : ImageOf Name) where
       (either (text_eq n (codes "thisContext")) _ _ _ _ (failing _) (giving _))))
 
   -- reading a variable
-  variable-read : (f : Frame) (n : Name) (kind : VariableKind) (c : Name) → Does (reads_meaning acts f n (variable kind c)) (reads_meaning resolved_acts.plain (without_locals (frame_in f)) n (variable kind c))
-  variable-read f n of_instance c = plainly _ _ (λ m. ap (λ v. (v, no_closures m)) (field-clear m f.me n)) (λ m. refl)
-  variable-read f n of_class_side c = plainly _ _ (λ m. ap (λ v. (v, no_closures m)) (class_side-clear m f.me n)) (λ m. refl)
-  variable-read f n of_class c = plainly _ _ (λ m. refl) (λ m. refl)
+  variable-read : (f : Frame) (n : Name) (k : ℕ) (kind : VariableKind) (c : Name) → Does (reads_meaning acts f n (variable kind c)) (reads_reference resolved_acts (frame_in f) (reference_of (variable kind c) k n))
+  variable-read f n k of_instance c = plainly _ _ (λ m. ap (λ v. (v, no_closures m)) (field-clear m f.me n)) (λ m. refl)
+  variable-read f n k of_class_side c = plainly _ _ (λ m. ap (λ v. (v, no_closures m)) (class_side-clear m f.me n)) (λ m. refl)
+  variable-read f n k of_class c = plainly _ _ (λ m. refl) (λ m. refl)
 
   -- assigning a variable
-  variable-assigned : (f : Frame) (n : Name) (v : Value) (kind : VariableKind) (c : Name) → Does (assigns_meaning acts f n v (variable kind c)) (assigns_meaning resolved_acts.plain (without_locals (frame_in f)) n v (variable kind c))
-  variable-assigned f n v of_instance c = plainly _ _ (λ m. ap (λ x. (v, x)) (with_field-clear m f.me n v)) (λ m. field-keeps m f.me n v)
-  variable-assigned f n v of_class_side c = plainly _ _ (λ m. ap (λ x. (v, x)) (with_class_side-clear m f.me n v)) (λ m. class_side-keeps m f.me n v)
-  variable-assigned f n v of_class c = plainly _ _ (λ m. refl) (λ m. refl)
+  variable-assigned : (f : Frame) (n : Name) (v : Value) (k : ℕ) (kind : VariableKind) (c : Name) → Does (assigns_meaning acts f n v (variable kind c)) (assigns_target resolved_acts (frame_in f) v (target_of (variable kind c) k n))
+  variable-assigned f n v k of_instance c = plainly _ _ (λ m. ap (λ x. (v, x)) (with_field-clear m f.me n v)) (λ m. field-keeps m f.me n v)
+  variable-assigned f n v k of_class_side c = plainly _ _ (λ m. ap (λ x. (v, x)) (with_class_side-clear m f.me n v)) (λ m. class_side-keeps m f.me n v)
+  variable-assigned f n v k of_class c = plainly _ _ (λ m. refl) (λ m. refl)
 
   -- reading what stands outside the environment
   meaning-read : (f : Frame) (n : Name) (k : ℕ) → Does (reads_meaning acts f n (meaning_of i f n)) (reads_reference resolved_acts (frame_in f) (reference_of (meaning_of i f n) k n))
   meaning-read f n k =
       by_meaning (λ g. Does (reads_meaning acts f n g) (reads_reference resolved_acts (frame_in f) (reference_of g k n)))
-      (λ kind c. variable-read f n kind c) (λ c. giving _) (giving _) (failing _) _ _ _ _ _
+      (λ kind c. variable-read f n k kind c) (λ c. giving _) (giving _) (failing _) _ _ _ _ _
 
   -- assigning what stands outside the environment
   meaning-assigned : (f : Frame) (n : Name) (v : Value) (k : ℕ) → Does (assigns_meaning acts f n v (meaning_of i f n)) (assigns_target resolved_acts (frame_in f) v (target_of (meaning_of i f n) k n))
   meaning-assigned f n v k =
       by_meaning (λ g. Does (assigns_meaning acts f n v g) (assigns_target resolved_acts (frame_in f) v (target_of g k n)))
-      (λ kind c. variable-assigned f n v kind c) (λ c. failing _) (failing _) (failing _) _ _ _ _ _
+      (λ kind c. variable-assigned f n v k kind c) (λ c. failing _) (failing _) (failing _) _ _ _ _ _
 
   -- reading a binding at a place where it stands
   binding-read : (f : Frame) (n : Name) (b : Binding) (k : ℕ) → slice_get (slots_stand f.slots) k ≡ Some b → Does (reads_binding acts i f n (Some b)) (reads_local resolved_acts (slice_get (slots_stand f.slots) k))
@@ -351,14 +359,15 @@ module _ (i : ImageOf Name) where
         then_resolved closure_in (option_map closure_in) same _ _ _ _ (looks-resolved closure_in (option_map closure_in) _ _ (λ m. slice_get-map closure_in m.closures k)) (λ c. enters-in c args)
 
     -- a primitive
-    primitive-in : (n : ℕ) (v : Value) (args : List Value) → Does (does_primitive acts i go n v args) (does_primitive_of resolved_acts i go' n v args)
+    primitive-in : (n : ℕ) (v : Value) (args : List Value) → Does (does_primitive acts i go n v args) (does_primitive_of resolved_acts (resolved_image i) go' n v args)
     primitive-in n v args =
         going_on _ _ _ _
-        (looks-resolved closure_in same _ _ (λ m. ap (λ a. primitive (record { number = n; receiver = v; arguments = args; heap = m.heap; arity = a; classes = i.classes })) (arity-in m.closures)))
+        (looks-resolved closure_in same _ _ (λ m. ap (λ a. primitive (record { number = n; receiver = v; arguments = args; heap = m.heap; arity = a; classes = map plain_class i.classes })) (arity-in m.closures)
+        ∙ primitive-kept plain_class i.classes (plain-hierarchy i.classes) (record { number = n; receiver = v; arguments = args; heap = m.heap; arity = arity_in m.closures; classes = i.classes })))
         (λ r. follows-in args r)
 
     -- a method
-    method-in : (o : Option ℕ) (m : EntryOf Name) (v : Value) (args : List Value) → Does (does acts i go o m v args) (runs_method resolved_acts i go' o m v args)
+    method-in : (o : Option ℕ) (m : EntryOf Name) (v : Value) (args : List Value) → Does (does acts i go o m v args) (runs_method resolved_acts (resolved_image i) go' (resolved_entry i m) (doing_of i m o) v args)
     method-in (Some n) m v args = primitive-in n v args
     method-in None m v args =
         going_on _ _ _ _ (plainly _ _ (λ x. refl) (λ x. refl))
@@ -368,22 +377,31 @@ module _ (i : ImageOf Name) where
         (λ u. giving _)))
 
     -- a method that was found
-    found-in : (o : Option (EntryOf Name)) (v : Value) (s : Name) (args : List Value) → Does (runs_found acts i go o v s args) (runs_one resolved_acts i go' o v s args)
+    found-in : (o : Option (EntryOf Name)) (v : Value) (s : Name) (args : List Value) → Does (runs_found acts i go o v s args) (runs_one resolved_acts (resolved_image i) go' (option_map (resolved_entry i) o) v s args)
     found-in (Some m) v s args = method-in m.tree.primitive m v args
     found-in None v s args = going_on _ _ _ _ (plainly _ _ (λ m. refl) (λ m. refl)) (λ c. failing _)
 
     -- a message
-    message-in : (v : Value) (s : Name) (args : List Value) → Does (message acts i go v s args) (sends_to resolved_acts i go' v s args)
-    message-in v s args = going_on _ _ _ _ (plainly _ _ (λ m. refl) (λ m. refl)) (λ c. found-in (lookup text_words i (Some c) (is_meta v) s) v s args)
+    message-in : (v : Value) (s : Name) (args : List Value) → Does (message acts i go v s args) (sends_to resolved_acts (resolved_image i) go' v s args)
+    message-in v s args =
+        going_on _ _ _ _ (plainly _ _ (λ m. refl) (λ m. refl))
+        (λ c. subst (λ o. Does (runs_found acts i go (lookup text_words i (Some c) (is_meta v) s) v s args) (runs_one resolved_acts (resolved_image i) go' o v s args)) (sym (finds-resolved i (Some c) (is_meta v) s))
+        (found-in (lookup text_words i (Some c) (is_meta v) s) v s args))
+
+    -- a message to `super`
+    super_message-in : (f : Frame) (v : Value) (s : Name) (args : List Value) → Does (super_message acts i go f v s args) (sends_to_super resolved_acts (resolved_image i) go' (frame_in f) v s args)
+    super_message-in f v s args =
+        subst (λ o. Does (super_message acts i go f v s args) (runs_one resolved_acts (resolved_image i) go' o v s args)) (sym (finds_above-resolved i f.home.class f.home.meta s))
+        (found-in (super_lookup text_words i f.home.class f.home.meta s) v s args)
 
     -- the message of a send
-    sends-in : (f : Frame) (r : TreeOf Name) (v : Value) (s : Name) (args : List Value) → Does (sends acts i go f r v s args) (sends_message resolved_acts i go' (frame_in f) (tree_in (outside f) (slots_declare f.slots) r) v s args)
+    sends-in : (f : Frame) (r : TreeOf Name) (v : Value) (s : Name) (args : List Value) → Does (sends acts i go f r v s args) (sends_message resolved_acts (resolved_image i) go' (frame_in f) (tree_in (outside f) (slots_declare f.slots) r) v s args)
     sends-in f r v s args =
-        subst (λ b. Does (sends acts i go f r v s args) (if b then sends_to_super resolved_acts i go' (frame_in f) v s args else sends_to resolved_acts i go' v s args)) (sym (super-in (outside f) (slots_declare f.slots) r))
-        (either (is_super r) _ _ _ _ (found-in (super_lookup text_words i f.home.class f.home.meta s) v s args) (message-in v s args))
+        subst (λ b. Does (sends acts i go f r v s args) (if b then sends_to_super resolved_acts (resolved_image i) go' (frame_in f) v s args else sends_to resolved_acts (resolved_image i) go' v s args)) (sym (super-in (outside f) (slots_declare f.slots) r))
+        (either (is_super r) _ _ _ _ (super_message-in f v s args) (message-in v s args))
 
     -- the messages of a cascade
-    messages-in : (f : Frame) (v x : Value) (ms : MessagesOf Name) → Does (messages acts i go f v x ms) (sends_each resolved_acts i go' (frame_in f) v x (messages_in (outside f) (slots_declare f.slots) ms))
+    messages-in : (f : Frame) (v x : Value) (ms : MessagesOf Name) → Does (messages acts i go f v x ms) (sends_each resolved_acts (resolved_image i) go' (frame_in f) v x (messages_in (outside f) (slots_declare f.slots) ms))
     messages-in f v x no_messages = giving _
     messages-in f v x (more_messages s args ms) = going_on _ _ _ _ (values-in f args) (λ vs. going_on _ _ _ _ (message-in v s vs) (λ u. messages-in f v u ms))
 
@@ -394,17 +412,17 @@ module _ (i : ImageOf Name) where
 
     -- a send by its shape
     send-in : (f : Frame) (r : TreeOf Name) (s : Name) (args : TreesOf Name) (k : Shape) →
-        Does (does_send acts i go f r s args k) (does_sending resolved_acts i go' (frame_in f) (tree_in (outside f) (slots_declare f.slots) r) s (trees_in (outside f) (slots_declare f.slots) args) (shape_in (outside f) (slots_declare f.slots) k))
+        Does (does_send acts i go f r s args k) (does_sending resolved_acts (resolved_image i) go' (frame_in f) (tree_in (outside f) (slots_declare f.slots) r) s (trees_in (outside f) (slots_declare f.slots) args) (shape_in (outside f) (slots_declare f.slots) k))
     send-in f r s args (two_ways a b) = going_on _ _ _ _ (tasks (node f r)) (λ v. choice-in v _ _ _ _ (takes-in f a) (takes-in f b))
     send-in f r s args (loops sense a b) = tasks (turn f sense a b)
     send-in f r s args a_message = going_on _ _ _ _ (tasks (node f r)) (λ v. going_on _ _ _ _ (values-in f args) (λ vs. sends-in f r v s vs))
 
     -- a node
-    node-in : (f : Frame) (t : TreeOf Name) → Does (does_node acts i go f t) (does_resolved resolved_acts i go' (frame_in f) (tree_in (outside f) (slots_declare f.slots) t))
+    node-in : (f : Frame) (t : TreeOf Name) → Does (does_node acts i go f t) (does_resolved resolved_acts (resolved_image i) go' (frame_in f) (tree_in (outside f) (slots_declare f.slots) t))
     node-in f (var n) = name-read f n
     node-in f (literal l) = literal-in l
     node-in f (send r s args) =
-        subst (λ k. Does (does_send acts i go f r s args (shape_of s r args)) (does_sending resolved_acts i go' (frame_in f) (tree_in (outside f) (slots_declare f.slots) r) s (trees_in (outside f) (slots_declare f.slots) args) k))
+        subst (λ k. Does (does_send acts i go f r s args (shape_of s r args)) (does_sending resolved_acts (resolved_image i) go' (frame_in f) (tree_in (outside f) (slots_declare f.slots) r) s (trees_in (outside f) (slots_declare f.slots) args) k))
         (sym (shape-in (outside f) (slots_declare f.slots) s r args)) (send-in f r s args (shape_of s r args))
     node-in f (cascade r ms) = going_on _ _ _ _ (tasks (node f r)) (λ v. messages-in f v nil_value ms)
     node-in f (assign n t) = going_on _ _ _ _ (tasks (node f t)) (λ v. name-assigned f n v)
@@ -413,27 +431,28 @@ module _ (i : ImageOf Name) where
     node-in f (return t) = going_on _ _ _ _ (tasks (node f t)) (λ v. going_on _ _ _ _ (plainly _ _ (λ m. refl) (λ m. refl)) (λ b. return-in f v b))
 
     -- a step
-    step-in : (t : Task) → Does (step acts i go t) (resolved_step resolved_acts i go' (task_in t))
+    step-in : (t : Task) → Does (step acts i go t) (resolved_step resolved_acts (resolved_image i) go' (task_in t))
     step-in (node f t) = going_on _ _ _ _ (pays-resolved closure_in same _ _) (λ u. node-in f t)
     step-in (turn f sense a b) = going_on _ _ _ _ (sequence-in f [] [] a) (λ v. again-in sense v _ _ (going_on _ _ _ _ (sequence-in f [] [] b) (λ u. tasks (turn f sense a b))))
 
     -- a do-it
-    doit-in : (d : DoItOf Name) → Does (does_doit acts i go d) (runs_doit resolved_acts i go' d)
+    doit-in : (d : DoItOf Name) → Does (does_doit acts i go d) (runs_doit resolved_acts (resolved_image i) go' (resolved_doit i d))
     doit-in d =
         going_on _ _ _ _ (plainly _ _ (λ x. refl) (λ x. refl))
         (λ h. home-resolved closure_in h _ _
+        (subst (λ o. Does (sequence acts go (outermost (doit_class i) false nil_value h) [] [] d.body) (does_code resolved_acts go' (first_frame o false nil_value h) [] (resolved_doit i d))) (sym (doits-class i))
         (subst (λ c. Does (sequence acts go (outermost (doit_class i) false nil_value h) [] [] d.body) (does_code resolved_acts go' (first_frame (doit_class i) false nil_value h) [] c)) (sym (doit-resolved i d))
-        (sequence-in (outermost (doit_class i) false nil_value h) [] [] d.body)))
+        (sequence-in (outermost (doit_class i) false nil_value h) [] [] d.body))))
 
     -- do-its
-    doits-in : (v : Value) (ds : List (DoItOf Name)) → Does (does_doits acts i go v ds) (runs_doits resolved_acts i go' v ds)
+    doits-in : (v : Value) (ds : List (DoItOf Name)) → Does (does_doits acts i go v ds) (runs_doits resolved_acts (resolved_image i) go' v (map (resolved_doit i) ds))
     doits-in v [] = giving _
     doits-in v (d ∷ ds) = going_on _ _ _ _ (doit-in d) (λ u. doits-in u ds)
 
   -- evaluation with so much depth
-  eval-in : (d : ℕ) (t : Task) → Does (eval acts i d t) (resolved_eval resolved_acts i d (task_in t))
+  eval-in : (d : ℕ) (t : Task) → Does (eval acts i d t) (resolved_eval resolved_acts (resolved_image i) d (task_in t))
   eval-in zero t = stops-resolved closure_in same
-  eval-in (suc d) t = step-in (eval acts i d) (resolved_eval resolved_acts i d) (eval-in d) t
+  eval-in (suc d) t = step-in (eval acts i d) (resolved_eval resolved_acts (resolved_image i) d) (eval-in d) t
 
   -- what is seen of a result without its closures
   seen-apart : (n : ℕ) (x : Result Value) → seen n (apart closure_in same x).0 ≡ seen n x
@@ -444,11 +463,19 @@ module _ (i : ImageOf Name) where
   seen-apart n (leaves out_of_ticks s) = refl
 
   -- a run with so much depth
-  pub run_to-resolved : (d n : ℕ) → resolved_run_to i d n ≡ run_to i d n
+  pub run_to-resolved : (d n : ℕ) → resolved_run_to (resolved_image i) d n ≡ run_to i d n
   run_to-resolved d n =
-      ap (λ r. seen n r.0) (doits-in (eval acts i d) (resolved_eval resolved_acts i d) (eval-in d) nil_value i.doits (start n)) ∙ seen-apart n (comes_to i d n)
+      ap (λ r. seen n r.0) (doits-in (eval acts i d) (resolved_eval resolved_acts (resolved_image i) d) (eval-in d) nil_value i.doits (start n)) ∙ seen-apart n (comes_to i d n)
 
   -- a run
-  pub run-resolved : (n : ℕ) → resolved_run i n ≡ run i n
+  pub run-resolved : (n : ℕ) → resolved_run (resolved_image i) n ≡ run i n
   unfolding run resolved_run
   run-resolved n = run_to-resolved (2 * n + 2) n
+
+-- the runs of images that are the same once their names are resolved
+pub runs-same : (i j : ImageOf Name) → resolved_image i ≡ resolved_image j → (n : ℕ) → run i n ≡ run j n
+runs-same i j e n = sym (run-resolved i n) ∙ ap (λ x. resolved_run x n) e ∙ run-resolved j n
+
+-- they are matched with nothing renamed
+pub matched-resolved : (i j : ImageOf Name) → resolved_image i ≡ resolved_image j → AreMatched i j no_renaming
+matched-resolved i j e = matched-runs i j (runs-same i j e)

@@ -1,8 +1,7 @@
 -- Shapes of sends once their names are resolved.
-use Rattle.std.proofs.Common.{◌≡◌, ℕ, List, [], ◌∷◌, Option, Some, None, refl, ap, ◌∙◌}
+use Rattle.std.proofs.Common.{◌≡◌, List, [], ◌∷◌, Option, Some, None, refl, ap, ◌∙◌}
 use Rattle.std.specs.Prelude.{Bool, true, false, if◌then◌else◌, option_map, option_and_then, unwrap_or, codes}
 use Rattle.rb_base.specs.Names.{text_eq}
-use Rattle.scope_model.specs.SpecialNames.{is_pseudo_variable}
 use Rattle.tree_model.specs.Tree.{TreeOf, var, literal, send, cascade, assign, block, brace, return, TreesOf, no_trees, more_trees, SequenceOf}
 use Rattle.image_model.specs.Means.{MeaningOf}
 use Rattle.run_model.specs.Values.{Name}

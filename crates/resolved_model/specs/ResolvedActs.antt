@@ -1,6 +1,6 @@
 -- Acts on a store and, beside it, the closures of resolved code.
 use Rattle.std.specs.Prelude.{ℕ, List, [], ◌∷◌, ◌++◌, length}
-use Rattle.run_model.specs.Values.{Value, closure_value, Event, RunError}
+use Rattle.run_model.specs.Values.{Value, closure_value}
 use Rattle.run_model.specs.Store.{Binding, Home, Memory, Store, Result, fine, leaves}
 use Rattle.run_model.specs.Operations.{Operations}
 use Rattle.run_model.specs.Acts.{Act, gives, fails, goes_home, with_memory, tells, pays, out_of_home, stops}

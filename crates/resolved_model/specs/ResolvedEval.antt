@@ -1,20 +1,16 @@
 -- Evaluation of resolved code, step for step as that of trees with names: arguments and temporaries are found by their places, and other names are read and assigned by what they mean.
 use Rattle.std.specs.Prelude.{ℕ, zero, suc, Bool, true, false, if◌then◌else◌, List, [], ◌∷◌, ◌++◌, length, replicate, slice_get, Option, Some, None, option_map, unwrap_or, codes}
 use Rattle.rb_base.specs.Names.{text_eq}
-use Rattle.image_model.specs.Image.{EntryOf, ImageOf}
-use Rattle.image_model.specs.Words.{text_words}
-use Rattle.image_model.specs.Lookup.{lookup, super_lookup}
-use Rattle.image_model.specs.Means.{variable}
 use Rattle.run_model.specs.Values.{Name, Value, nil_value, class_value, transcript_value, undeclared_name, not_assignable, does_not_understand, bad_argument, cannot_return}
-use Rattle.run_model.specs.Store.{Binding, holds, in_cell, Frame, Memory, lives, value_in_cell, with_cell}
+use Rattle.run_model.specs.Store.{Binding, holds, in_cell, Frame, Memory, lives, value_of, same_pair, field_of, with_field, class_side_of, with_class_side, with_shared, value_in_cell, with_cell}
 use Rattle.run_model.specs.Operations.{looks, changes}
 use Rattle.run_model.specs.Views.{class_name_of, is_meta}
 use Rattle.run_model.specs.Calls.{PrimResult, answers, faults, enters}
 use Rattle.run_model.specs.Primitives.{primitive}
-use Rattle.run_model.specs.Reading.{reads_pseudo, reads_meaning, assigns_meaning}
+use Rattle.run_model.specs.Reading.{reads_pseudo}
 use Rattle.run_model.specs.Eval.{literal_value, tells_any, makes_home, chooses, goes_on, makes_brace, outermost}
-use Rattle.resolved_model.specs.ResolvedTrees.{Reference, of_word, of_local, of_variable, of_a_class, of_transcript, of_nothing, Target, to_temporary, to_variable, to_fixed, to_nothing, ResolvedTree, reading, constant, sending, cascading, assigning, block_of, brace_of, returning, ResolvedTrees, no_nodes, more_nodes, ResolvedMessages, no_sends, more_sends, ResolvedStatements, no_lines, more_lines, ResolvedCode}
-use Rattle.resolved_model.specs.Resolving.{resolved_method}
+use Rattle.resolved_model.specs.ResolvedTrees.{Reference, of_word, of_local, of_instance_variable, of_class_side_variable, of_class_variable, of_named_class, of_transcript, of_nothing, Target, to_temporary, to_instance_variable, to_class_side_variable, to_class_variable, to_fixed, to_nothing, ResolvedTree, reading, constant, sending, cascading, assigning, block_of, brace_of, returning, ResolvedTrees, no_nodes, more_nodes, ResolvedMessages, no_sends, more_sends, ResolvedStatements, no_lines, more_lines, ResolvedCode}
+use Rattle.resolved_model.specs.ResolvedImages.{Doing, by_primitive, by_code, ResolvedMethod, ResolvedImage, finds, finds_above}
 use Rattle.resolved_model.specs.ResolvedActs.{ResolvedFrame, ResolvedClosure, ResolvedOperations}
 use Rattle.resolved_model.specs.ResolvedShapes.{ResolvedBranch, runs_code, gives_just, ResolvedShape, chooses_way, repeats, as_message, resolved_shape}
 
@@ -58,8 +54,10 @@ parameters_in cs k = unwrap_or (option_map (λ (c : ResolvedClosure). c.code.par
 abbrev pub reads_super : ResolvedTree → Bool
 reads_super (reading (of_word n)) = text_eq n (codes "super")
 reads_super (reading (of_local k)) = false
-reads_super (reading (of_variable kind c n)) = false
-reads_super (reading (of_a_class c)) = false
+reads_super (reading (of_instance_variable n)) = false
+reads_super (reading (of_class_side_variable n)) = false
+reads_super (reading (of_class_variable c n)) = false
+reads_super (reading (of_named_class c)) = false
 reads_super (reading of_transcript) = false
 reads_super (reading (of_nothing n)) = false
 reads_super (constant l) = false
@@ -85,8 +83,10 @@ module _ (w : ResolvedOperations) where
   abbrev pub reads_reference : ResolvedFrame → Reference → w.plain.Act Value
   reads_reference f (of_word n) = reads_pseudo w.plain (without_locals f) n
   reads_reference f (of_local k) = reads_local (slice_get f.locals k)
-  reads_reference f (of_variable kind c n) = reads_meaning w.plain (without_locals f) n (variable kind c)
-  reads_reference f (of_a_class c) = w.plain.gives (class_value c)
+  reads_reference f (of_instance_variable n) = looks w.plain (λ m. field_of m f.me n)
+  reads_reference f (of_class_side_variable n) = looks w.plain (λ m. class_side_of m f.me n)
+  reads_reference f (of_class_variable c n) = looks w.plain (λ m. value_of same_pair m.shared (c, n))
+  reads_reference f (of_named_class c) = w.plain.gives (class_value c)
   reads_reference f of_transcript = w.plain.gives transcript_value
   reads_reference f (of_nothing n) = w.plain.fails (undeclared_name n)
 
@@ -99,7 +99,9 @@ module _ (w : ResolvedOperations) where
   -- a value is stored in what is assigned under a name
   abbrev pub assigns_target : ResolvedFrame → Value → Target → w.plain.Act Value
   assigns_target f v (to_temporary k) = assigns_local v (slice_get f.locals k)
-  assigns_target f v (to_variable kind c n) = assigns_meaning w.plain (without_locals f) n v (variable kind c)
+  assigns_target f v (to_instance_variable n) = changes w.plain v (λ m. with_field m f.me n v)
+  assigns_target f v (to_class_side_variable n) = changes w.plain v (λ m. with_class_side m f.me n v)
+  assigns_target f v (to_class_variable c n) = changes w.plain v (λ m. with_shared m c n v)
   assigns_target f v (to_fixed n) = w.plain.fails (not_assignable n)
   assigns_target f v (to_nothing n) = w.plain.fails (undeclared_name n)
 
@@ -135,37 +137,33 @@ module _ (w : ResolvedOperations) where
   follows_on go args (enters k) = w.plain.and_then (w.looks_at (λ cs m. slice_get cs k)) (λ c. enters_closure_with go c args)
 
   -- the primitive of a number
-  abbrev pub does_primitive_of : ImageOf Name → ResolvedEvaluator → ℕ → Value → List Value → w.plain.Act Value
+  abbrev pub does_primitive_of : ResolvedImage → ResolvedEvaluator → ℕ → Value → List Value → w.plain.Act Value
   does_primitive_of i go n v args =
       w.plain.and_then (w.looks_at (λ cs m. primitive (record { number = n; receiver = v; arguments = args; heap = m.heap; arity = parameters_in cs; classes = i.classes })))
       (λ r. follows_on go args r)
 
-  -- a method without primitive: its statements in a new home, and then self
-  abbrev pub does_method : ImageOf Name → ResolvedEvaluator → EntryOf Name → Value → List Value → w.plain.Act Value
-  does_method i go m v args =
-      w.plain.and_then (makes_home w.plain) (λ h. w.plain.at_home h (w.plain.and_then (does_code go (first_frame m.class m.meta v h) args (resolved_method i m)) (λ u. w.plain.gives v)))
-
-  -- a method is run: its primitive, or its statements
-  abbrev pub runs_method : ImageOf Name → ResolvedEvaluator → Option ℕ → EntryOf Name → Value → List Value → w.plain.Act Value
-  runs_method i go (Some n) m v args = does_primitive_of i go n v args
-  runs_method i go None m v args = does_method i go m v args
+  -- a method is run: its primitive, or its statements in a new home, and then it gives self
+  abbrev pub runs_method : ResolvedImage → ResolvedEvaluator → ResolvedMethod → Doing → Value → List Value → w.plain.Act Value
+  runs_method i go m (by_primitive n) v args = does_primitive_of i go n v args
+  runs_method i go m (by_code c) v args =
+      w.plain.and_then (makes_home w.plain) (λ h. w.plain.at_home h (w.plain.and_then (does_code go (first_frame m.class m.meta v h) args c) (λ u. w.plain.gives v)))
 
   -- the method that was found is run; where there is none the receiver does not understand
-  abbrev pub runs_one : ImageOf Name → ResolvedEvaluator → Option (EntryOf Name) → Value → Name → List Value → w.plain.Act Value
-  runs_one i go (Some m) v s args = runs_method i go m.tree.primitive m v args
+  abbrev pub runs_one : ResolvedImage → ResolvedEvaluator → Option ResolvedMethod → Value → Name → List Value → w.plain.Act Value
+  runs_one i go (Some m) v s args = runs_method i go m m.doing v args
   runs_one i go None v s args = w.plain.and_then (looks w.plain (λ m. class_name_of m.heap v)) (λ c. w.plain.fails (does_not_understand c (is_meta v) s))
 
   -- a message to a value
-  abbrev pub sends_to : ImageOf Name → ResolvedEvaluator → Value → Name → List Value → w.plain.Act Value
+  abbrev pub sends_to : ResolvedImage → ResolvedEvaluator → Value → Name → List Value → w.plain.Act Value
   sends_to i go v s args =
-      w.plain.and_then (looks w.plain (λ m. class_name_of m.heap v)) (λ c. runs_one i go (lookup text_words i (Some c) (is_meta v) s) v s args)
+      w.plain.and_then (looks w.plain (λ m. class_name_of m.heap v)) (λ c. runs_one i go (finds i (Some c) (is_meta v) s) v s args)
 
   -- a message to `super`, from the class and side of the running method
-  abbrev pub sends_to_super : ImageOf Name → ResolvedEvaluator → ResolvedFrame → Value → Name → List Value → w.plain.Act Value
-  sends_to_super i go f v s args = runs_one i go (super_lookup text_words i f.home.class f.home.meta s) v s args
+  abbrev pub sends_to_super : ResolvedImage → ResolvedEvaluator → ResolvedFrame → Value → Name → List Value → w.plain.Act Value
+  sends_to_super i go f v s args = runs_one i go (finds_above i f.home.class f.home.meta s) v s args
 
   -- the message of a send to a receiver
-  abbrev pub sends_message : ImageOf Name → ResolvedEvaluator → ResolvedFrame → ResolvedTree → Value → Name → List Value → w.plain.Act Value
+  abbrev pub sends_message : ResolvedImage → ResolvedEvaluator → ResolvedFrame → ResolvedTree → Value → Name → List Value → w.plain.Act Value
   sends_message i go f r v s args = if reads_super r then sends_to_super i go f v s args else sends_to i go v s args
 
   -- a branch
@@ -174,7 +172,7 @@ module _ (w : ResolvedOperations) where
   takes_branch go f (gives_just v) = w.plain.gives v
 
   -- a send by its shape: receiver, then the branch that it chooses; a loop; or receiver, arguments and then the message
-  abbrev pub does_sending : ImageOf Name → ResolvedEvaluator → ResolvedFrame → ResolvedTree → Name → ResolvedTrees → ResolvedShape → w.plain.Act Value
+  abbrev pub does_sending : ResolvedImage → ResolvedEvaluator → ResolvedFrame → ResolvedTree → Name → ResolvedTrees → ResolvedShape → w.plain.Act Value
   does_sending i go f r s args (chooses_way a b) = w.plain.and_then (go (at_node f r)) (λ v. chooses w.plain v (takes_branch go f a) (takes_branch go f b))
   does_sending i go f r s args (repeats sense a b) = go (at_turn f sense a b)
   does_sending i go f r s args as_message = w.plain.and_then (go (at_node f r)) (λ v. w.plain.and_then (node_values go f args) (λ vs. sends_message i go f r v s vs))
@@ -184,7 +182,7 @@ module _ (w : ResolvedOperations) where
   takes_turn go f sense a b = w.plain.and_then (does_code go f [] a) (λ v. goes_on w.plain sense v (w.plain.and_then (does_code go f [] b) (λ u. go (at_turn f sense a b))))
 
   -- each message of a cascade to a receiver with its arguments, in order; x is the value of the one before
-  abbrev pub sends_each : ImageOf Name → ResolvedEvaluator → ResolvedFrame → Value → Value → ResolvedMessages → w.plain.Act Value
+  abbrev pub sends_each : ResolvedImage → ResolvedEvaluator → ResolvedFrame → Value → Value → ResolvedMessages → w.plain.Act Value
   sends_each i go f v x no_sends = w.plain.gives x
   sends_each i go f v x (more_sends s args ms) =
       w.plain.and_then (node_values go f args) (λ vs. w.plain.and_then (sends_to i go v s vs) (λ u. sends_each i go f v u ms))
@@ -195,7 +193,7 @@ module _ (w : ResolvedOperations) where
   returns_to f v false = w.plain.fails cannot_return
 
   -- a node, once its tick is taken
-  abbrev pub does_resolved : ImageOf Name → ResolvedEvaluator → ResolvedFrame → ResolvedTree → w.plain.Act Value
+  abbrev pub does_resolved : ResolvedImage → ResolvedEvaluator → ResolvedFrame → ResolvedTree → w.plain.Act Value
   does_resolved i go f (reading r) = reads_reference f r
   does_resolved i go f (constant l) = literal_value w.plain l
   does_resolved i go f (sending r s args) = does_sending i go f r s args (resolved_shape s r args)
@@ -206,11 +204,11 @@ module _ (w : ResolvedOperations) where
   does_resolved i go f (returning t) = w.plain.and_then (go (at_node f t)) (λ v. w.plain.and_then (looks w.plain (λ m. lives m f.home.number)) (λ b. returns_to f v b))
 
   -- one step: a node takes a tick first, a turn takes none
-  abbrev pub resolved_step : ImageOf Name → ResolvedEvaluator → ResolvedEvaluator
+  abbrev pub resolved_step : ResolvedImage → ResolvedEvaluator → ResolvedEvaluator
   resolved_step i go (at_node f t) = w.plain.and_then (w.plain.pays 1 nil_value) (λ u. does_resolved i go f t)
   resolved_step i go (at_turn f sense a b) = takes_turn go f sense a b
 
   -- the evaluator with so much depth, which falls by one at each node and at each turn of a loop
-  abbrev pub resolved_eval : ImageOf Name → ℕ → ResolvedEvaluator
+  abbrev pub resolved_eval : ResolvedImage → ℕ → ResolvedEvaluator
   resolved_eval i zero t = w.plain.stops
   resolved_eval i (suc d) t = resolved_step i (resolved_eval i d) t

@@ -1,22 +1,25 @@
 -- Trees in which each name is replaced by what it means at its place.
 use Rattle.std.specs.Prelude.{ℕ}
 use Rattle.tree_model.specs.Tree.{LiteralOf}
-use Rattle.image_model.specs.Means.{VariableKind}
 use Rattle.run_model.specs.Values.{Name}
 
--- What is read under a name: a pseudo-variable by its word; an argument or temporary by its place among those that the scopes round the node declare, counted from 0, from the innermost scope outwards, and in each scope the arguments before the temporaries; a variable of a kind by the class that defines it and its name; a class; `Transcript`; or nothing, with the name that the error tells.
+-- What is read under a name: a pseudo-variable by its word; an argument or temporary by its place among those that the scopes round the node declare, counted from 0, from the innermost scope outwards, and in each scope the arguments before the temporaries; an instance variable or a class-instance variable by its name, whichever class of the chain defines it; a class variable by the class that defines it and its name; a class; `Transcript`; or nothing, with the name that the error tells.
 pub data Reference : Type 0 where
   of_word : Name → Reference
   of_local : ℕ → Reference
-  of_variable : VariableKind → (definer : Name) → Name → Reference
-  of_a_class : Name → Reference
+  of_instance_variable : Name → Reference
+  of_class_side_variable : Name → Reference
+  of_class_variable : (definer : Name) → Name → Reference
+  of_named_class : Name → Reference
   of_transcript : Reference
   of_nothing : Name → Reference
 
--- What is assigned under a name: a temporary by its place, counted as above; a variable of a kind by the class that defines it and its name; or an error, which tells the name: what is meant is not assignable, or nothing is meant.
+-- What is assigned under a name: a temporary by its place, counted as above; a variable of each kind, as above; or an error, which tells the name: what is meant is not assignable, or nothing is meant.
 pub data Target : Type 0 where
   to_temporary : ℕ → Target
-  to_variable : VariableKind → (definer : Name) → Name → Target
+  to_instance_variable : Name → Target
+  to_class_side_variable : Name → Target
+  to_class_variable : (definer : Name) → Name → Target
   to_fixed : Name → Target
   to_nothing : Name → Target
 

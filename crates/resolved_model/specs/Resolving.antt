@@ -7,9 +7,9 @@ use Rattle.tree_model.specs.Path.{count}
 use Rattle.scope_model.specs.Scope.{ScopeOf, PlacedScope, method_scope, doit_scope, scopes_round}
 use Rattle.image_model.specs.Image.{EntryOf, DoItOf, ImageOf}
 use Rattle.image_model.specs.Words.{text_words}
-use Rattle.image_model.specs.Means.{MeaningOf, pseudo, argument, temporary, variable, a_class, transcript, undeclared, means, means_in_doit}
+use Rattle.image_model.specs.Means.{of_instance, of_class_side, of_class, MeaningOf, pseudo, argument, temporary, variable, a_class, transcript, undeclared, means, means_in_doit}
 use Rattle.run_model.specs.Values.{Name}
-use Rattle.resolved_model.specs.ResolvedTrees.{Reference, of_word, of_local, of_variable, of_a_class, of_transcript, of_nothing, Target, to_temporary, to_variable, to_fixed, to_nothing, ResolvedTree, reading, constant, sending, cascading, assigning, block_of, brace_of, returning, ResolvedTrees, no_nodes, more_nodes, ResolvedMessages, no_sends, more_sends, ResolvedStatements, no_lines, more_lines, ResolvedCode}
+use Rattle.resolved_model.specs.ResolvedTrees.{Reference, of_word, of_local, of_instance_variable, of_class_side_variable, of_class_variable, of_named_class, of_transcript, of_nothing, Target, to_temporary, to_instance_variable, to_class_side_variable, to_class_variable, to_fixed, to_nothing, ResolvedTree, reading, constant, sending, cascading, assigning, block_of, brace_of, returning, ResolvedTrees, no_nodes, more_nodes, ResolvedMessages, no_sends, more_sends, ResolvedStatements, no_lines, more_lines, ResolvedCode}
 
 -- what a name means, and its place among the names that the scopes round the node declare
 pub record Meant : Type 0 where
@@ -37,8 +37,10 @@ abbrev pub reference_of : MeaningOf Name → ℕ → Name → Reference
 reference_of pseudo k n = of_word n
 reference_of (argument scope) k n = of_local k
 reference_of (temporary scope) k n = of_local k
-reference_of (variable kind c) k n = of_variable kind c n
-reference_of (a_class c) k n = of_a_class c
+reference_of (variable of_instance c) k n = of_instance_variable n
+reference_of (variable of_class_side c) k n = of_class_side_variable n
+reference_of (variable of_class c) k n = of_class_variable c n
+reference_of (a_class c) k n = of_named_class c
 reference_of transcript k n = of_transcript
 reference_of undeclared k n = of_nothing n
 
@@ -47,7 +49,9 @@ abbrev pub target_of : MeaningOf Name → ℕ → Name → Target
 target_of pseudo k n = to_fixed n
 target_of (argument scope) k n = to_fixed n
 target_of (temporary scope) k n = to_temporary k
-target_of (variable kind c) k n = to_variable kind c n
+target_of (variable of_instance c) k n = to_instance_variable n
+target_of (variable of_class_side c) k n = to_class_side_variable n
+target_of (variable of_class c) k n = to_class_variable c n
 target_of (a_class c) k n = to_fixed n
 target_of transcript k n = to_fixed n
 target_of undeclared k n = to_nothing n

@@ -5,4 +5,4 @@
 
 mod laws;
 
-pub use laws::law_resolved_runs;
+pub use laws::{law_resolved_runs, law_same_resolved};

@@ -11,3 +11,4 @@ mod ControlLemmas
 mod LayoutLemmas
 pub mod RenamingLemmas
 pub mod MatchedLemmas
+pub mod PrimitiveLemmas

@@ -1,6 +1,6 @@
 -- Matched runs one after the other.
 use Rattle.std.proofs.Common.{◌≡◌, List, [], ◌++◌, refl, sym, ap, ◌∙◌, subst, append_assoc}
-use Rattle.std.specs.Prelude.{false}
+use Rattle.std.specs.Prelude.{ℕ, false, IsTrue}
 use Rattle.std.proofs.lemmas.Bool.{false≢true}
 use Rattle.std.proofs.lemmas.List.{append-nil, map-append}
 use Rattle.image_model.specs.Image.{ImageOf}
@@ -64,9 +64,24 @@ module _ (r q p : Renaming) (is : IsComposite r q p) where
     backward = λ x. let a = n.backward x in let b = m.backward a.0 in (b.0, before-trans (run k x) (run j a.0) (run i b.0) a.1 b.1);
   }
 
+-- renaming keeps whether a run has ended
+ended-renamed : (r : Renaming) (o : Outcome) → has_ended (renamed_outcome r o) ≡ has_ended o
+ended-renamed r (done v) = refl
+ended-renamed r (failed e) = refl
+ended-renamed r spent = refl
+
+-- an image is matched by one whose runs are its own renamed
+pub matched-renamed : (i j : ImageOf Name) (r : Renaming) → ((n : ℕ) → ((run j n).events ≡ renamed_events r (run i n).events) × ((run j n).outcome ≡ renamed_outcome r (run i n).outcome)) → AreMatched i j r
+matched-renamed i j r h = record {
+  forward = λ n. (n, record { ended = λ e. (subst IsTrue (sym (ap has_ended (h n).1 ∙ ended-renamed r (run i n).outcome)) e, (h n).0, (h n).1); spent = λ e. equal-prefix _ _ (sym (h n).0) });
+  backward = λ n. (n, record { ended = λ e. (subst IsTrue (ap has_ended (h n).1 ∙ ended-renamed r (run i n).outcome) e, sym (h n).0, sym (h n).1); spent = λ e. equal-prefix _ _ (h n).0 });
+}
+
+-- an image is matched by one that has its runs
+pub matched-runs : (i j : ImageOf Name) → ((n : ℕ) → run i n ≡ run j n) → AreMatched i j no_renaming
+matched-runs i j h =
+    matched-renamed i j no_renaming (λ n. (ap (λ (x : RunOf). x.events) (sym (h n)) ∙ sym (events-same _), ap (λ (x : RunOf). x.outcome) (sym (h n)) ∙ sym (outcome-same _)))
+
 -- an image is matched by itself
 pub matched-same : (i : ImageOf Name) → AreMatched i i no_renaming
-matched-same i = record {
-  forward = λ n. (n, record { ended = λ e. (e, sym (events-same _), sym (outcome-same _)); spent = λ e. equal-prefix _ _ (events-same _) });
-  backward = λ n. (n, record { ended = λ e. (e, events-same _, outcome-same _); spent = λ e. equal-prefix _ _ (sym (events-same _)) });
-}
+matched-same i = matched-runs i i (λ n. refl)
