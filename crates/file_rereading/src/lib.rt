@@ -1,0 +1,7 @@
+//! The text that is written of an image is read again, and makes that image. The functions of this crate are laws on the
+//! definitions: they do nothing.
+#![tactic(auto)]
+
+mod laws;
+
+pub use laws::{spells_definitions};
