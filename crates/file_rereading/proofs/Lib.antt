@@ -1,3 +1,5 @@
 mod Readings
 mod Lines
 mod Definitions
+mod Names
+mod Says
