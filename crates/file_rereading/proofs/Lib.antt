@@ -3,3 +3,5 @@ mod Lines
 mod Definitions
 mod Names
 mod Says
+mod DoIts
+mod Fresh
