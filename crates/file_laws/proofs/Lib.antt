@@ -1,8 +1,8 @@
 mod Braces
 mod Sources
 mod Sound
-mod Settled
-mod Moves
-mod Redefined
+pub mod Settled
+pub mod Moves
+pub mod Redefined
 mod Named
-mod Methods
+pub mod Methods

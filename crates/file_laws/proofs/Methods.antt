@@ -82,7 +82,7 @@ differ_last {X} {Y} f (z ∷ zs) x d new = ((λ j e. by j (end_or_before (map f 
     by j (inr e) = new 0 (ap Some (sym e))
 
 -- a method of a class, a side and a selector has this signature
-beq_equal : (a b : Bool) → beq a b ≡ true → a ≡ b
+pub beq_equal : (a b : Bool) → beq a b ≡ true → a ≡ b
 beq_equal true true h = refl
 beq_equal true false h = absurd (true≢false (sym h))
 beq_equal false true h = absurd (true≢false (sym h))
@@ -107,7 +107,7 @@ is_its c meta s m e =
     ∙ ap (λ b. b && text_eq s m.tree.selector) (beq_same meta)
     ∙ ap (text_eq s) selector ∙ text_eq-refl s
 
-its_signature : (c : Text) (meta : Bool) (s : Text) (m : EntryOf Text) → is_method text_eq c meta s m ≡ true → (Some c, meta, s) ≡ signature m
+pub its_signature : (c : Text) (meta : Bool) (s : Text) (m : EntryOf Text) → is_method text_eq c meta s m ≡ true → (Some c, meta, s) ≡ signature m
 its_signature c meta s m h =
     let parts = and_parts (option_map_or (text_eq c) m.class false && beq meta m.meta) (text_eq s m.tree.selector) h in
     let first = and_parts (option_map_or (text_eq c) m.class false) (beq meta m.meta) parts.0 in

@@ -5,3 +5,4 @@ mod Names
 mod Says
 mod DoIts
 mod Fresh
+mod Methods
