@@ -36,7 +36,7 @@ name_at_place (y ∷ ys) zero x e = let same : y ≡ x = cc in ap (λ (z : Class
 name_at_place (y ∷ ys) (suc k) x e = name_at_place ys k x e
 
 -- behind the first name no name stands twice
-pub no_repeat_behind : (x : Text) (xs : List Text) → HasNoRepeat (x ∷ xs) → HasNoRepeat xs
+pub no_repeat_behind : {Y : Type 0} (x : Y) (xs : List Y) → HasNoRepeat (x ∷ xs) → HasNoRepeat xs
 no_repeat_behind x xs h j k y a b = let same : suc j ≡ suc k = h (suc j) (suc k) y a b in omega (arith, same)
 
 -- a class is found by its name

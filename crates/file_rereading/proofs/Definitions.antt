@@ -177,7 +177,7 @@ symbol_of_word : (n : Text) → IsWord n → literal_text (symbol n) ≡ 35 ∷ 
 symbol_of_word n word = ap (λ (b : Bool). 35 ∷ (if b || is_keyword_row n || is_operator n then n else quoted_text n)) word
 
 -- texts in a row, from the right
-right : (p q n a b c d : Text) → p ++ q ++ n ++ a ++ b ++ c ++ d ≡ p ++ (q ++ (n ++ (a ++ (b ++ (c ++ d)))))
+pub right : (p q n a b c d : Text) → p ++ q ++ n ++ a ++ b ++ c ++ d ≡ p ++ (q ++ (n ++ (a ++ (b ++ (c ++ d)))))
 right p q n a b c d =
     append_assoc (p ++ q ++ n ++ a ++ b) c d ∙ append_assoc (p ++ q ++ n ++ a) b (c ++ d) ∙ append_assoc (p ++ q ++ n) a (b ++ (c ++ d))
     ∙ append_assoc (p ++ q) n (a ++ (b ++ (c ++ d))) ∙ append_assoc p q (n ++ (a ++ (b ++ (c ++ d))))

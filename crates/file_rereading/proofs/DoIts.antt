@@ -19,7 +19,7 @@ use Rattle.file_model.specs.Filing.{Text, Filing, Item, DoItChunk, goes_on, form
 use Rattle.file_model.specs.Written.{chunk_text, paragraph, doit_text}
 use Rattle.file_model.specs.Reading.{IsItem, DoItRead}
 use Rattle.file_model.specs.Fileable.{MayStand, IsDoItChunk}
-use Rattle.file_rereading.specs.Rereading.{outside, with_doits}
+use Rattle.file_rereading.proofs.Readings.{outside, with_doits}
 use Rattle.file_rereading.proofs.Readings.{ReadsOn, reads_further, reads_none, reads_chunk}
 
 -- one paragraph that is a do-it by the grammar

@@ -3,12 +3,9 @@ use Rattle.std.proofs.Common.{◌≡◌, ◌⊎◌, inl, inr, ℕ, zero, suc, �
 use Rattle.std.specs.Prelude.{◌||◌, ◌&&◌, is_some}
 use Rattle.std.specs.List.{list_any, AllByRecursion}
 use Rattle.image_model.specs.Valid.{HasNoRepeat}
+use Rattle.file_laws.proofs.Redefined.{no_repeat_behind}
 
--- behind the first of a list in which nothing stands twice
-no_repeat_behind : {Y : Type 0} (y : Y) (ys : List Y) → HasNoRepeat (y ∷ ys) → HasNoRepeat ys
-no_repeat_behind y ys h = λ j k x a b. let same : suc j ≡ suc k = h (suc j) (suc k) x a b in omega (arith, same)
-
--- of a part of it at the end
+-- in a part at the end of a list nothing stands twice where it does not in the list
 pub no_repeat_end : {Y : Type 0} (xs ys : List Y) → HasNoRepeat (xs ++ ys) → HasNoRepeat ys
 no_repeat_end [] ys h = h
 no_repeat_end (x ∷ xs) ys h = no_repeat_end xs ys (no_repeat_behind x (xs ++ ys) h)
@@ -58,8 +55,3 @@ all_front P (x ∷ xs) ys all = (all.0, all_front P xs ys all.1)
 pub all_back : {X : Type 0} (P : X → Type 0) (xs ys : List X) → AllByRecursion P (xs ++ ys) → AllByRecursion P ys
 all_back P [] ys all = all
 all_back P (x ∷ xs) ys all = all_back P xs ys all.1
-
--- one fact of each item from another
-pub all_weaker : {X : Type 0} (P Q : X → Type 0) (xs : List X) → ((x : X) → P x → Q x) → AllByRecursion P xs → AllByRecursion Q xs
-all_weaker P Q [] f all = tt
-all_weaker P Q (x ∷ xs) f all = (f x all.0, all_weaker P Q xs f all.1)

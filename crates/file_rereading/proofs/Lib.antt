@@ -6,3 +6,6 @@ mod Says
 mod DoIts
 mod Fresh
 mod Methods
+mod Prefixes
+mod Classes
+mod Again

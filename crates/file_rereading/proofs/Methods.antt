@@ -31,12 +31,12 @@ use Rattle.file_model.specs.Reading.{IsItem, Empty, DoItRead, MethodRead}
 use Rattle.file_model.specs.Fileable.{MayStand}
 use Rattle.file_laws.proofs.Moves.{text_equal}
 use Rattle.file_laws.proofs.Methods.{its_signature, beq_equal}
-use Rattle.file_rereading.specs.Rereading.{outside}
+use Rattle.file_rereading.proofs.Readings.{outside}
 use Rattle.file_rereading.specs.Trees.{opening_tree, opening_text}
 use Rattle.file_rereading.proofs.Readings.{ReadsOn, reads_further, reads_none, reads_blanks, reads_chunk}
 use Rattle.file_rereading.proofs.Lines.{spells_opening}
 use Rattle.file_rereading.proofs.Names.{begins_no_blank, is_not_empty}
-use Rattle.file_rereading.proofs.Says.{passes, says_opening}
+use Rattle.file_rereading.proofs.Says.{none_holds, says_opening}
 use Rattle.file_rereading.proofs.Fresh.{fresh, find_none}
 
 -- in a run of methods, or outside one
@@ -78,7 +78,7 @@ reads_start : (r : RunOf Text) (i : ImageOf Text) (at_head : Bool) (behind : Tex
 reads_start r i at_head behind word there =
     let rest = (if r.meta then codes " class" else []) ++ (codes " methodsFor: " ++ quoted_text r.protocol) in
     let d : DoItOf Text = record { source = opening_text r; body = opening_tree r } in
-    let none : first_cause (run_refusals text_eq i.classes r) ≡ None = passes (when (not (has_class text_eq i.classes r.class)) UnknownClass) [] (ap not there) refl in
+    let none : first_cause (run_refusals text_eq i.classes r) ≡ None = none_holds (run_refusals text_eq i.classes r) (ap not there, tt) in
     let takes : form_taken false (outside i at_head) d (form_of Second false (opening_tree r)) ≡ Ok (in_run i (Some r) false) =
     ap (form_taken false (outside i at_head) d) (says_opening r) ∙ ap (λ o. option_map_or Err o (Ok (in_run i (Some r) false))) none in
     let some : opening_text r ≢ [] = subst (λ (x : Text). x ≢ []) (sym (opening_begins r)) (is_not_empty r.class rest word) in
@@ -135,7 +135,7 @@ absent i m g front all = find_none test front (all-implies (λ e. signature e �
         by false is = refl
 
 -- one of two tests fails
-and_fails : (a b : Bool) → b ≡ false → (a && b) ≡ false
+pub and_fails : (a b : Bool) → b ≡ false → (a && b) ≡ false
 and_fails true b h = h
 and_fails false b h = refl
 
@@ -149,8 +149,7 @@ adds i m g front all few =
     let kernel : is_kernel_method text_eq front c m.meta s ≡ false = ap (λ o. option_map_or (λ (e : EntryOf Text). e.kernel) o false) none in
     let many : is_one_method_too_many text_eq front c m.meta s ≡ false = and_fails (not (has_method text_eq front c m.meta s)) (nat_le method_limit (length front)) (lt-leb 200000 (length front) few) in
     let causes : first_cause (method_refusals text_eq front (run_of m) s) ≡ None =
-    passes (when (is_kernel_method text_eq front c m.meta s) KernelReplaced) (when (is_one_method_too_many text_eq front c m.meta s) TooMany ∷ []) kernel
-    (passes (when (is_one_method_too_many text_eq front c m.meta s) TooMany) [] many refl) in
+    none_holds (method_refusals text_eq front (run_of m) s) (kernel, (many, tt)) in
     let class : ◌≡◌ {A = Option Text} (Some c) m.class = ap (λ (o : Option Text). Some (unwrap_or o [])) g.named ∙ sym g.named in
     let user = sym g.user in
     let entry : entry_in false (run_of m) m.source m.tree ≡ m = λ j. record { class = class j; meta = m.meta; protocol = m.protocol; source = m.source; tree = m.tree; kernel = user j } in

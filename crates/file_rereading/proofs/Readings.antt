@@ -8,9 +8,19 @@ use Rattle.chunk_format.specs.Chunks.{Piece, HasChunks, First, Over as NoChunk, 
 use Rattle.chunk_format.specs.Source.{IsSource}
 use Rattle.chunk_format.proofs.Unique.{Takes-written}
 use Rattle.chunk_format.proofs.Blanks.{IsBlank-cons, IsPaired-IsBlank, drop_blanks-append, drop_blanks-doubled}
+use Rattle.std.specs.Prelude.{if◌then◌else◌}
+use Rattle.image_model.specs.Image.{DoItOf, ImageOf}
 use Rattle.file_model.specs.Filing.{Text, Filing, Item, Blank, taken}
 use Rattle.file_model.specs.Written.{chunk_text}
 use Rattle.file_model.specs.Reading.{IsItem, Empty, Takes, TakesAll, Over, Taken, ReadsText}
+
+-- outside a run of methods, with all chunks so far do-its or not
+abbrev pub outside : ImageOf Text → Bool → Filing
+outside i at_head = record { image = i; run = None; at_head = at_head }
+
+-- the image with more do-its at the end, which are counted where all before them are do-its
+abbrev pub with_doits : Bool → ImageOf Text → List (DoItOf Text) → ImageOf Text
+with_doits at_head i ds = record i { doits = i.doits ++ ds; heads = if at_head then i.heads + length ds else i.heads }
 
 -- one blank more
 blank_more : (b : ℕ) (s : Text) → is_blank b ≡ true → IsBlank s → IsBlank (b ∷ s)

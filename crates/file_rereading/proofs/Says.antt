@@ -16,9 +16,10 @@ use Rattle.file_model.specs.Filing.{Text}
 use Rattle.file_rereading.specs.Trees.{definition_tree, definition_of, class_side_tree, comment_tree, opening_tree}
 use Rattle.file_rereading.proofs.Names.{MayName, words_joined, joined_may}
 
--- one condition that does not hold
-pub passes : (c : Condition) (cs : List Condition) → c.holds ≡ false → first_cause cs ≡ None → first_cause (c ∷ cs) ≡ None
-passes c cs e rest = ap (λ (b : Bool). if b then Some c.cause else first_cause cs) e ∙ rest
+-- where no condition holds there is no cause
+pub none_holds : (cs : List Condition) → AllByRecursion (λ c. c.holds ≡ false) cs → first_cause cs ≡ None
+none_holds [] all = refl
+none_holds (c ∷ cs) all = ap (λ (b : Bool). if b then Some c.cause else first_cause cs) all.0 ∙ none_holds cs all.1
 
 -- the definition of a class
 pub says_definition : (c : ClassOf Text) (p : Text) → c.superclass ≡ Some p → GivesNames MayName c → form_of Second false (definition_tree c) ≡ Changes (Define (definition_of c))
@@ -29,7 +30,7 @@ says_definition c p above gives =
     let all : (may_name c.name && (may_name_all instance && may_name_all shared)) ≡ true =
     and_from (may_name c.name) (may_name_all instance && may_name_all shared) gives.name (and_from (may_name_all instance) (may_name_all shared) (joined_may c.instance gives.instance) (joined_may c.shared gives.shared)) in
     let none : first_cause (when (not (may_name c.name && (may_name_all instance && may_name_all shared))) UnknownDefinition ∷ when (not (is_blank_string [])) PoolsNotEmpty ∷ []) ≡ None =
-    passes (when (not (may_name c.name && (may_name_all instance && may_name_all shared))) UnknownDefinition) (when (not (is_blank_string [])) PoolsNotEmpty ∷ []) (ap not all) refl in
+    none_holds (when (not (may_name c.name && (may_name_all instance && may_name_all shared))) UnknownDefinition ∷ when (not (is_blank_string [])) PoolsNotEmpty ∷ []) (ap not all, (refl, tt)) in
     let made : Form = Changes (Define (record { name = c.name; superclass = Some q; instance = words_of instance; shared = words_of shared; category = c.category })) in
     ap (λ o. option_map_or Refuses o made) none
     ∙ (λ j. Changes (Define (record { name = c.name; superclass = super j; instance = words_joined c.instance gives.instance j; shared = words_joined c.shared gives.shared j; category = c.category })))

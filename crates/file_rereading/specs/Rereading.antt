@@ -1,12 +1,32 @@
--- The image that the text of an image makes.
-use Rattle.std.specs.Prelude.{ℕ, ◌+◌, List, ◌++◌, None, length, Bool, ◌&&◌, ◌==◌, if◌then◌else◌}
-use Rattle.image_model.specs.Image.{DoItOf, ImageOf}
-use Rattle.file_model.specs.Filing.{Text, Filing}
+-- Which images are read again from their texts, and as what.
+use Rattle.std.specs.Prelude.{◌≡◌, ℕ, ◌≤◌, List, [], ◌++◌, length, Bool, true, ◌&&◌, ◌==◌, if◌then◌else◌, codes}
+use Rattle.rb_base.specs.Names.{text_eq}
+use Rattle.image_model.specs.Image.{ImageOf}
+use Rattle.file_model.specs.Hierarchy.{has_class}
+use Rattle.file_model.specs.Refusals.{class_limit, method_limit}
+use Rattle.file_model.specs.Filing.{Text}
+use Rattle.file_model.specs.Written.{user_classes, user_methods}
 
--- outside a run of methods, with all chunks so far do-its or not
-abbrev pub outside : ImageOf Text → Bool → Filing
-outside i at_head = record { image = i; run = None; at_head = at_head }
+-- an image that a file-out may make: no more classes and methods than there may be
+pub record IsWithinLimits (i : ImageOf Text) : Type 0 where
+  pub classes : length i.classes ≤ class_limit
+  pub methods : length i.methods ≤ method_limit
 
--- the image with more do-its at the end, which are counted where all before them are do-its
-abbrev pub with_doits : Bool → ImageOf Text → List (DoItOf Text) → ImageOf Text
-with_doits at_head i ds = record i { doits = i.doits ++ ds; heads = if at_head then i.heads + length ds else i.heads }
+-- a kernel that is the beginning of images: it has `Object`, which alone has no superclass, and no do-its
+pub record IsBeginning (kernel : ImageOf Text) : Type 0 where
+  pub root : has_class text_eq kernel.classes (codes "Object") ≡ true
+  pub no_doits : kernel.doits ≡ []
+  pub no_heads : kernel.heads ≡ 0
+
+-- the classes and the methods of the kernel stand before those of the user
+pub record KernelFirst (kernel i : ImageOf Text) : Type 0 where
+  pub classes : i.classes ≡ kernel.classes ++ user_classes i
+  pub methods : i.methods ≡ kernel.methods ++ user_methods i
+
+-- whether the image is one of do-its alone, beside the kernel
+abbrev pub is_only_doits : ImageOf Text → Bool
+is_only_doits i = length (user_classes i) == 0 && length (user_methods i) == 0
+
+-- the same image; where nothing else stands in its text, all its do-its are before all else
+abbrev pub with_heads : ImageOf Text → ImageOf Text
+with_heads i = record i { heads = if is_only_doits i then length i.doits else i.heads }
