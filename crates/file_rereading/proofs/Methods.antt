@@ -44,7 +44,7 @@ abbrev in_run : ImageOf Text → Option (RunOf Text) → Bool → Filing
 in_run i run at_head = record { image = i; run = run; at_head = at_head }
 
 -- the image with these methods
-abbrev with_methods : ImageOf Text → List (EntryOf Text) → ImageOf Text
+abbrev pub with_methods : ImageOf Text → List (EntryOf Text) → ImageOf Text
 with_methods i ms = record i { methods = ms }
 
 -- a method that can be put in where these classes are

@@ -4,4 +4,4 @@
 
 mod laws;
 
-pub use laws::{spells_definitions};
+pub use laws::{reads_what_was_written, spells_definitions};
