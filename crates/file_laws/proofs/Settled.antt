@@ -57,7 +57,7 @@ step k taken pre c post held follows =
     ∙ ap (settle_behind text_eq k (taken ++ c ∷ [])) (without_behind (can_follow text_eq taken) pre c post held follows)
 
 -- classes are taken in turn
-in_turn : (k : ℕ) (taken left back : List (ClassOf Text)) → IsTakenInTurn text_eq taken left → settle_behind text_eq (length left + k) taken (left ++ back) ≡ settle_behind text_eq k (taken ++ left) back
+pub in_turn : (k : ℕ) (taken left back : List (ClassOf Text)) → IsTakenInTurn text_eq taken left → settle_behind text_eq (length left + k) taken (left ++ back) ≡ settle_behind text_eq k (taken ++ left) back
 in_turn k taken [] back turn =
     let none : 0 + k ≡ k = omega arith in
     ap (λ n. settle_behind text_eq n taken back) none ∙ ap (λ ys. settle_behind text_eq k ys back) (sym (append-nil taken))

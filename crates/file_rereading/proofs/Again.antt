@@ -1,22 +1,20 @@
 -- The text of an image is read again.
-use Rattle.std.proofs.Common.{◌≡◌, ℕ, zero, suc, ◌+◌, ◌<◌, ◌≤◌, ◌↔◌, Bool, true, false, not, cond, List, [], ◌∷◌, ◌++◌, length, map, filter, take, drop, Option, Some, None, slice_get, Contains, Result, Ok, refl, ap, sym, subst, ◌∙◌, arith, append_assoc, append-nil, length-append, true≢false, take-append-drop, length-take}
+use Rattle.std.proofs.Common.{◌≡◌, ℕ, suc, ◌+◌, ◌≤◌, ◌↔◌, Bool, true, false, not, cond, List, [], ◌∷◌, ◌++◌, length, map, filter, take, drop, Option, Some, None, slice_get, refl, ap, sym, subst, ◌∙◌, arith, append_assoc, append-nil, length-append, true≢false, take-append-drop}
 use Rattle.std.specs.Prelude.{codes, ◌==◌, ◌&&◌, if◌then◌else◌, flat_map, IsTrue, is_some}
 use Rattle.std.specs.List.{AllByRecursion}
 use Rattle.std.proofs.lemmas.Bool.{ne_eqb}
 use Rattle.std.proofs.lemmas.List.{length-take-le}
 use Rattle.rb_base.specs.Names.{text_eq}
-use Rattle.rb_base.proofs.NamesLemmas.{text_eq-refl}
 use Rattle.token_model.specs.declared.kind.Dialect.TheVariants.{Second}
 use Rattle.chunk_format.specs.Left.{start_of}
-use Rattle.grammar_model.specs.Spelling.{SpellsDoIt, SpellsMethod}
 use Rattle.image_model.specs.Image.{ClassOf, EntryOf, DoItOf, ImageOf}
 use Rattle.image_model.specs.Chain.{class_named}
 use Rattle.image_model.specs.Words.{text_words}
-use Rattle.image_model.specs.Valid.{HasNoRepeat, class_names, signature, GivesNames, HasClass, IsUserMethod, IsUserDoIt, IsValid, IsFileable}
+use Rattle.image_model.specs.Valid.{HasNoRepeat, class_names, signature, HasClass, IsUserMethod, IsUserDoIt, IsValid, IsFileable}
 use Rattle.image_model.proofs.Ends.{contains-place}
 use Rattle.image_model.proofs.Lists.{all-both}
 use Rattle.file_model.specs.Hierarchy.{has_class}
-use Rattle.file_model.specs.Filing.{Text, Filing}
+use Rattle.file_model.specs.Filing.{Text}
 use Rattle.file_model.specs.Written.{doit_text, class_text, methods_text, user_classes, user_methods, file_of}
 use Rattle.file_model.specs.Fileable.{MayStand, IsDoItChunk, reading_of}
 use Rattle.file_model.specs.Reading.{IsKernelOf, IsImageOf}
@@ -24,7 +22,7 @@ use Rattle.file_laws.proofs.Moves.{text_equal}
 use Rattle.file_laws.proofs.Redefined.{no_repeat_behind}
 use Rattle.file_rereading.specs.Rereading.{IsWithinLimits, IsBeginning, KernelFirst, is_only_doits, with_heads}
 use Rattle.file_rereading.proofs.Readings.{outside, with_doits, ReadsOn, reads_further, reads_text}
-use Rattle.file_rereading.proofs.Names.{MayName, identifier_of}
+use Rattle.file_rereading.proofs.Names.{identifier_of}
 use Rattle.file_rereading.proofs.DoIts.{IsGoodDoIt, reads_doits}
 use Rattle.file_rereading.proofs.Fresh.{all_kept, all_front, all_back}
 use Rattle.file_rereading.proofs.Methods.{with_methods, IsGoodMethod, still, reads_methods}

@@ -1,24 +1,23 @@
 -- Classes are read one after the other: each is defined, and then has its class-instance variables and its comment.
-use Rattle.std.proofs.Common.{◌≡◌, ◌≢◌, ℕ, ◌+◌, ◌<◌, ◌≤◌, Bool, true, false, not, List, [], ◌∷◌, ◌++◌, length, map, find, Option, Some, None, Result, Ok, Err, refl, ap, sym, subst, ◌∙◌, arith, append_assoc, append-nil, length-append}
+use Rattle.std.proofs.Common.{◌≡◌, ◌≢◌, ◌<◌, ◌≤◌, Bool, true, false, not, List, [], ◌∷◌, ◌++◌, length, Option, Some, None, Ok, Err, refl, ap, sym, subst, ◌∙◌, arith, append_assoc, append-nil, length-append}
 use Rattle.std.specs.Prelude.{codes, ◌==◌, ◌&&◌, ◌||◌, if◌then◌else◌, is_some, nat_le, unwrap_or, flat_map}
 use Rattle.std.specs.List.{AllByRecursion}
 use Rattle.std.specs.Option.{option_map_or}
-use Rattle.std.proofs.lemmas.Bool.{lt-leb, or_from, eqb-true, false≢true}
+use Rattle.std.proofs.lemmas.Bool.{lt-leb, or_from, eqb-true}
 use Rattle.rb_base.specs.Names.{text_eq}
 use Rattle.rb_base.proofs.NamesLemmas.{text_eq-refl}
-use Rattle.token_model.specs.declared.kind.Dialect.TheVariants.{Second}
 use Rattle.chunk_format.specs.Blank.{HasNoLeadingBlank}
 use Rattle.text_model.specs.Literals.{is_identifier, quoted_text}
 use Rattle.image_model.specs.Image.{ClassOf, ImageOf}
 use Rattle.image_model.specs.Chain.{class_named}
-use Rattle.image_model.specs.Means.{VariableKind, of_instance, of_class_side, variables}
+use Rattle.image_model.specs.Means.{VariableKind, of_instance, of_class_side}
 use Rattle.image_model.specs.Valid.{HasNoRepeat, class_names, SuperclassesStandBefore, DefinesOnceOnChain, GivesNames}
 use Rattle.image_model.specs.Grown.{variables_up}
 use Rattle.image_model.proofs.Lists.{all-implies}
 use Rattle.image_model.proofs.GrownLemmas.{DefinesOnceOnChain-end}
-use Rattle.file_model.specs.Causes.{KernelReplaced, UnknownSuperclass, Cycle, VariableTwice, TooMany, UnknownClass, when, first_cause, unless}
+use Rattle.file_model.specs.Causes.{first_cause}
 use Rattle.file_model.specs.Changes.{Define, Comment, SetClassSide}
-use Rattle.file_model.specs.Hierarchy.{has_class, is_kernel_class, stands_in, has_repeat, stands_twice, settled}
+use Rattle.file_model.specs.Hierarchy.{has_class, is_kernel_class, has_repeat, stands_twice, settled}
 use Rattle.file_model.specs.Refusals.{class_limit, lacks_superclass, makes_cycle, is_one_class_too_many, definition_refusals, comment_refusals, class_side_refusals}
 use Rattle.file_model.specs.Applied.{new_class, class_again, changed_class, with_definition, defined, with_class_side, with_comment, changed}
 use Rattle.file_model.specs.Filing.{Text, Filing}

@@ -1,8 +1,8 @@
 -- The definition of a class is read as what it is.
-use Rattle.std.proofs.Common.{◌≡◌, ℕ, ◌+◌, ◌≤◌, Bool, true, false, List, [], ◌∷◌, ◌++◌, None, refl, ap, sym, subst, ◌∙◌, arith, append-nil, append_assoc}
+use Rattle.std.proofs.Common.{◌≡◌, ◌≤◌, Bool, true, [], ◌∷◌, ◌++◌, refl, ap, sym, subst, ◌∙◌, arith, append-nil, append_assoc}
 use Rattle.std.specs.Prelude.{codes, unwrap_or, ◌||◌, if◌then◌else◌}
 use Rattle.token_model.specs.declared.kind.Dialect.TheVariants.{Second}
-use Rattle.tree_model.specs.Tree.{Notes, LiteralOf, str, symbol, TreeOf, var, literal, send, TreesOf, no_trees, more_trees, SequenceOf, no_statements, more_statements}
+use Rattle.tree_model.specs.Tree.{Notes, LiteralOf, str, symbol, TreeOf, var, literal, send, TreesOf, no_trees, more_trees, no_statements, more_statements}
 use Rattle.tree_model.specs.Measure.{literal_height}
 use Rattle.text_model.specs.Pieces.{pieces_joined}
 use Rattle.text_model.specs.Literals.{is_keyword_row, is_operator, quoted_text, literal_text}
@@ -19,7 +19,7 @@ use Rattle.reread_law.specs.WellFormed.{IsWord, IsKeywordText, AreParts, LastOne
 use Rattle.reread_law.specs.WholeTrees.{WellFormedDoIt}
 use Rattle.reread_law.proofs.Bytes.{ends}
 use Rattle.reread_law.proofs.PlainFaults.{no_fault_DoIt}
-use Rattle.reread_law.proofs.Steps.{World, Here, Fresh, blank_step, held_as, text_as, finish, fresh_clear}
+use Rattle.reread_law.proofs.Steps.{World, Here, Fresh, blank_step, held_as, finish, fresh_clear}
 use Rattle.reread_law.proofs.ReadsLiterals.{step_keyword}
 use Rattle.reread_law.proofs.Operands.{KeywordRead, ExpressionRead, to_binary, to_expression, as_keyword_argument, sent_plain, sent_whole}
 use Rattle.reread_law.proofs.Messages.{PartsRead}

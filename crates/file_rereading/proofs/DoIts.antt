@@ -1,10 +1,9 @@
 -- Do-its are read one after the other, and changes of classes.
-use Rattle.std.proofs.Common.{◌≡◌, ◌≢◌, ℕ, ◌+◌, Bool, true, false, List, [], ◌∷◌, ◌++◌, length, Option, Some, None, Result, Ok, Err, refl, ap, sym, subst, ◌∙◌, arith, append_assoc, append-nil}
+use Rattle.std.proofs.Common.{◌≡◌, ◌≢◌, ◌+◌, Bool, true, false, List, [], ◌∷◌, ◌++◌, length, None, Ok, refl, ap, sym, subst, ◌∙◌, arith, append_assoc, append-nil}
 use Rattle.std.specs.Prelude.{flat_map, if◌then◌else◌}
 use Rattle.std.specs.List.{AllByRecursion}
 use Rattle.std.specs.Result.{result_map_both}
 use Rattle.rb_base.specs.Names.{text_eq}
-use Rattle.rb_base.specs.Doubling.{BeginsOtherwise}
 use Rattle.token_model.specs.declared.kind.Dialect.TheVariants.{Second}
 use Rattle.tree_model.specs.Tree.{SequenceOf}
 use Rattle.chunk_format.specs.Blank.{HasNoLeadingBlank}
@@ -13,11 +12,11 @@ use Rattle.grammar_model.proofs.Texts.{one_SpellsDoIt}
 use Rattle.image_model.specs.Image.{DoItOf, ImageOf}
 use Rattle.file_model.specs.Causes.{Cause}
 use Rattle.file_model.specs.Changes.{ChangeOf}
-use Rattle.file_model.specs.Forms.{Form, Evaluates, Changes, form_of}
+use Rattle.file_model.specs.Forms.{Evaluates, Changes, form_of}
 use Rattle.file_model.specs.Applied.{changed}
-use Rattle.file_model.specs.Filing.{Text, Filing, Item, DoItChunk, goes_on, form_taken, taken}
+use Rattle.file_model.specs.Filing.{Text, Filing, DoItChunk, goes_on, form_taken}
 use Rattle.file_model.specs.Written.{chunk_text, paragraph, doit_text}
-use Rattle.file_model.specs.Reading.{IsItem, DoItRead}
+use Rattle.file_model.specs.Reading.{DoItRead}
 use Rattle.file_model.specs.Fileable.{MayStand, IsDoItChunk}
 use Rattle.file_rereading.proofs.Readings.{outside, with_doits}
 use Rattle.file_rereading.proofs.Readings.{ReadsOn, reads_further, reads_none, reads_chunk}

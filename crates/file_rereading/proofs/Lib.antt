@@ -9,3 +9,5 @@ mod Methods
 mod Prefixes
 mod Classes
 mod Again
+mod Kept
+mod Marked

@@ -1,8 +1,8 @@
 -- The chunks of an image that are one line spell their trees: they are canonical texts.
-use Rattle.std.proofs.Common.{◌≡◌, ℕ, ◌≤◌, Bool, true, false, List, [], ◌∷◌, ◌++◌, refl, ap, sym, subst, ◌∙◌, arith, append-nil, append_assoc}
+use Rattle.std.proofs.Common.{◌≡◌, Bool, true, false, [], ◌++◌, refl, ap, sym, subst, ◌∙◌, arith, append-nil, append_assoc}
 use Rattle.std.specs.Prelude.{codes, if◌then◌else◌}
 use Rattle.token_model.specs.declared.kind.Dialect.TheVariants.{Second}
-use Rattle.tree_model.specs.Tree.{str, TreeOf, var, literal, send, no_trees, SequenceOf}
+use Rattle.tree_model.specs.Tree.{TreeOf, var, send, no_trees}
 use Rattle.text_model.specs.Pieces.{pieces_joined}
 use Rattle.text_model.specs.Literals.{quoted_text}
 use Rattle.text_model.specs.Expressions.{expression_text}
@@ -14,7 +14,7 @@ use Rattle.reread_law.proofs.Starting.{doit_again}
 use Rattle.image_model.specs.Image.{ClassOf}
 use Rattle.file_model.specs.Changes.{RunOf}
 use Rattle.file_model.specs.Filing.{Text}
-use Rattle.file_model.specs.Written.{class_side_text, comment_text, side_text}
+use Rattle.file_model.specs.Written.{class_side_text, comment_text}
 use Rattle.file_rereading.specs.Trees.{statement, argument, string_tree, names_tree, class_side_tree, comment_tree, opening_tree, opening_text}
 
 -- the canonical text of one statement

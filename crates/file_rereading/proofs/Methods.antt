@@ -1,5 +1,5 @@
 -- Methods are read in runs of neighbours.
-use Rattle.std.proofs.Common.{◌≡◌, ◌≢◌, ℕ, ◌+◌, ◌<◌, ◌≤◌, Bool, true, false, not, List, [], ◌∷◌, ◌++◌, length, map, find, Option, Some, None, Result, Ok, Err, refl, ap, sym, subst, ◌∙◌, arith, append_assoc, append-nil, length-append}
+use Rattle.std.proofs.Common.{◌≡◌, ◌≢◌, ◌<◌, ◌≤◌, Bool, true, false, not, List, [], ◌∷◌, ◌++◌, length, map, Option, Some, None, Ok, Err, refl, ap, sym, subst, ◌∙◌, arith, append_assoc, append-nil, length-append}
 use Rattle.std.specs.Prelude.{codes, ◌&&◌, if◌then◌else◌, is_some, nat_le, unwrap_or}
 use Rattle.std.specs.Bool.{beq}
 use Rattle.std.specs.List.{AllByRecursion, list_all}
@@ -19,15 +19,15 @@ use Rattle.image_model.specs.Image.{EntryOf, DoItOf, ImageOf}
 use Rattle.image_model.specs.Lookup.{is_method, own_method}
 use Rattle.image_model.specs.Valid.{HasNoRepeat, signature}
 use Rattle.image_model.proofs.Lists.{all-implies}
-use Rattle.file_model.specs.Causes.{Cause, UnknownClass, KernelReplaced, TooMany, when, first_cause, unless}
+use Rattle.file_model.specs.Causes.{Cause, first_cause}
 use Rattle.file_model.specs.Changes.{RunOf}
 use Rattle.file_model.specs.Forms.{form_of}
 use Rattle.file_model.specs.Hierarchy.{has_class}
 use Rattle.file_model.specs.Refusals.{method_limit, has_method, is_kernel_method, is_one_method_too_many, method_refusals, run_refusals}
 use Rattle.file_model.specs.Applied.{entry_in, with_method, method_added}
-use Rattle.file_model.specs.Filing.{Text, Filing, Item, Blank, DoItChunk, MethodChunk, goes_on, form_taken, taken}
+use Rattle.file_model.specs.Filing.{Text, Filing, Blank, DoItChunk, MethodChunk, goes_on, form_taken}
 use Rattle.file_model.specs.Written.{chunk_text, run_of, is_one_run, side_text, run_start, run_end, method_opening, methods_text}
-use Rattle.file_model.specs.Reading.{IsItem, Empty, DoItRead, MethodRead}
+use Rattle.file_model.specs.Reading.{Empty, DoItRead, MethodRead}
 use Rattle.file_model.specs.Fileable.{MayStand}
 use Rattle.file_laws.proofs.Moves.{text_equal}
 use Rattle.file_laws.proofs.Methods.{its_signature, beq_equal}

@@ -1,6 +1,6 @@
 -- The names in a string, with one blank between them, are its words.
-use Rattle.std.proofs.Common.{◌≡◌, ◌≢◌, ℕ, suc, ◌+◌, ◌||◌, Bool, true, false, not, cond, List, [], ◌∷◌, ◌++◌, length, filter, refl, ap, sym, ◌∙◌, arith, append-nil}
-use Rattle.std.specs.Prelude.{codes, ◌==◌, ◌&&◌, flat_map, IsTrue}
+use Rattle.std.proofs.Common.{◌≡◌, ◌≢◌, ℕ, ◌+◌, ◌||◌, Bool, true, false, not, cond, List, [], ◌∷◌, ◌++◌, length, filter, refl, ap, ◌∙◌, arith, append-nil}
+use Rattle.std.specs.Prelude.{codes, ◌==◌, flat_map, IsTrue}
 use Rattle.std.specs.List.{slice_split, list_all, onto_first, AllByRecursion}
 use Rattle.std.proofs.lemmas.Bool.{and_parts, and_from, ne_eqb}
 use Rattle.std.proofs.lemmas.Bool.{false≢true}

@@ -1,6 +1,6 @@
 -- Classes that stand in front of others: their order, their chains and their variables.
-use Rattle.std.proofs.Common.{◌≡◌, ℕ, zero, suc, ◌+◌, ◌<◌, Bool, true, false, not, cond, List, [], ◌∷◌, ◌++◌, length, map, find, filter, Option, Some, None, slice_get, Contains, refl, ap, sym, subst, ◌∙◌, arith, append_assoc, append-nil, true≢false}
-use Rattle.std.specs.Prelude.{◌||◌, is_some}
+use Rattle.std.proofs.Common.{◌≡◌, ℕ, zero, suc, ◌<◌, Bool, true, false, cond, List, [], ◌∷◌, ◌++◌, length, filter, Option, Some, None, slice_get, Contains, refl, ap, sym, subst, ◌∙◌, arith, append_assoc, append-nil}
+use Rattle.std.specs.Prelude.{is_some}
 use Rattle.std.specs.List.{list_any, flat_map, AllByRecursion}
 use Rattle.std.proofs.lemmas.Bool.{or_from}
 use Rattle.std.proofs.lemmas.Option.{slice_get_within}
@@ -8,7 +8,6 @@ use Rattle.rb_base.specs.Names.{text_eq}
 use Rattle.rb_base.proofs.NamesLemmas.{text_eq-refl}
 use Rattle.image_model.specs.Image.{ClassOf}
 use Rattle.image_model.specs.ImageNames.{OptionNames}
-use Rattle.image_model.specs.Upwards.{upwards}
 use Rattle.image_model.specs.Chain.{class_named, class_of_name, superclass_of, chain_from, chain}
 use Rattle.image_model.specs.Means.{VariableKind, variables}
 use Rattle.image_model.specs.Valid.{HasNoRepeat, class_names, SuperclassesStandBefore, DefinesOnceOnChain, GivesNames}

@@ -1,6 +1,6 @@
 -- Texts that are read chunk by chunk, with any blanks before each chunk.
-use Rattle.std.proofs.Common.{◌≡◌, ◌≢◌, ℕ, suc, ◌+◌, Bool, true, false, cond, List, [], ◌∷◌, ◌++◌, length, Option, Some, None, Result, Ok, refl, sym, ap, subst, ◌∙◌, arith, append_assoc, append-nil}
-use Rattle.rb_base.specs.Doubling.{IsPaired, BeginsOtherwise, doubled}
+use Rattle.std.proofs.Common.{◌≡◌, ℕ, ◌+◌, Bool, true, false, cond, List, [], ◌∷◌, ◌++◌, length, None, Ok, refl, sym, ap, subst, ◌∙◌, arith, append_assoc, append-nil}
+use Rattle.rb_base.specs.Doubling.{BeginsOtherwise, doubled}
 use Rattle.token_model.specs.declared.kind.Dialect.TheVariants.{Second}
 use Rattle.chunk_format.specs.Blank.{is_blank, blank_len, IsBlank, HasNoLeadingBlank}
 use Rattle.chunk_format.specs.Left.{Left}
@@ -10,9 +10,9 @@ use Rattle.chunk_format.proofs.Unique.{Takes-written}
 use Rattle.chunk_format.proofs.Blanks.{IsBlank-cons, IsPaired-IsBlank, drop_blanks-append, drop_blanks-doubled}
 use Rattle.std.specs.Prelude.{if◌then◌else◌}
 use Rattle.image_model.specs.Image.{DoItOf, ImageOf}
-use Rattle.file_model.specs.Filing.{Text, Filing, Item, Blank, taken}
+use Rattle.file_model.specs.Filing.{Text, Filing, Item, taken}
 use Rattle.file_model.specs.Written.{chunk_text}
-use Rattle.file_model.specs.Reading.{IsItem, Empty, Takes, TakesAll, Over, Taken, ReadsText}
+use Rattle.file_model.specs.Reading.{IsItem, TakesAll, Over, Taken}
 
 -- outside a run of methods, with all chunks so far do-its or not
 abbrev pub outside : ImageOf Text → Bool → Filing

@@ -9,8 +9,8 @@ use Rattle.text_model.specs.Pieces.{pieces_joined}
 use Rattle.image_model.specs.Image.{ClassOf}
 use Rattle.image_model.specs.Valid.{GivesNames}
 use Rattle.file_model.specs.Words.{words_of, may_name, may_name_all, is_blank_string}
-use Rattle.file_model.specs.Causes.{Cause, PoolsNotEmpty, UnknownDefinition, Condition, when, first_cause}
-use Rattle.file_model.specs.Changes.{DefinitionOf, Define, Comment, SetClassSide, RunOf}
+use Rattle.file_model.specs.Causes.{PoolsNotEmpty, UnknownDefinition, Condition, when, first_cause}
+use Rattle.file_model.specs.Changes.{Define, Comment, SetClassSide, RunOf}
 use Rattle.file_model.specs.Forms.{Form, Changes, Opens, Refuses, no_form, form_of}
 use Rattle.file_model.specs.Filing.{Text}
 use Rattle.file_rereading.specs.Trees.{definition_tree, definition_of, class_side_tree, comment_tree, opening_tree}

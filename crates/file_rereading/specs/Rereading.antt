@@ -1,5 +1,5 @@
 -- Which images are read again from their texts, and as what.
-use Rattle.std.specs.Prelude.{◌≡◌, ℕ, ◌≤◌, List, [], ◌++◌, length, Bool, true, ◌&&◌, ◌==◌, if◌then◌else◌, codes}
+use Rattle.std.specs.Prelude.{◌≡◌, ◌≤◌, [], ◌++◌, length, Bool, true, ◌&&◌, ◌==◌, if◌then◌else◌, codes}
 use Rattle.rb_base.specs.Names.{text_eq}
 use Rattle.image_model.specs.Image.{ImageOf}
 use Rattle.file_model.specs.Hierarchy.{has_class}

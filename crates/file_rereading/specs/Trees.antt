@@ -1,5 +1,5 @@
 -- The trees that the chunks of an image spell which define its classes and open its runs of methods, and what these chunks say.
-use Rattle.std.specs.Prelude.{ℕ, List, [], ◌∷◌, ◌++◌, Bool, if◌then◌else◌, codes, unwrap_or}
+use Rattle.std.specs.Prelude.{List, [], ◌++◌, if◌then◌else◌, codes, unwrap_or}
 use Rattle.tree_model.specs.Tree.{str, symbol, TreeOf, var, literal, send, TreesOf, no_trees, more_trees, no_statements, more_statements, SequenceOf}
 use Rattle.text_model.specs.Pieces.{pieces_joined}
 use Rattle.text_model.specs.Literals.{quoted_text}
