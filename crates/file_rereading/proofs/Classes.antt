@@ -31,7 +31,7 @@ use Rattle.file_rereading.proofs.Definitions.{right, spells_definition}
 use Rattle.file_rereading.proofs.Names.{MayName, identifier_of, begins_no_blank, is_not_empty}
 use Rattle.file_rereading.proofs.Says.{none_holds, says_definition, says_class_side, says_comment}
 use Rattle.file_rereading.proofs.DoIts.{reads_change}
-use Rattle.file_rereading.proofs.Fresh.{fresh, find_none, find_behind, all_front, all_back, no_repeat_end}
+use Rattle.file_rereading.proofs.Fresh.{none_in, fresh, find_none, find_behind, all_front, all_back, no_repeat_end}
 use Rattle.file_rereading.proofs.Methods.{still, not_still, and_fails}
 use Rattle.file_rereading.proofs.Prefixes.{before_front, once_front, above_before, above_there, once_up, named_there, named_given, not_above, has_repeat_none, stands_once}
 
@@ -69,11 +69,6 @@ with_text c text = record (with_side c c.class_side) { comment = text }
 changed_last : (n : Text) (f : ClassOf Text → ClassOf Text) (front : List (ClassOf Text)) (x : ClassOf Text) → AllByRecursion (λ d. text_eq n d.name ≡ false) front → text_eq n x.name ≡ true → changed_class text_eq n f (front ++ x ∷ []) ≡ front ++ f x ∷ []
 changed_last n f [] x all same = ap (λ (b : Bool). (if b then f x else x) ∷ []) same
 changed_last n f (d ∷ ds) x all same = λ j. (if all.0 j then f d else d) ∷ changed_last n f ds x all.1 same j
-
--- an empty list
-none_in : {X : Type 0} (xs : List X) → (length xs == 0) ≡ true → xs ≡ []
-none_in [] h = refl
-none_in (x ∷ xs) h = let none : length (x ∷ xs) ≡ 0 = eqb-true (length (x ∷ xs)) 0 h in absurd (omega (arith, none))
 
 module _ (i : ImageOf Text) (front : List (ClassOf Text)) (c : ClassOf Text) (back : List (ClassOf Text)) (s : AreSound (front ++ c ∷ back)) (u : IsUserClass c) where
   -- no class before it has its name

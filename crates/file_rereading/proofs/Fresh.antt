@@ -1,7 +1,9 @@
 -- What stands in front of one item of a list in which nothing stands twice, and limits.
-use Rattle.std.proofs.Common.{◌≡◌, suc, Bool, true, false, cond, List, [], ◌∷◌, ◌++◌, length, map, find, filter, Some, None, slice_get, refl, ap, ◌∙◌, arith}
-use Rattle.std.specs.Prelude.{◌||◌}
+use Rattle.std.proofs.Common.{◌≡◌, suc, Bool, true, false, cond, List, [], ◌∷◌, ◌++◌, length, map, find, filter, Some, None, slice_get, refl, ap, sym, ◌∙◌, arith, true≢false}
 use Rattle.std.specs.List.{list_any, AllByRecursion}
+use Rattle.std.specs.Prelude.{◌==◌, ◌||◌, if◌then◌else◌}
+use Rattle.std.specs.Option.{option_map_or}
+use Rattle.std.proofs.lemmas.Bool.{eqb-true}
 use Rattle.image_model.specs.Valid.{HasNoRepeat}
 use Rattle.file_laws.proofs.Redefined.{no_repeat_behind}
 
@@ -55,3 +57,40 @@ all_front P (x ∷ xs) ys all = (all.0, all_front P xs ys all.1)
 pub all_back : {X : Type 0} (P : X → Type 0) (xs ys : List X) → AllByRecursion P (xs ++ ys) → AllByRecursion P ys
 all_back P [] ys all = all
 all_back P (x ∷ xs) ys all = all_back P xs ys all.1
+
+-- an empty list
+pub none_in : {X : Type 0} (xs : List X) → (length xs == 0) ≡ true → xs ≡ []
+none_in [] h = refl
+none_in (x ∷ xs) h = let none : length (x ∷ xs) ≡ 0 = eqb-true (length (x ∷ xs)) 0 h in absurd (omega (arith, none))
+
+-- a function that changes none of the items
+pub unchanged : {X : Type 0} (f : X → X) (xs : List X) → AllByRecursion (λ x. f x ≡ x) xs → map f xs ≡ xs
+unchanged f [] all = refl
+unchanged f (x ∷ xs) all = λ j. all.0 j ∷ unchanged f xs all.1 j
+
+-- a test that all items pass, and one that none passes
+pub filter_all : {X : Type 0} (p : X → Bool) (xs : List X) → AllByRecursion (λ x. p x ≡ true) xs → filter p xs ≡ xs
+filter_all p [] all = refl
+filter_all p (x ∷ xs) all = ap (λ (b : Bool). cond b (x ∷ filter p xs) (filter p xs)) all.0 ∙ ap (λ (ys : List _). x ∷ ys) (filter_all p xs all.1)
+
+pub filter_none : {X : Type 0} (p : X → Bool) (xs : List X) → AllByRecursion (λ x. p x ≡ false) xs → filter p xs ≡ []
+filter_none p [] all = refl
+filter_none p (x ∷ xs) all = ap (λ (b : Bool). cond b (x ∷ filter p xs) (filter p xs)) all.0 ∙ filter_none p xs all.1
+
+-- where items that all are marked stand first, and what is found is not marked, none of them passes
+pub none_marked : {X : Type 0} (mark p : X → Bool) (xs ys : List X) → AllByRecursion (λ x. mark x ≡ true) xs → option_map_or mark (find p (xs ++ ys)) false ≡ false → AllByRecursion (λ x. p x ≡ false) xs
+none_marked mark p [] ys all h = tt
+none_marked mark p (x ∷ xs) ys all h = by (p x) refl h (none_marked mark p xs ys all.1)
+  where
+    by : (b : Bool) → p x ≡ b → option_map_or mark (cond b (Some x) (find p (xs ++ ys))) false ≡ false → (option_map_or mark (find p (xs ++ ys)) false ≡ false → AllByRecursion (λ y. p y ≡ false) xs) → AllByRecursion (λ y. p y ≡ false) (x ∷ xs)
+    by true e k rest = absurd (true≢false (sym all.0 ∙ k))
+    by false e k rest = (e, rest k)
+
+-- a fact of items some of which are replaced by one
+pub all_replaced : {X : Type 0} (P : X → Type 0) (p : X → Bool) (new : X) (xs : List X) → AllByRecursion P xs → P new → AllByRecursion P (map (λ x. if p x then new else x) xs)
+all_replaced P p new [] all h = tt
+all_replaced P p new (x ∷ xs) all h = (by (p x), all_replaced P p new xs all.1 h)
+  where
+    by : (b : Bool) → P (if b then new else x)
+    by true = h
+    by false = all.0

@@ -11,3 +11,4 @@ mod Classes
 mod Again
 mod Kept
 mod Marked
+mod Stays

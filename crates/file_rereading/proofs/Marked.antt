@@ -19,7 +19,7 @@ use Rattle.file_model.specs.Refusals.{has_method, definition_refusals, comment_r
 use Rattle.file_model.specs.Applied.{new_class, class_again, changed_class, with_definition, defined, with_class_side, with_comment, is_of_class, without_class, without_method, changed, entry_in, with_method, method_added}
 use Rattle.file_model.specs.Filing.{Text, Filing}
 use Rattle.file_model.specs.Reading.{no_image, IsKernelOf}
-use Rattle.file_rereading.proofs.Fresh.{all_kept}
+use Rattle.file_rereading.proofs.Fresh.{all_kept, none_in, all_replaced}
 use Rattle.file_rereading.proofs.Kept.{allowed, kept_takes}
 
 -- a fact of what is left where the first item that passes is taken out
@@ -71,16 +71,8 @@ all_defined P kernel d cs again new all = by (has_class text_eq cs d.name)
 pub all_with_method : (P : EntryOf Text → Type 0) (kernel : Bool) (r : RunOf Text) (source : Text) (m : MethodOf Text) (ms : List (EntryOf Text)) → P (entry_in kernel r source m) → AllByRecursion P ms → AllByRecursion P (with_method text_eq kernel r source m ms)
 all_with_method P kernel r source m ms new all = by (has_method text_eq ms r.class r.meta m.selector)
   where
-    replaced : (es : List (EntryOf Text)) → AllByRecursion P es → AllByRecursion P (map (λ e. if is_method text_eq r.class r.meta m.selector e then entry_in kernel r source m else e) es)
-    replaced [] h = tt
-    replaced (e ∷ es) h = (at (is_method text_eq r.class r.meta m.selector e), replaced es h.1)
-      where
-        at : (b : Bool) → P (if b then entry_in kernel r source m else e)
-        at true = new
-        at false = h.0
-
     by : (b : Bool) → AllByRecursion P (if b then map (λ e. if is_method text_eq r.class r.meta m.selector e then entry_in kernel r source m else e) ms else ms ++ entry_in kernel r source m ∷ [])
-    by true = replaced ms all
+    by true = all_replaced P (is_method text_eq r.class r.meta m.selector) (entry_in kernel r source m) ms all new
     by false = all-end P ms (entry_in kernel r source m) all new
 
 -- an image of the kernel alone
@@ -100,11 +92,6 @@ is_of_kernel cs n all there = by (class_named text_eq cs n) (find-all (λ c. c.k
 not_false : (b : Bool) → not b ≡ false → b ≡ true
 not_false true h = refl
 not_false false h = absurd (true≢false h)
-
--- an empty list
-pub none_in : {X : Type 0} (xs : List X) → (length xs == 0) ≡ true → xs ≡ []
-none_in [] h = refl
-none_in (x ∷ xs) h = let none : length (x ∷ xs) ≡ 0 = eqb-true (length (x ∷ xs)) 0 h in absurd (omega (arith, none))
 
 -- the names are none where they would be those of a class of the kernel
 pub no_names : (is : Bool) (names : List Text) → is ≡ true → (is && not (length names == 0)) ≡ false → names ≡ []
