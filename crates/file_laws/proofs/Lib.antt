@@ -1,6 +1,6 @@
 mod Braces
 mod Sources
-mod Sound
+pub mod Sound
 pub mod Settled
 pub mod Moves
 pub mod Redefined

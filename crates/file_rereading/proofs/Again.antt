@@ -19,11 +19,14 @@ use Rattle.file_model.specs.Written.{doit_text, class_text, methods_text, user_c
 use Rattle.file_model.specs.Fileable.{MayStand, IsDoItChunk, reading_of}
 use Rattle.file_model.specs.Reading.{IsKernelOf, IsImageOf}
 use Rattle.file_laws.proofs.Moves.{text_equal}
+use Rattle.file_laws.proofs.Sound.{fileable}
 use Rattle.file_laws.proofs.Redefined.{no_repeat_behind}
 use Rattle.file_rereading.specs.Rereading.{IsWithinLimits, IsBeginning, KernelFirst, is_only_doits, with_heads}
 use Rattle.file_rereading.proofs.Readings.{outside, with_doits, ReadsOn, reads_further, reads_text}
 use Rattle.file_rereading.proofs.Names.{identifier_of}
 use Rattle.file_rereading.proofs.DoIts.{IsGoodDoIt, reads_doits}
+use Rattle.file_rereading.proofs.Limits.{kernel_counted, limits_image}
+use Rattle.file_rereading.proofs.Stays.{first_in_image}
 use Rattle.file_rereading.proofs.Fresh.{all_kept, all_front, all_back}
 use Rattle.file_rereading.proofs.Methods.{with_methods, IsGoodMethod, still, reads_methods}
 use Rattle.file_rereading.proofs.Prefixes.{named_there, named_given}
@@ -88,6 +91,7 @@ record IsWritten (kernel i : ImageOf Text) : Type 0 where
   fileable : IsFileable (reading_of Second kernel) i
   limits : IsWithinLimits i
   beginning : IsBeginning kernel
+  uncounted : kernel.heads ≡ 0
   first : KernelFirst kernel i
 
 module _ (kernel i : ImageOf Text) (w : IsWritten kernel i) where
@@ -198,7 +202,7 @@ module _ (kernel i : ImageOf Text) (w : IsWritten kernel i) where
       total = sym (length-append heads others) ∙ ap (λ (ds : List (DoItOf Text)). length ds) parts
 
       none : kernel.heads ≡ 0
-      none = w.beginning.no_heads
+      none = w.uncounted
 
       by : (b : Bool) → (if b then length i.doits else i.heads) ≡ (if b then kernel.heads + length heads + length others else kernel.heads + length heads)
       by true = omega (arith, total, none)
@@ -214,7 +218,7 @@ module _ (kernel i : ImageOf Text) (w : IsWritten kernel i) where
 -- the image of the text of an image
 pub reads_again : (prelude : Text) (kernel i : ImageOf Text) → IsKernelOf Second prelude kernel → IsBeginning kernel → KernelFirst kernel i → IsValid text_words (reading_of Second kernel) i → IsFileable (reading_of Second kernel) i → IsWithinLimits i → IsImageOf Second prelude (file_of i) (with_heads i)
 reads_again prelude kernel i is beginning first valid fileable limits =
-    let w : IsWritten kernel i = record { valid = valid; fileable = fileable; limits = limits; beginning = beginning; first = first } in
+    let w : IsWritten kernel i = record { valid = valid; fileable = fileable; limits = limits; beginning = beginning; uncounted = kernel_counted Second prelude kernel is beginning.no_doits; first = first } in
     let c = reads_text (reads_file kernel i w) (start_of (file_of i)) refl in
     record {
       kernel = kernel;
@@ -223,3 +227,8 @@ reads_again prelude kernel i is beginning first valid fileable limits =
       reads = record { pieces = c.pieces; end = None; chunks = c.chunks; takes = c.takes };
       image = is_image kernel i w;
     }
+
+-- the image of the text of the image of a file-out
+pub reads_image_again : (prelude text : Text) (kernel i : ImageOf Text) → IsKernelOf Second prelude kernel → IsBeginning kernel → IsValid text_words (reading_of Second kernel) kernel → IsImageOf Second prelude text i → IsValid text_words (reading_of Second kernel) i → IsImageOf Second prelude (file_of i) (with_heads i)
+reads_image_again prelude text kernel i is beginning whole read valid =
+    reads_again prelude kernel i is beginning (first_in_image Second prelude text kernel i is whole.superclasses_before whole.method_classes_there read) valid (fileable Second prelude text kernel i read) (limits_image Second prelude text i read)

@@ -46,10 +46,10 @@ allowed {X} cs x y e = by (first_cause cs) refl e
 module _ (kernel : Bool) (P : ImageOf Text → Type 0)
   (changes : (c : ChangeOf Text) (i j : ImageOf Text) → changed text_eq kernel c i ≡ Ok j → P i → P j)
   (adds : (r : RunOf Text) (source : Text) (m : MethodOf Text) (i j : ImageOf Text) → method_added text_eq kernel r source m i ≡ Ok j → P i → P j)
-  (counts : (i : ImageOf Text) (x : DoItOf Text) (heads : ℕ) → P i → P (record (plus i x) { heads = heads })) where
+  (counts : (i : ImageOf Text) (x : DoItOf Text) (at_head : Bool) → P i → P (record (plus i x) { heads = if at_head then i.heads + 1 else i.heads })) where
   -- what a form makes
   kept_form : (f g : Filing) (x : DoItOf Text) (form : Form) → Ok g ≡ form_taken kernel f x form → P f.image → P g.image
-  kept_form f g x Evaluates e h = subst (λ (k : Filing). P k.image) (same e) (counts f.image x (if f.at_head then f.image.heads + 1 else f.image.heads) h)
+  kept_form f g x Evaluates e h = subst (λ (k : Filing). P k.image) (same e) (counts f.image x f.at_head h)
     where
       same : ◌≡◌ {A = Result Filing Cause} (Ok g) (Ok (with_doit f x)) → with_doit f x ≡ g
       same k = cc

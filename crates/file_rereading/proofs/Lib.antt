@@ -12,3 +12,4 @@ mod Again
 mod Kept
 mod Marked
 mod Stays
+mod Limits

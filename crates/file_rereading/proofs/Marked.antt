@@ -146,4 +146,4 @@ pub kernel_marked : (d : Dialect) (prelude : Text) (kernel : ImageOf Text) → I
 kernel_marked d prelude kernel k =
     let nothing : IsMarked no_image = record { classes = tt; sides = tt; methods = tt } in
     subst IsMarked (sym k.image)
-    (kept_takes true IsMarked marked_changed marked_added (λ i x heads h. record { classes = h.classes; sides = h.sides; methods = h.methods }) d (record { image = no_image; run = None; at_head = true }) k.end k.reads.pieces k.reads.end k.reads.takes nothing)
+    (kept_takes true IsMarked marked_changed marked_added (λ i x at_head h. record { classes = h.classes; sides = h.sides; methods = h.methods }) d (record { image = no_image; run = None; at_head = true }) k.end k.reads.pieces k.reads.end k.reads.takes nothing)

@@ -237,5 +237,5 @@ first_in_image d prelude text kernel i is before there r =
     let same : kernel ≡ r.kernel = one_kernel d prelude kernel r.kernel is r.is_kernel in
     let start : Stays kernel k kernel = record { classes = record { users = []; split = sym (append-nil kernel.classes); user = tt }; methods = record { users = []; split = sym (append-nil kernel.methods); user = tt } } in
     let end : Stays kernel k r.end.image =
-    kept_takes false (Stays kernel k) (stays_changed kernel k) (stays_added kernel k) (λ j x heads h. record { classes = h.classes; methods = h.methods }) d (record { image = r.kernel; run = None; at_head = true }) r.end r.reads.pieces r.reads.end r.reads.takes (subst (Stays kernel k) same start) in
+    kept_takes false (Stays kernel k) (stays_changed kernel k) (stays_added kernel k) (λ j x at_head h. record { classes = h.classes; methods = h.methods }) d (record { image = r.kernel; run = None; at_head = true }) r.end r.reads.pieces r.reads.end r.reads.takes (subst (Stays kernel k) same start) in
     kernel_first kernel k i (subst (Stays kernel k) (sym r.image) end)

@@ -16,7 +16,6 @@ pub record IsWithinLimits (i : ImageOf Text) : Type 0 where
 pub record IsBeginning (kernel : ImageOf Text) : Type 0 where
   pub root : has_class text_eq kernel.classes (codes "Object") ≡ true
   pub no_doits : kernel.doits ≡ []
-  pub no_heads : kernel.heads ≡ 0
 
 -- the classes and the methods of the kernel stand before those of the user
 pub record KernelFirst (kernel i : ImageOf Text) : Type 0 where

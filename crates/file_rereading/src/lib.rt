@@ -4,4 +4,7 @@
 
 mod laws;
 
-pub use laws::{reads_what_was_written, spells_definitions};
+pub use laws::{
+    keeps_the_kernel_first, reads_each_image_again, reads_what_was_written, says_what_was_written,
+    spells_definitions,
+};
