@@ -3,7 +3,7 @@ use Rattle.std.proofs.Common.{◌≡◌, ◌≢◌, ◌<◌, ◌≤◌, Bool, tr
 use Rattle.std.specs.Prelude.{codes, ◌==◌, ◌&&◌, ◌||◌, if◌then◌else◌, is_some, nat_le, unwrap_or, flat_map}
 use Rattle.std.specs.List.{AllByRecursion}
 use Rattle.std.specs.Option.{option_map_or}
-use Rattle.std.proofs.lemmas.Bool.{lt-leb, or_from, eqb-true}
+use Rattle.std.proofs.lemmas.Bool.{lt-leb, or_from}
 use Rattle.rb_base.specs.Names.{text_eq}
 use Rattle.rb_base.proofs.NamesLemmas.{text_eq-refl}
 use Rattle.chunk_format.specs.Blank.{HasNoLeadingBlank}

@@ -1,5 +1,5 @@
 -- What each change of an image keeps holds of what is read.
-use Rattle.std.proofs.Common.{◌≡◌, ℕ, ◌+◌, Bool, true, false, List, [], ◌∷◌, Option, Some, None, Result, Ok, Err, refl, ap, sym, subst, ◌∙◌}
+use Rattle.std.proofs.Common.{◌≡◌, ◌+◌, Bool, true, false, List, [], ◌∷◌, Option, Some, None, Result, Ok, Err, refl, sym, subst}
 use Rattle.std.specs.Prelude.{if◌then◌else◌}
 use Rattle.std.specs.List.{AllByRecursion}
 use Rattle.std.specs.Option.{option_map_or}
@@ -44,9 +44,9 @@ allowed {X} cs x y e = by (first_cause cs) refl e
         differ l = cc
 
 module _ (kernel : Bool) (P : ImageOf Text → Type 0)
-  (changes : (c : ChangeOf Text) (i j : ImageOf Text) → changed text_eq kernel c i ≡ Ok j → P i → P j)
-  (adds : (r : RunOf Text) (source : Text) (m : MethodOf Text) (i j : ImageOf Text) → method_added text_eq kernel r source m i ≡ Ok j → P i → P j)
-  (counts : (i : ImageOf Text) (x : DoItOf Text) (at_head : Bool) → P i → P (record (plus i x) { heads = if at_head then i.heads + 1 else i.heads })) where
+    (changes : (c : ChangeOf Text) (i j : ImageOf Text) → changed text_eq kernel c i ≡ Ok j → P i → P j)
+    (adds : (r : RunOf Text) (source : Text) (m : MethodOf Text) (i j : ImageOf Text) → method_added text_eq kernel r source m i ≡ Ok j → P i → P j)
+    (counts : (i : ImageOf Text) (x : DoItOf Text) (at_head : Bool) → P i → P (record (plus i x) { heads = if at_head then i.heads + 1 else i.heads })) where
   -- what a form makes
   kept_form : (f g : Filing) (x : DoItOf Text) (form : Form) → Ok g ≡ form_taken kernel f x form → P f.image → P g.image
   kept_form f g x Evaluates e h = subst (λ (k : Filing). P k.image) (same e) (counts f.image x f.at_head h)

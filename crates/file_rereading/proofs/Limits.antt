@@ -1,5 +1,5 @@
 -- No file-out makes more classes and methods than there may be, nor counts more do-its than there are.
-use Rattle.std.proofs.Common.{◌≡◌, ◌⊎◌, inl, inr, ℕ, zero, suc, ◌+◌, ◌<◌, ◌≤◌, Bool, true, false, not, cond, List, [], ◌∷◌, ◌++◌, length, map, find, filter, Option, Some, None, Result, Ok, refl, ap, sym, subst, ◌∙◌, arith, length-append, true≢false}
+use Rattle.std.proofs.Common.{◌≡◌, ◌⊎◌, inl, inr, ℕ, zero, suc, ◌+◌, ◌<◌, ◌≤◌, Bool, true, false, not, cond, List, [], ◌∷◌, ◌++◌, length, map, find, filter, Option, Some, None, Ok, refl, ap, sym, subst, ◌∙◌, arith, true≢false}
 use Rattle.std.specs.Prelude.{◌&&◌, if◌then◌else◌, nat_le}
 use Rattle.std.specs.Option.{option_map_or}
 use Rattle.std.proofs.lemmas.Bool.Decides.{leb_tells}
@@ -13,9 +13,9 @@ use Rattle.image_model.proofs.Ends.{length-end}
 use Rattle.image_model.proofs.Lists.{length-map}
 use Rattle.file_model.specs.Changes.{DefinitionOf, ChangeOf, Define, Comment, SetClassSide, RemoveMethod, RemoveClass, RunOf}
 use Rattle.file_model.specs.Hierarchy.{has_class, can_follow, without_first, settle_behind, settled}
-use Rattle.file_model.specs.Refusals.{class_limit, method_limit, has_method, is_one_class_too_many, is_one_method_too_many, definition_refusals, comment_refusals, class_side_refusals, removal_refusals, class_removal_refusals, method_refusals}
+use Rattle.file_model.specs.Refusals.{has_method, is_one_class_too_many, is_one_method_too_many, definition_refusals, comment_refusals, class_side_refusals, removal_refusals, class_removal_refusals, method_refusals}
 use Rattle.file_model.specs.Applied.{new_class, class_again, changed_class, with_definition, defined, with_class_side, with_comment, is_of_class, without_class, without_method, changed, entry_in, with_method, method_added}
-use Rattle.file_model.specs.Filing.{Text, Filing}
+use Rattle.file_model.specs.Filing.{Text}
 use Rattle.file_model.specs.Reading.{no_image, IsKernelOf, IsImageOf}
 use Rattle.file_rereading.specs.Rereading.{IsWithinLimits}
 use Rattle.file_rereading.proofs.Kept.{allowed, kept_takes}

@@ -1,9 +1,8 @@
 -- The classes and the methods of the kernel are marked as such, and no class of the kernel has class-instance variables.
-use Rattle.std.proofs.Common.{◌≡◌, ℕ, zero, suc, ◌+◌, Bool, true, false, not, cond, List, [], ◌∷◌, ◌++◌, length, map, find, filter, Option, Some, None, Result, Ok, refl, ap, sym, subst, ◌∙◌, arith, append_assoc, append-nil, true≢false}
+use Rattle.std.proofs.Common.{◌≡◌, ℕ, zero, suc, Bool, true, false, not, List, [], ◌∷◌, ◌++◌, length, map, find, Option, Some, None, Ok, refl, sym, subst, ◌∙◌, append_assoc, append-nil, true≢false}
 use Rattle.std.specs.Prelude.{◌==◌, ◌&&◌, if◌then◌else◌, is_some}
 use Rattle.std.specs.List.{AllByRecursion}
 use Rattle.std.specs.Option.{option_map_or}
-use Rattle.std.proofs.lemmas.Bool.{eqb-true}
 use Rattle.rb_base.specs.Names.{text_eq}
 use Rattle.token_model.specs.declared.kind.Dialect.{Dialect}
 use Rattle.tree_model.specs.Tree.{MethodOf}
@@ -12,12 +11,12 @@ use Rattle.image_model.specs.ImageNames.{OptionNames}
 use Rattle.image_model.specs.Chain.{class_named}
 use Rattle.image_model.specs.Lookup.{is_method}
 use Rattle.image_model.proofs.Ends.{all-end}
-use Rattle.image_model.proofs.Lists.{find-all, all-map}
+use Rattle.image_model.proofs.Lists.{find-all}
 use Rattle.file_model.specs.Changes.{DefinitionOf, ChangeOf, Define, Comment, SetClassSide, RemoveMethod, RemoveClass, RunOf}
 use Rattle.file_model.specs.Hierarchy.{has_class, is_kernel_class, can_follow, without_first, settle_behind, settled}
 use Rattle.file_model.specs.Refusals.{has_method, definition_refusals, comment_refusals, class_side_refusals, removal_refusals, class_removal_refusals, method_refusals}
 use Rattle.file_model.specs.Applied.{new_class, class_again, changed_class, with_definition, defined, with_class_side, with_comment, is_of_class, without_class, without_method, changed, entry_in, with_method, method_added}
-use Rattle.file_model.specs.Filing.{Text, Filing}
+use Rattle.file_model.specs.Filing.{Text}
 use Rattle.file_model.specs.Reading.{no_image, IsKernelOf}
 use Rattle.file_rereading.proofs.Fresh.{all_kept, none_in, all_replaced}
 use Rattle.file_rereading.proofs.Kept.{allowed, kept_takes}

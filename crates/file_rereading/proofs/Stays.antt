@@ -1,5 +1,5 @@
 -- The classes and the methods of the kernel stay as they are, before those of the user.
-use Rattle.std.proofs.Common.{◌≡◌, ℕ, zero, suc, ◌+◌, Bool, true, false, not, cond, List, [], ◌∷◌, ◌++◌, length, map, find, filter, Option, Some, None, Result, Ok, slice_get, refl, ap, sym, subst, ◌∙◌, append_assoc, append-nil, length-append, true≢false}
+use Rattle.std.proofs.Common.{◌≡◌, ℕ, zero, suc, Bool, true, false, not, List, [], ◌∷◌, ◌++◌, length, map, filter, Some, None, Ok, slice_get, refl, ap, sym, subst, ◌∙◌, append_assoc, append-nil, length-append, true≢false}
 use Rattle.std.specs.Prelude.{◌==◌, ◌&&◌, if◌then◌else◌}
 use Rattle.std.specs.List.{AllByRecursion}
 use Rattle.std.specs.Option.{option_map_or}
@@ -9,8 +9,7 @@ use Rattle.rb_base.specs.Names.{text_eq}
 use Rattle.token_model.specs.declared.kind.Dialect.{Dialect}
 use Rattle.tree_model.specs.Tree.{MethodOf}
 use Rattle.image_model.specs.Image.{ClassOf, EntryOf, ImageOf}
-use Rattle.image_model.specs.Lookup.{is_method, own_method}
-use Rattle.image_model.specs.Chain.{class_named}
+use Rattle.image_model.specs.Lookup.{is_method}
 use Rattle.image_model.specs.Valid.{class_names, SuperclassesStandBefore, HasClass}
 use Rattle.image_model.proofs.Ends.{all-end, contains-place}
 use Rattle.image_model.proofs.Lists.{all-implies}
@@ -18,7 +17,7 @@ use Rattle.file_model.specs.Changes.{DefinitionOf, ChangeOf, Define, Comment, Se
 use Rattle.file_model.specs.Hierarchy.{has_class, is_kernel_class, settle_behind, settled}
 use Rattle.file_model.specs.Refusals.{has_method, is_kernel_method, definition_refusals, comment_refusals, class_side_refusals, removal_refusals, class_removal_refusals, method_refusals}
 use Rattle.file_model.specs.Applied.{new_class, class_again, changed_class, with_definition, defined, with_class_side, with_comment, is_of_class, without_class, without_method, changed, entry_in, with_method, method_added}
-use Rattle.file_model.specs.Filing.{Text, Filing}
+use Rattle.file_model.specs.Filing.{Text}
 use Rattle.file_model.specs.Written.{user_classes, user_methods}
 use Rattle.file_model.specs.Reading.{IsKernelOf, IsImageOf}
 use Rattle.file_model.proofs.OneImage.{one_kernel}
@@ -26,7 +25,7 @@ use Rattle.file_laws.proofs.Settled.{turn_of, in_turn}
 use Rattle.file_rereading.specs.Rereading.{KernelFirst}
 use Rattle.file_rereading.proofs.Fresh.{all_kept, all_replaced, unchanged, filter_all, filter_none, none_marked}
 use Rattle.file_rereading.proofs.Kept.{allowed, kept_takes}
-use Rattle.file_rereading.proofs.Marked.{IsSettledBehind, settles_behind, all_changed, no_names, IsMarked, kernel_marked}
+use Rattle.file_rereading.proofs.Marked.{settles_behind, all_changed, no_names, IsMarked, kernel_marked}
 
 -- classes behind those of the kernel, none of which is one of the kernel
 record AreBehind (front cs : List (ClassOf Text)) : Type 0 where

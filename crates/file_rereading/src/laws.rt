@@ -21,10 +21,10 @@ ghost use Rattle.file_rereading.specs.Trees.{definition_tree, definition_of, cla
 /// The chunks by which the text of an image defines its classes and opens its runs of methods spell their trees in the
 /// second dialect, where the names are identifiers.
 pub fn spells_definitions()
-    ensures definition { (c : ClassOf Text) → is_identifier (unwrap_or c.superclass (codes "nil")) ≡ true → is_identifier c.name ≡ true → SpellsDoIt Second (definition_text c) (definition_tree c) }
-    ensures class_side { (c : ClassOf Text) → is_identifier c.name ≡ true → SpellsDoIt Second (class_side_text c) (class_side_tree c) }
-    ensures comment { (c : ClassOf Text) → is_identifier c.name ≡ true → SpellsDoIt Second (comment_text c) (comment_tree c) }
-    ensures opening { (r : RunOf Text) → is_identifier r.class ≡ true → SpellsDoIt Second (opening_text r) (opening_tree r) }
+    ensures definition { (class : ClassOf Text) → is_identifier (unwrap_or class.superclass (codes "nil")) ≡ true → is_identifier class.name ≡ true → SpellsDoIt Second (definition_text class) (definition_tree class) }
+    ensures class_side { (class : ClassOf Text) → is_identifier class.name ≡ true → SpellsDoIt Second (class_side_text class) (class_side_tree class) }
+    ensures comment { (class : ClassOf Text) → is_identifier class.name ≡ true → SpellsDoIt Second (comment_text class) (comment_tree class) }
+    ensures opening { (run : RunOf Text) → is_identifier run.class ≡ true → SpellsDoIt Second (opening_text run) (opening_tree run) }
 {}
 
 /// The text of an image, read behind the text of the kernel, makes that image again. The image is valid, it can be written,
@@ -42,10 +42,10 @@ pub fn reads_what_was_written()
 /// that of the methods behind it. The names of the class and of its variables are names that may be given, and the class
 /// has a superclass.
 pub fn says_what_was_written()
-    ensures definition { (c : ClassOf Text) (above : Text) → c.superclass ≡ Some above → GivesNames (λ n. IsTrue (may_name n)) c → form_of Second false (definition_tree c) ≡ Changes (Define (definition_of c)) }
-    ensures class_side { (c : ClassOf Text) → GivesNames (λ n. IsTrue (may_name n)) c → form_of Second false (class_side_tree c) ≡ Changes (SetClassSide c.name c.class_side) }
-    ensures comment { (c : ClassOf Text) → form_of Second false (comment_tree c) ≡ Changes (Comment c.name c.comment) }
-    ensures opening { (r : RunOf Text) → form_of Second false (opening_tree r) ≡ Opens r }
+    ensures definition { (class : ClassOf Text) (above : Text) → class.superclass ≡ Some above → GivesNames (λ n. IsTrue (may_name n)) class → form_of Second false (definition_tree class) ≡ Changes (Define (definition_of class)) }
+    ensures class_side { (class : ClassOf Text) → GivesNames (λ n. IsTrue (may_name n)) class → form_of Second false (class_side_tree class) ≡ Changes (SetClassSide class.name class.class_side) }
+    ensures comment { (class : ClassOf Text) → form_of Second false (comment_tree class) ≡ Changes (Comment class.name class.comment) }
+    ensures opening { (run : RunOf Text) → form_of Second false (opening_tree run) ≡ Opens run }
 {}
 
 /// In the image of a file-out the kernel's classes and methods stand as they are, before those of the user, where the
@@ -62,4 +62,10 @@ pub fn keeps_the_kernel_first()
 pub fn reads_each_image_again()
     ensures { (prelude text : Text) (kernel image : ImageOf Text) → IsKernelOf Second prelude kernel → IsBeginning kernel → IsValid text_words (reading_of Second kernel) kernel →
         IsImageOf Second prelude text image → IsValid text_words (reading_of Second kernel) image → IsImageOf Second prelude (file_of image) (with_heads image) }
+{}
+
+/// The image that is read again has the same text: the text of do-its alone does not say how many of them stand before
+/// all else.
+pub fn writes_the_same_again()
+    ensures { (image : ImageOf Text) → file_of (with_heads image) ≡ file_of image }
 {}
