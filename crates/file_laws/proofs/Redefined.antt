@@ -181,7 +181,7 @@ unchanged n f (x ∷ xs) h = by (text_eq n x.name) h (unchanged n f xs)
     by false k rest = ap (λ zs. x ∷ zs) (rest k)
 
 -- the one class of a name is changed
-changed_at : (n : Text) (f : ClassOf Text → ClassOf Text) (front : List (ClassOf Text)) (c : ClassOf Text) (rest : List (ClassOf Text)) → stands_in text_eq n front ≡ false → n ≡ c.name → stands_in text_eq n rest ≡ false
+pub changed_at : (n : Text) (f : ClassOf Text → ClassOf Text) (front : List (ClassOf Text)) (c : ClassOf Text) (rest : List (ClassOf Text)) → stands_in text_eq n front ≡ false → n ≡ c.name → stands_in text_eq n rest ≡ false
     → changed_class text_eq n f (front ++ c ∷ rest) ≡ front ++ f c ∷ rest
 changed_at n f [] c rest a e b =
     ap (λ (t : Bool). (if t then f c else c) ∷ changed_class text_eq n f rest) (ap (text_eq n) (sym e) ∙ text_eq-refl n) ∙ ap (λ zs. f c ∷ zs) (unchanged n f rest b)

@@ -39,7 +39,7 @@ All-last P [] x all h = (h, tt)
 All-last P (y ∷ ys) x all h = (all.0, All-last P ys x all.1 h)
 
 -- the first item that passes stands behind ones that fail
-find_behind : {X : Type 0} (p : X → Bool) (pre : List X) (x : X) (post : List X) → AllByRecursion (λ y. p y ≡ false) pre → p x ≡ true → find p (pre ++ x ∷ post) ≡ Some x
+pub find_behind : {X : Type 0} (p : X → Bool) (pre : List X) (x : X) (post : List X) → AllByRecursion (λ y. p y ≡ false) pre → p x ≡ true → find p (pre ++ x ∷ post) ≡ Some x
 find_behind p [] x post fails h = ap (λ b. cond b (Some x) (find p post)) h
 find_behind p (y ∷ pre) x post fails h = ap (λ b. cond b (Some y) (find p (pre ++ x ∷ post))) fails.0 ∙ find_behind p pre x post fails.1 h
 

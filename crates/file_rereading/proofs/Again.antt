@@ -19,7 +19,7 @@ use Rattle.file_model.specs.Written.{doit_text, class_text, methods_text, user_c
 use Rattle.file_model.specs.Fileable.{MayStand, IsDoItChunk, reading_of}
 use Rattle.file_model.specs.Reading.{IsKernelOf, IsImageOf}
 use Rattle.file_laws.proofs.Moves.{text_equal}
-use Rattle.file_laws.proofs.Sound.{fileable}
+use Rattle.file_laws.proofs.Sound.{fileable, All-filter}
 use Rattle.file_laws.proofs.Redefined.{no_repeat_behind}
 use Rattle.file_rereading.specs.Rereading.{IsWithinLimits, IsBeginning, KernelFirst, is_only_doits, with_heads}
 use Rattle.file_rereading.proofs.Readings.{outside, with_doits, ReadsOn, reads_further, reads_text}
@@ -27,7 +27,7 @@ use Rattle.file_rereading.proofs.Names.{identifier_of}
 use Rattle.file_rereading.proofs.DoIts.{IsGoodDoIt, reads_doits}
 use Rattle.file_rereading.proofs.Limits.{kernel_counted, limits_image}
 use Rattle.file_rereading.proofs.Stays.{first_in_image}
-use Rattle.file_rereading.proofs.Fresh.{all_kept, all_front, all_back}
+use Rattle.file_rereading.proofs.Fresh.{all_front, all_back}
 use Rattle.file_rereading.proofs.Methods.{with_methods, IsGoodMethod, still, reads_methods}
 use Rattle.file_rereading.proofs.Prefixes.{named_there, named_given}
 use Rattle.file_rereading.proofs.Classes.{with_classes, AreSound, IsUserClass, reads_classes}
@@ -112,7 +112,7 @@ module _ (kernel i : ImageOf Text) (w : IsWritten kernel i) where
   -- the classes of the user
   users : AllByRecursion IsUserClass (user_classes i)
   users =
-      let roots = all_kept HasRoot (λ (c : ClassOf Text). not c.kernel) i.classes w.valid.only_object_is_root in
+      let roots = All-filter HasRoot (λ (c : ClassOf Text). not c.kernel) i.classes w.valid.only_object_is_root in
       let others = apart kernel.classes (user_classes i) (codes "Object") sound_parts.distinct w.beginning.root in
       let both = all-both HasRoot (λ (c : ClassOf Text). c.name ≡ codes "Object" → ⊥) (user_classes i) roots others in
       all_two (λ (c : ClassOf Text). HasRoot c × (c.name ≡ codes "Object" → ⊥)) (λ (c : ClassOf Text). c.kernel ≡ false) IsUserClass (user_classes i) (λ c p user. user_class c p.0 p.1 user) both (all_not (λ (c : ClassOf Text). c.kernel) i.classes)
@@ -136,7 +136,7 @@ module _ (kernel i : ImageOf Text) (w : IsWritten kernel i) where
   methods j same =
       let spelled = all-both (HasClass i.classes) (λ (m : EntryOf Text). m.kernel ≡ false → IsUserMethod (reading_of Second kernel) m) i.methods w.valid.method_classes_there w.valid.user_methods in
       let all = all_two (λ (m : EntryOf Text). HasClass i.classes m × (m.kernel ≡ false → IsUserMethod (reading_of Second kernel) m)) (λ (m : EntryOf Text). m.kernel ≡ false → MayStand m.source) (λ (m : EntryOf Text). m.kernel ≡ false → IsGoodMethod j m) i.methods (λ m p stands. good_method j same m p.0 p.1 stands) spelled w.fileable.method_sources in
-      all_two (λ (m : EntryOf Text). m.kernel ≡ false → IsGoodMethod j m) (λ (m : EntryOf Text). m.kernel ≡ false) (IsGoodMethod j) (user_methods i) (λ m good user. good user) (all_kept (λ (m : EntryOf Text). m.kernel ≡ false → IsGoodMethod j m) (λ (m : EntryOf Text). not m.kernel) i.methods all) (all_not (λ (m : EntryOf Text). m.kernel) i.methods)
+      all_two (λ (m : EntryOf Text). m.kernel ≡ false → IsGoodMethod j m) (λ (m : EntryOf Text). m.kernel ≡ false) (IsGoodMethod j) (user_methods i) (λ m good user. good user) (All-filter (λ (m : EntryOf Text). m.kernel ≡ false → IsGoodMethod j m) (λ (m : EntryOf Text). not m.kernel) i.methods all) (all_not (λ (m : EntryOf Text). m.kernel) i.methods)
 
   -- the do-its
   doits : AllByRecursion IsGoodDoIt i.doits

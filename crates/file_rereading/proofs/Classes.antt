@@ -17,12 +17,14 @@ use Rattle.image_model.proofs.Lists.{all-implies}
 use Rattle.image_model.proofs.GrownLemmas.{DefinesOnceOnChain-end}
 use Rattle.file_model.specs.Causes.{first_cause}
 use Rattle.file_model.specs.Changes.{Define, Comment, SetClassSide}
-use Rattle.file_model.specs.Hierarchy.{has_class, is_kernel_class, has_repeat, stands_twice, settled}
+use Rattle.file_model.specs.Hierarchy.{has_class, is_kernel_class, stands_in, has_repeat, stands_twice, settled}
 use Rattle.file_model.specs.Refusals.{class_limit, lacks_superclass, makes_cycle, is_one_class_too_many, definition_refusals, comment_refusals, class_side_refusals}
 use Rattle.file_model.specs.Applied.{new_class, class_again, changed_class, with_definition, defined, with_class_side, with_comment, changed}
 use Rattle.file_model.specs.Filing.{Text, Filing}
 use Rattle.file_model.specs.Written.{keyword_line, names_text, definition_text, class_side_text, comment_text, paragraph, paragraph_unless_empty, class_text}
 use Rattle.file_laws.proofs.Moves.{text_equal}
+use Rattle.file_laws.proofs.Redefined.{changed_at}
+use Rattle.file_laws.proofs.Settled.{find_behind}
 use Rattle.file_rereading.proofs.Readings.{outside}
 use Rattle.file_rereading.specs.Trees.{definition_of, definition_tree, class_side_tree, comment_tree}
 use Rattle.file_rereading.proofs.Readings.{ReadsOn, reads_further, reads_none}
@@ -31,7 +33,7 @@ use Rattle.file_rereading.proofs.Definitions.{right, spells_definition}
 use Rattle.file_rereading.proofs.Names.{MayName, identifier_of, begins_no_blank, is_not_empty}
 use Rattle.file_rereading.proofs.Says.{none_holds, says_definition, says_class_side, says_comment}
 use Rattle.file_rereading.proofs.DoIts.{reads_change}
-use Rattle.file_rereading.proofs.Fresh.{none_in, fresh, find_none, find_behind, all_front, all_back, no_repeat_end}
+use Rattle.file_rereading.proofs.Fresh.{any_none, none_in, fresh, find_none, all_front, all_back, no_repeat_end}
 use Rattle.file_rereading.proofs.Methods.{still, not_still, and_fails}
 use Rattle.file_rereading.proofs.Prefixes.{before_front, once_front, above_before, above_there, once_up, named_there, named_given, not_above, has_repeat_none, stands_once}
 
@@ -65,11 +67,6 @@ with_side c names = record (as_defined c) { class_side = names }
 abbrev with_text : ClassOf Text → Text → ClassOf Text
 with_text c text = record (with_side c c.class_side) { comment = text }
 
--- a class behind others, one of them changed
-changed_last : (n : Text) (f : ClassOf Text → ClassOf Text) (front : List (ClassOf Text)) (x : ClassOf Text) → AllByRecursion (λ d. text_eq n d.name ≡ false) front → text_eq n x.name ≡ true → changed_class text_eq n f (front ++ x ∷ []) ≡ front ++ f x ∷ []
-changed_last n f [] x all same = ap (λ (b : Bool). (if b then f x else x) ∷ []) same
-changed_last n f (d ∷ ds) x all same = λ j. (if all.0 j then f d else d) ∷ changed_last n f ds x all.1 same j
-
 module _ (i : ImageOf Text) (front : List (ClassOf Text)) (c : ClassOf Text) (back : List (ClassOf Text)) (s : AreSound (front ++ c ∷ back)) (u : IsUserClass c) where
   -- no class before it has its name
   unlike : AllByRecursion (λ d. text_eq c.name d.name ≡ false) front
@@ -81,6 +78,9 @@ module _ (i : ImageOf Text) (front : List (ClassOf Text)) (c : ClassOf Text) (ba
           by : (b : Bool) → text_eq c.name d.name ≡ b → b ≡ false
           by true e = absurd (other (sym (text_equal c.name d.name e)))
           by false e = refl
+
+  not_named : stands_in text_eq c.name front ≡ false
+  not_named = any_none (λ (d : ClassOf Text). text_eq c.name d.name) front unlike
 
   absent : class_named text_eq front c.name ≡ None
   absent = find_none (λ (d : ClassOf Text). text_eq c.name d.name) front unlike
@@ -143,7 +143,7 @@ module _ (i : ImageOf Text) (front : List (ClassOf Text)) (c : ClassOf Text) (ba
   sets_side =
       let old = front ++ as_defined c ∷ [] in
       let is = found (as_defined c) refl in
-      let put : with_class_side text_eq c.name c.class_side old ≡ front ++ with_side c c.class_side ∷ [] = changed_last c.name (λ (x : ClassOf Text). record x { class_side = c.class_side }) front (as_defined c) unlike (text_eq-refl c.name) in
+      let put : with_class_side text_eq c.name c.class_side old ≡ front ++ with_side c c.class_side ∷ [] = changed_at c.name (λ (x : ClassOf Text). record x { class_side = c.class_side }) front (as_defined c) [] not_named refl refl in
       let lacks : not (has_class text_eq old c.name) ≡ false = ap (λ (o : Option (ClassOf Text)). not (is_some o)) is in
       let kernel : (is_kernel_class text_eq old c.name && not (length c.class_side == 0)) ≡ false = ap (λ o. option_map_or (λ (x : ClassOf Text). x.kernel) o false && not (length c.class_side == 0)) is in
       let twice : stands_twice text_eq (with_class_side text_eq c.name c.class_side old) of_class_side c.name ≡ false =
@@ -157,7 +157,7 @@ module _ (i : ImageOf Text) (front : List (ClassOf Text)) (c : ClassOf Text) (ba
   sets_comment =
       let old = front ++ with_side c c.class_side ∷ [] in
       let is = found (with_side c c.class_side) refl in
-      let put : with_comment text_eq c.name c.comment old ≡ front ++ with_text c c.comment ∷ [] = changed_last c.name (λ (x : ClassOf Text). record x { comment = c.comment }) front (with_side c c.class_side) unlike (text_eq-refl c.name) in
+      let put : with_comment text_eq c.name c.comment old ≡ front ++ with_text c c.comment ∷ [] = changed_at c.name (λ (x : ClassOf Text). record x { comment = c.comment }) front (with_side c c.class_side) [] not_named refl refl in
       let lacks : not (has_class text_eq old c.name) ≡ false = ap (λ (o : Option (ClassOf Text)). not (is_some o)) is in
       let kernel : is_kernel_class text_eq old c.name ≡ false = ap (λ o. option_map_or (λ (x : ClassOf Text). x.kernel) o false) is in
       let none : first_cause (comment_refusals text_eq old c.name) ≡ None =

@@ -1,7 +1,7 @@
 -- What stands in front of one item of a list in which nothing stands twice, and limits.
 use Rattle.std.proofs.Common.{◌≡◌, suc, Bool, true, false, cond, List, [], ◌∷◌, ◌++◌, length, map, find, filter, Some, None, slice_get, refl, ap, sym, ◌∙◌, arith, true≢false}
 use Rattle.std.specs.List.{list_any, AllByRecursion}
-use Rattle.std.specs.Prelude.{◌==◌, ◌||◌, if◌then◌else◌}
+use Rattle.std.specs.Prelude.{◌==◌, ◌||◌}
 use Rattle.std.specs.Option.{option_map_or}
 use Rattle.std.proofs.lemmas.Bool.{eqb-true}
 use Rattle.image_model.specs.Valid.{HasNoRepeat}
@@ -30,26 +30,12 @@ pub find_none : {X : Type 0} (p : X → Bool) (xs : List X) → AllByRecursion (
 find_none p [] all = refl
 find_none p (x ∷ xs) all = ap (λ (b : Bool). cond b (Some x) (find p xs)) all.0 ∙ find_none p xs all.1
 
--- a search that ends at an item behind such ones
-pub find_behind : {X : Type 0} (p : X → Bool) (xs : List X) (x : X) (back : List X) → AllByRecursion (λ z. p z ≡ false) xs → p x ≡ true → find p (xs ++ x ∷ back) ≡ Some x
-find_behind p [] x back all h = ap (λ (b : Bool). cond b (Some x) (find p back)) h
-find_behind p (z ∷ zs) x back all h = ap (λ (b : Bool). cond b (Some z) (find p (zs ++ x ∷ back))) all.0 ∙ find_behind p zs x back all.1 h
-
 -- a test of some item that none passes
 pub any_none : {X : Type 0} (p : X → Bool) (xs : List X) → AllByRecursion (λ x. p x ≡ false) xs → list_any p xs ≡ false
 any_none p [] all = refl
 any_none p (x ∷ xs) all = ap (λ (b : Bool). b || list_any p xs) all.0 ∙ any_none p xs all.1
 
--- a fact of the items that pass a test
-pub all_kept : {X : Type 0} (P : X → Type 0) (p : X → Bool) (xs : List X) → AllByRecursion P xs → AllByRecursion P (filter p xs)
-all_kept P p [] all = tt
-all_kept P p (x ∷ xs) all = by (p x) (all_kept P p xs all.1)
-  where
-    by : (b : Bool) → AllByRecursion P (filter p xs) → AllByRecursion P (cond b (x ∷ filter p xs) (filter p xs))
-    by true rest = (all.0, rest)
-    by false rest = rest
-
--- of the items in front, and of those behind
+-- a fact of the items in front, and of those behind
 pub all_front : {X : Type 0} (P : X → Type 0) (xs ys : List X) → AllByRecursion P (xs ++ ys) → AllByRecursion P xs
 all_front P [] ys all = tt
 all_front P (x ∷ xs) ys all = (all.0, all_front P xs ys all.1)
@@ -85,12 +71,3 @@ none_marked mark p (x ∷ xs) ys all h = by (p x) refl h (none_marked mark p xs 
     by : (b : Bool) → p x ≡ b → option_map_or mark (cond b (Some x) (find p (xs ++ ys))) false ≡ false → (option_map_or mark (find p (xs ++ ys)) false ≡ false → AllByRecursion (λ y. p y ≡ false) xs) → AllByRecursion (λ y. p y ≡ false) (x ∷ xs)
     by true e k rest = absurd (true≢false (sym all.0 ∙ k))
     by false e k rest = (e, rest k)
-
--- a fact of items some of which are replaced by one
-pub all_replaced : {X : Type 0} (P : X → Type 0) (p : X → Bool) (new : X) (xs : List X) → AllByRecursion P xs → P new → AllByRecursion P (map (λ x. if p x then new else x) xs)
-all_replaced P p new [] all h = tt
-all_replaced P p new (x ∷ xs) all h = (by (p x), all_replaced P p new xs all.1 h)
-  where
-    by : (b : Bool) → P (if b then new else x)
-    by true = h
-    by false = all.0

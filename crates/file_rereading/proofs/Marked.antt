@@ -18,7 +18,8 @@ use Rattle.file_model.specs.Refusals.{has_method, definition_refusals, comment_r
 use Rattle.file_model.specs.Applied.{new_class, class_again, changed_class, with_definition, defined, with_class_side, with_comment, is_of_class, without_class, without_method, changed, entry_in, with_method, method_added}
 use Rattle.file_model.specs.Filing.{Text}
 use Rattle.file_model.specs.Reading.{no_image, IsKernelOf}
-use Rattle.file_rereading.proofs.Fresh.{all_kept, none_in, all_replaced}
+use Rattle.file_laws.proofs.Sound.{All-filter, All-replaced}
+use Rattle.file_rereading.proofs.Fresh.{none_in}
 use Rattle.file_rereading.proofs.Kept.{allowed, kept_takes}
 
 -- a fact of what is left where the first item that passes is taken out
@@ -71,7 +72,7 @@ pub all_with_method : (P : EntryOf Text → Type 0) (kernel : Bool) (r : RunOf T
 all_with_method P kernel r source m ms new all = by (has_method text_eq ms r.class r.meta m.selector)
   where
     by : (b : Bool) → AllByRecursion P (if b then map (λ e. if is_method text_eq r.class r.meta m.selector e then entry_in kernel r source m else e) ms else ms ++ entry_in kernel r source m ∷ [])
-    by true = all_replaced P (is_method text_eq r.class r.meta m.selector) (entry_in kernel r source m) ms all new
+    by true = All-replaced P (is_method text_eq r.class r.meta m.selector) (entry_in kernel r source m) ms all new
     by false = all-end P ms (entry_in kernel r source m) all new
 
 -- an image of the kernel alone
@@ -125,13 +126,13 @@ marked_changed (SetClassSide n names) i j e h =
     })
 marked_changed (RemoveMethod c meta s) i j e h =
     subst IsMarked (allowed (removal_refusals text_eq i c meta s) (without_method text_eq c meta s i) j e).same
-    (record { classes = h.classes; sides = h.sides; methods = all_kept (λ m. m.kernel ≡ true) (λ m. not (is_method text_eq c meta s m)) i.methods h.methods })
+    (record { classes = h.classes; sides = h.sides; methods = All-filter (λ m. m.kernel ≡ true) (λ m. not (is_method text_eq c meta s m)) i.methods h.methods })
 marked_changed (RemoveClass n) i j e h =
     subst IsMarked (allowed (class_removal_refusals text_eq i.classes n) (without_class text_eq n i) j e).same
     (record {
-      classes = all_kept (λ c. c.kernel ≡ true) (λ (c : ClassOf Text). not (text_eq n c.name)) i.classes h.classes;
-      sides = all_kept (λ c. c.class_side ≡ []) (λ (c : ClassOf Text). not (text_eq n c.name)) i.classes h.sides;
-      methods = all_kept (λ m. m.kernel ≡ true) (λ m. not (is_of_class text_eq n m)) i.methods h.methods;
+      classes = All-filter (λ c. c.kernel ≡ true) (λ (c : ClassOf Text). not (text_eq n c.name)) i.classes h.classes;
+      sides = All-filter (λ c. c.class_side ≡ []) (λ (c : ClassOf Text). not (text_eq n c.name)) i.classes h.sides;
+      methods = All-filter (λ m. m.kernel ≡ true) (λ m. not (is_of_class text_eq n m)) i.methods h.methods;
     })
 
 -- so does a method that is put in

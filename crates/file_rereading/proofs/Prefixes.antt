@@ -18,10 +18,12 @@ use Rattle.image_model.proofs.UpwardsLemmas.{upwards-all}
 use Rattle.image_model.proofs.GrownLemmas.{chain_from-end, chain_from-new}
 use Rattle.file_model.specs.Filing.{Text}
 use Rattle.file_model.specs.Hierarchy.{has_class, stands_in, has_repeat, chain_variables, stands_twice}
+use Rattle.file_laws.proofs.Settled.{at_front}
 use Rattle.file_laws.proofs.Moves.{text_equal}
 use Rattle.file_laws.proofs.Redefined.{no_repeat_behind}
+use Rattle.file_laws.proofs.Sound.{All-filter}
 use Rattle.file_rereading.proofs.Names.{MayName}
-use Rattle.file_rereading.proofs.Fresh.{any_none, all_kept, all_front, all_back}
+use Rattle.file_rereading.proofs.Fresh.{any_none, all_front, all_back}
 
 -- the names of the first classes
 names_front : (xs ys : List (ClassOf Text)) (j : ℕ) → j < length xs → slice_get (class_names (xs ++ ys)) j ≡ slice_get (class_names xs) j
@@ -53,15 +55,10 @@ once_front kind xs ys before all =
     (λ j d at p. subst (λ (cs : List (ClassOf Text)). HasNoRepeat (flat_map (variables kind) cs)) (chain_front ys xs before j d at) p)
     (all_front (DefinesOnceOnChain text_eq (xs ++ ys) kind) xs ys all)
 
--- the last of the first classes stands at the end
-at_end : (xs : List (ClassOf Text)) (c : ClassOf Text) (ys : List (ClassOf Text)) → slice_get (xs ++ c ∷ ys) (length xs) ≡ Some c
-at_end [] c ys = refl
-at_end (x ∷ xs) c ys = at_end xs c ys
-
 -- where the superclass of a class stands
 pub above_before : (front : List (ClassOf Text)) (c : ClassOf Text) (back : List (ClassOf Text)) → SuperclassesStandBefore (front ++ c ∷ back) → (n : Text) → c.superclass ≡ Some n → (j : ℕ) × (slice_get (class_names front) j ≡ Some n)
 above_before front c back before n super =
-    let named = before (length front) c n (at_end front c back) super in
+    let named = before (length front) c n (at_front front c back) super in
     let earlier : named.0 < length front = named.1 in
     (named.0, sym (names_front front (c ∷ back) named.0 earlier) ∙ named.2)
 
@@ -76,7 +73,7 @@ once_up kind front c back before all =
     let behind = all_back (DefinesOnceOnChain text_eq (front ++ c ∷ back) kind) front (c ∷ back) all in
     let chain_is : chain_from text_eq (front ++ c ∷ back) (Some c) ≡ c ∷ chain text_eq front c.superclass =
     ap (λ (cs : List (ClassOf Text)). chain_from text_eq cs (Some c)) (sym assoc)
-    ∙ chain_front back (front ++ c ∷ []) (subst SuperclassesStandBefore (sym assoc) before) (length front) c (at_end front c [])
+    ∙ chain_front back (front ++ c ∷ []) (subst SuperclassesStandBefore (sym assoc) before) (length front) c (at_front front c [])
     ∙ chain_from-new text_eq text_eq-refl front c (before_front front (c ∷ back) before) (above_there front c back before) in
     subst (λ (cs : List (ClassOf Text)). HasNoRepeat (flat_map (variables kind) cs)) chain_is behind.0
 
@@ -129,5 +126,5 @@ has_repeat_none (x ∷ xs) h =
 pub stands_once : (cs : List (ClassOf Text)) (kind : VariableKind) (n : Text) → AllByRecursion (DefinesOnceOnChain text_eq cs kind) cs → stands_twice text_eq cs kind n ≡ false
 stands_once cs kind n all =
     any_none (λ (c : ClassOf Text). has_repeat text_eq (chain_variables text_eq cs kind c)) (filter (λ (c : ClassOf Text). stands_in text_eq n (chain_from text_eq cs (Some c))) cs)
-    (all_kept (λ c. has_repeat text_eq (chain_variables text_eq cs kind c) ≡ false) (λ (c : ClassOf Text). stands_in text_eq n (chain_from text_eq cs (Some c))) cs
+    (All-filter (λ c. has_repeat text_eq (chain_variables text_eq cs kind c) ≡ false) (λ (c : ClassOf Text). stands_in text_eq n (chain_from text_eq cs (Some c))) cs
     (all-implies (DefinesOnceOnChain text_eq cs kind) (λ c. has_repeat text_eq (chain_variables text_eq cs kind c) ≡ false) (λ c once. has_repeat_none (chain_variables text_eq cs kind c) once) cs all))

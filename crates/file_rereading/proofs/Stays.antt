@@ -22,8 +22,9 @@ use Rattle.file_model.specs.Written.{user_classes, user_methods}
 use Rattle.file_model.specs.Reading.{IsKernelOf, IsImageOf}
 use Rattle.file_model.proofs.OneImage.{one_kernel}
 use Rattle.file_laws.proofs.Settled.{turn_of, in_turn}
+use Rattle.file_laws.proofs.Sound.{All-filter, All-replaced}
 use Rattle.file_rereading.specs.Rereading.{KernelFirst}
-use Rattle.file_rereading.proofs.Fresh.{all_kept, all_replaced, unchanged, filter_all, filter_none, none_marked}
+use Rattle.file_rereading.proofs.Fresh.{unchanged, filter_all, filter_none, none_marked}
 use Rattle.file_rereading.proofs.Kept.{allowed, kept_takes}
 use Rattle.file_rereading.proofs.Marked.{settles_behind, all_changed, no_names, IsMarked, kernel_marked}
 
@@ -138,7 +139,7 @@ module _ (kernel : ImageOf Text) (k : IsWhole kernel) where
         split =
             ap (filter p) b.split ∙ filter-append p kernel.classes b.users
             ∙ ap (λ (xs : List (ClassOf Text)). xs ++ filter p b.users) (filter_all p kernel.classes (all-implies (λ c. text_eq n c.name ≡ false) (λ c. p c ≡ true) (λ c e. ap not e) kernel.classes all));
-        user = all_kept (λ c. c.kernel ≡ false) p b.users b.user;
+        user = All-filter (λ c. c.kernel ≡ false) p b.users b.user;
       }
 
   -- methods without some, none of which is one of the kernel
@@ -148,7 +149,7 @@ module _ (kernel : ImageOf Text) (k : IsWhole kernel) where
     split =
         ap (filter (λ m. not (p m))) b.split ∙ filter-append (λ m. not (p m)) kernel.methods b.users
         ∙ ap (λ (xs : List (EntryOf Text)). xs ++ filter (λ m. not (p m)) b.users) (filter_all (λ m. not (p m)) kernel.methods (all-implies (λ m. p m ≡ false) (λ m. not (p m) ≡ true) (λ m e. ap not e) kernel.methods all));
-    user = all_kept (λ m. m.kernel ≡ false) (λ m. not (p m)) b.users b.user;
+    user = All-filter (λ m. m.kernel ≡ false) (λ m. not (p m)) b.users b.user;
   }
 
   -- no method of the kernel is one of a class of the user
@@ -195,7 +196,7 @@ module _ (kernel : ImageOf Text) (k : IsWhole kernel) where
             split =
                 ap (map put) b.split ∙ map-append put kernel.methods b.users
                 ∙ ap (λ (xs : List (EntryOf Text)). xs ++ map put b.users) (unchanged put kernel.methods (all-implies (λ x. test x ≡ false) (λ x. put x ≡ x) (λ x q. by_test (test x) new x q) kernel.methods all));
-            user = all_replaced (λ x. x.kernel ≡ false) test new b.users b.user refl;
+            user = All-replaced (λ x. x.kernel ≡ false) test new b.users b.user refl;
           }
       by false =
           let new = entry_in false r source m in
