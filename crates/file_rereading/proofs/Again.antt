@@ -22,6 +22,8 @@ use Rattle.file_laws.proofs.Moves.{text_equal}
 use Rattle.file_laws.proofs.Sound.{fileable, All-filter}
 use Rattle.file_laws.proofs.Redefined.{no_repeat_behind}
 use Rattle.file_rereading.specs.Rereading.{IsWithinLimits, IsBeginning, KernelFirst, is_only_doits, with_heads}
+use Rattle.file_laws.proofs.Whole.{valid_image}
+use Rattle.file_rereading.proofs.Marked.{kernel_marked}
 use Rattle.file_rereading.proofs.Readings.{outside, with_doits, ReadsOn, reads_further, reads_text}
 use Rattle.file_rereading.proofs.Names.{identifier_of}
 use Rattle.file_rereading.proofs.DoIts.{IsGoodDoIt, reads_doits}
@@ -229,6 +231,6 @@ reads_again prelude kernel i is beginning first valid fileable limits =
     }
 
 -- the image of the text of the image of a file-out
-pub reads_image_again : (prelude text : Text) (kernel i : ImageOf Text) → IsKernelOf Second prelude kernel → IsBeginning kernel → IsValid text_words (reading_of Second kernel) kernel → IsImageOf Second prelude text i → IsValid text_words (reading_of Second kernel) i → IsImageOf Second prelude (file_of i) (with_heads i)
-reads_image_again prelude text kernel i is beginning whole read valid =
-    reads_again prelude kernel i is beginning (first_in_image Second prelude text kernel i is whole.superclasses_before whole.method_classes_there read) valid (fileable Second prelude text kernel i read) (limits_image Second prelude text i read)
+pub reads_image_again : (prelude text : Text) (kernel i : ImageOf Text) → IsKernelOf Second prelude kernel → IsBeginning kernel → IsValid text_words (reading_of Second kernel) kernel → IsImageOf Second prelude text i → IsImageOf Second prelude (file_of i) (with_heads i)
+reads_image_again prelude text kernel i is beginning whole read =
+    reads_again prelude kernel i is beginning (first_in_image Second prelude text kernel i is whole.superclasses_before whole.method_classes_there read) (valid_image Second prelude text kernel i is whole (kernel_marked Second prelude kernel is).sides read) (fileable Second prelude text kernel i read) (limits_image Second prelude text i read)

@@ -143,7 +143,7 @@ module _ (i : ImageOf Text) (front : List (ClassOf Text)) (c : ClassOf Text) (ba
   sets_side =
       let old = front ++ as_defined c ∷ [] in
       let is = found (as_defined c) refl in
-      let put : with_class_side text_eq c.name c.class_side old ≡ front ++ with_side c c.class_side ∷ [] = changed_at c.name (λ (x : ClassOf Text). record x { class_side = c.class_side }) front (as_defined c) [] not_named refl refl in
+      let put : with_class_side text_eq c.name c.class_side old ≡ front ++ with_side c c.class_side ∷ [] = changed_at text_eq text_eq-refl text_equal c.name (λ (x : ClassOf Text). record x { class_side = c.class_side }) front (as_defined c) [] not_named refl refl in
       let lacks : not (has_class text_eq old c.name) ≡ false = ap (λ (o : Option (ClassOf Text)). not (is_some o)) is in
       let kernel : (is_kernel_class text_eq old c.name && not (length c.class_side == 0)) ≡ false = ap (λ o. option_map_or (λ (x : ClassOf Text). x.kernel) o false && not (length c.class_side == 0)) is in
       let twice : stands_twice text_eq (with_class_side text_eq c.name c.class_side old) of_class_side c.name ≡ false =
@@ -157,7 +157,7 @@ module _ (i : ImageOf Text) (front : List (ClassOf Text)) (c : ClassOf Text) (ba
   sets_comment =
       let old = front ++ with_side c c.class_side ∷ [] in
       let is = found (with_side c c.class_side) refl in
-      let put : with_comment text_eq c.name c.comment old ≡ front ++ with_text c c.comment ∷ [] = changed_at c.name (λ (x : ClassOf Text). record x { comment = c.comment }) front (with_side c c.class_side) [] not_named refl refl in
+      let put : with_comment text_eq c.name c.comment old ≡ front ++ with_text c c.comment ∷ [] = changed_at text_eq text_eq-refl text_equal c.name (λ (x : ClassOf Text). record x { comment = c.comment }) front (with_side c c.class_side) [] not_named refl refl in
       let lacks : not (has_class text_eq old c.name) ≡ false = ap (λ (o : Option (ClassOf Text)). not (is_some o)) is in
       let kernel : is_kernel_class text_eq old c.name ≡ false = ap (λ o. option_map_or (λ (x : ClassOf Text). x.kernel) o false) is in
       let none : first_cause (comment_refusals text_eq old c.name) ≡ None =

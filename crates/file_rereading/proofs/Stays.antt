@@ -21,6 +21,8 @@ use Rattle.file_model.specs.Filing.{Text}
 use Rattle.file_model.specs.Written.{user_classes, user_methods}
 use Rattle.file_model.specs.Reading.{IsKernelOf, IsImageOf}
 use Rattle.file_model.proofs.OneImage.{one_kernel}
+use Rattle.rb_base.proofs.NamesLemmas.{text_eq-refl}
+use Rattle.file_laws.proofs.Moves.{text_equal}
 use Rattle.file_laws.proofs.Settled.{turn_of, in_turn}
 use Rattle.file_laws.proofs.Sound.{All-filter, All-replaced}
 use Rattle.file_rereading.specs.Rereading.{KernelFirst}
@@ -93,13 +95,13 @@ module _ (kernel : ImageOf Text) (k : IsWhole kernel) where
   behind_settled : (cs : List (ClassOf Text)) → AreBehind kernel.classes cs → AreBehind kernel.classes (settled text_eq cs)
   behind_settled cs b =
       let front = kernel.classes in
-      let turn = turn_of [] front k.before in
+      let turn = turn_of text_eq text_eq-refl text_equal [] front k.before in
       let s = settles_behind (λ c. c.kernel ≡ false) (length b.users) front b.users b.user in
       record {
         users = s.more;
         split =
             ap (settled text_eq) b.split ∙ ap (λ (n : ℕ). settle_behind text_eq n [] (front ++ b.users)) (length-append front b.users)
-            ∙ in_turn (length b.users) [] front b.users turn ∙ s.is;
+            ∙ in_turn text_eq text_eq-refl text_equal (length b.users) [] front b.users turn ∙ s.is;
         user = s.all;
       }
 

@@ -57,11 +57,11 @@ pub fn keeps_the_kernel_first()
     ensures limits { (dialect : Dialect) (prelude text : Text) (image : ImageOf Text) → IsImageOf dialect prelude text image → IsWithinLimits image }
 {}
 
-/// The text of the image that was made of a file-out, where it is valid, makes that image again, behind a valid kernel that
-/// has `Object` and no do-its. Of do-its alone all are counted as those before all else.
+/// The text of the image that was made of a file-out makes that image again, behind a valid kernel that has `Object` and no
+/// do-its. Of do-its alone all are counted as those before all else.
 pub fn reads_each_image_again()
     ensures { (prelude text : Text) (kernel image : ImageOf Text) → IsKernelOf Second prelude kernel → IsBeginning kernel → IsValid text_words (reading_of Second kernel) kernel →
-        IsImageOf Second prelude text image → IsValid text_words (reading_of Second kernel) image → IsImageOf Second prelude (file_of image) (with_heads image) }
+        IsImageOf Second prelude text image → IsImageOf Second prelude (file_of image) (with_heads image) }
 {}
 
 /// The image that is read again has the same text: the text of do-its alone does not say how many of them stand before
