@@ -1,8 +1,7 @@
 -- What each change of an image keeps holds of what is read.
-use Rattle.std.proofs.Common.{◌≡◌, ◌+◌, Bool, true, false, List, [], ◌∷◌, Option, Some, None, Result, Ok, Err, refl, sym, subst}
+use Rattle.std.proofs.Common.{◌≡◌, ◌+◌, Bool, false, List, [], ◌∷◌, Option, Some, None, Result, Ok, Err, refl, sym, subst}
 use Rattle.std.specs.Prelude.{if◌then◌else◌}
 use Rattle.std.specs.List.{AllByRecursion}
-use Rattle.std.specs.Option.{option_map_or}
 use Rattle.std.specs.Result.{result_map_both}
 use Rattle.rb_base.specs.Names.{text_eq}
 use Rattle.token_model.specs.declared.kind.Dialect.{Dialect}
@@ -17,6 +16,8 @@ use Rattle.file_model.specs.Refusals.{run_refusals}
 use Rattle.file_model.specs.Applied.{changed, method_added}
 use Rattle.file_model.specs.Filing.{Text, Filing, Item, Blank, DoItChunk, MethodChunk, Faulty, goes_on, with_doit, form_taken, taken}
 use Rattle.file_model.specs.Reading.{TakesAll, Over, Taken}
+use Rattle.file_laws.proofs.Refused.{first_none, unless_none}
+use Rattle.file_laws.proofs.Sound.{unless_ok}
 
 -- what is given under conditions: none of them holds, and it is this
 pub record IsAllowed {X : Type 0} (cs : List Condition) (x y : X) : Type 0 where
@@ -26,22 +27,11 @@ pub record IsAllowed {X : Type 0} (cs : List Condition) (x y : X) : Type 0 where
 -- no condition holds where there is no cause
 none_hold : (cs : List Condition) → first_cause cs ≡ None → AllByRecursion (λ c. c.holds ≡ false) cs
 none_hold [] e = tt
-none_hold (c ∷ cs) e = by c.holds refl e (λ h. none_hold cs h)
-  where
-    by : (b : Bool) → c.holds ≡ b → (if b then Some c.cause else first_cause cs) ≡ None → (first_cause cs ≡ None → AllByRecursion (λ d. d.holds ≡ false) cs) → AllByRecursion (λ d. d.holds ≡ false) (c ∷ cs)
-    by true h k rest = absurd (cc)
-    by false h k rest = (h, rest k)
+none_hold (c ∷ cs) e = let first = first_none c cs e in (first.0, none_hold cs first.1)
 
 -- what was given was allowed
 pub allowed : {X : Type 0} (cs : List Condition) (x y : X) → ◌≡◌ {A = Result X Cause} (unless cs x) (Ok y) → IsAllowed cs x y
-allowed {X} cs x y e = by (first_cause cs) refl e
-  where
-    by : (o : Option Cause) → first_cause cs ≡ o → ◌≡◌ {A = Result X Cause} (option_map_or Err o (Ok x)) (Ok y) → IsAllowed cs x y
-    by None h k = let same : x ≡ y = cc in record { none = none_hold cs h; same = same }
-    by (Some cause) h k = absurd (differ k)
-      where
-        differ : ◌≡◌ {A = Result X Cause} (Err cause) (Ok y) → ⊥
-        differ l = cc
+allowed cs x y e = record { none = none_hold cs (unless_none cs x y e); same = unless_ok cs x y e }
 
 module _ (kernel : Bool) (P : ImageOf Text → Type 0)
     (changes : (c : ChangeOf Text) (i j : ImageOf Text) → changed text_eq kernel c i ≡ Ok j → P i → P j)

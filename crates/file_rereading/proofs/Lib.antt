@@ -9,6 +9,7 @@ mod Methods
 mod Prefixes
 mod Classes
 mod Again
+mod Least
 mod Same
 mod Kept
 mod Marked

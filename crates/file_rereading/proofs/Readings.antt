@@ -42,7 +42,7 @@ further Stop r = r
 further (Chunk blanks source item blank begins other whole is takes rest) r = Chunk blanks source item blank begins other whole is takes (further rest r)
 
 -- the source of a chunk that was written behind blanks
-written_source : (blanks source : Text) → IsBlank blanks → HasNoLeadingBlank source → IsSource (blanks ++ doubled 33 source) source
+pub written_source : (blanks source : Text) → IsBlank blanks → HasNoLeadingBlank source → IsSource (blanks ++ doubled 33 source) source
 written_source blanks source blank begins = sym (drop_blanks-append blanks (doubled 33 source) blank ∙ drop_blanks-doubled source begins)
 
 -- chunks up to the end of a text

@@ -16,6 +16,7 @@ ghost use Rattle.file_model.specs.Written.{definition_text, class_side_text, com
 ghost use Rattle.file_model.specs.Fileable.{reading_of};
 ghost use Rattle.file_model.specs.Reading.{IsKernelOf, IsImageOf};
 ghost use Rattle.file_rereading.specs.Rereading.{IsWithinLimits, IsBeginning, KernelFirst, with_heads};
+ghost use Rattle.file_rereading.specs.Least.{object_alone, least_prelude};
 ghost use Rattle.file_rereading.specs.Trees.{definition_tree, definition_of, class_side_tree, comment_tree, opening_tree, opening_text};
 
 /// The chunks by which the text of an image defines its classes and opens its runs of methods spell their trees in the
@@ -68,4 +69,12 @@ pub fn reads_each_image_again()
 /// all else.
 pub fn writes_the_same_again()
     ensures { (image : ImageOf Text) → file_of (with_heads image) ≡ file_of image }
+{}
+
+/// The conditions of these laws can be met: the text that defines `Object` alone makes a valid kernel that has `Object` and
+/// no do-its.
+pub fn holds_of_some_kernel()
+    ensures kernel { IsKernelOf Second least_prelude object_alone }
+    ensures beginning { IsBeginning object_alone }
+    ensures valid { IsValid text_words (reading_of Second object_alone) object_alone }
 {}

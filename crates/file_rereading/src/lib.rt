@@ -5,6 +5,6 @@
 mod laws;
 
 pub use laws::{
-    keeps_the_kernel_first, reads_each_image_again, reads_what_was_written, says_what_was_written,
-    spells_definitions, writes_the_same_again,
+    holds_of_some_kernel, keeps_the_kernel_first, reads_each_image_again, reads_what_was_written,
+    says_what_was_written, spells_definitions, writes_the_same_again,
 };
