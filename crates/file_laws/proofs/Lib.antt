@@ -1,6 +1,6 @@
 mod Braces
 mod Sources
-mod Sound
+pub mod Sound
 pub mod Refused
 pub mod Settled
 pub mod Moves
@@ -8,11 +8,11 @@ pub mod Redefined
 pub mod Repeats
 pub mod Defined
 mod Named
-mod Methods
+pub mod Methods
 mod Chains
 mod KernelOrder
 mod KernelPart
 mod Beside
 mod Kept
-mod Whole
+pub mod Whole
 mod Plain

@@ -82,7 +82,7 @@ differ_last {X} {Y} f (z ∷ zs) x d new = ((λ j e. by j (end_or_before (map f 
     by j (inr e) = new 0 (ap Some (sym e))
 
 -- a method of a class, a side and a selector has this signature
-beq_equal : (a b : Bool) → beq a b ≡ true → a ≡ b
+pub beq_equal : (a b : Bool) → beq a b ≡ true → a ≡ b
 beq_equal true true h = refl
 beq_equal true false h = absurd (true≢false (sym h))
 beq_equal false true h = absurd (true≢false (sym h))

@@ -204,7 +204,7 @@ module _ {N : Type 0} (is_same : N → N → Bool) (reflexive : (n : N) → is_s
       by false k rest = ap (λ zs. x ∷ zs) (rest k)
 
   -- the one class of a name is changed
-  changed_at : (n : N) (f : ClassOf N → ClassOf N) (front : List (ClassOf N)) (c : ClassOf N) (rest : List (ClassOf N)) → stands_in is_same n front ≡ false → n ≡ c.name → stands_in is_same n rest ≡ false
+  pub changed_at : (n : N) (f : ClassOf N → ClassOf N) (front : List (ClassOf N)) (c : ClassOf N) (rest : List (ClassOf N)) → stands_in is_same n front ≡ false → n ≡ c.name → stands_in is_same n rest ≡ false
       → changed_class is_same n f (front ++ c ∷ rest) ≡ front ++ f c ∷ rest
   changed_at n f [] c rest a e b =
       ap (λ (t : Bool). (if t then f c else c) ∷ changed_class is_same n f rest) (ap (is_same n) (sym e) ∙ reflexive n) ∙ ap (λ zs. f c ∷ zs) (unchanged n f rest b)

@@ -28,7 +28,7 @@ All-last P [] x all h = (h, tt)
 All-last P (y ∷ ys) x all h = (all.0, All-last P ys x all.1 h)
 
 -- the first item that passes stands behind ones that fail
-find_behind : {X : Type 0} (p : X → Bool) (pre : List X) (x : X) (post : List X) → AllByRecursion (λ y. p y ≡ false) pre → p x ≡ true → find p (pre ++ x ∷ post) ≡ Some x
+pub find_behind : {X : Type 0} (p : X → Bool) (pre : List X) (x : X) (post : List X) → AllByRecursion (λ y. p y ≡ false) pre → p x ≡ true → find p (pre ++ x ∷ post) ≡ Some x
 find_behind p [] x post fails h = ap (λ b. cond b (Some x) (find p post)) h
 find_behind p (y ∷ pre) x post fails h = ap (λ b. cond b (Some y) (find p (pre ++ x ∷ post))) fails.0 ∙ find_behind p pre x post fails.1 h
 
@@ -74,7 +74,7 @@ module _ {N : Type 0} (is_same : N → N → Bool) (reflexive : (n : N) → is_s
       ∙ ap (settle_behind is_same k (taken ++ c ∷ [])) (without_behind (can_follow is_same taken) pre c post held follows)
 
   -- classes are taken in turn
-  in_turn : (k : ℕ) (taken left back : List (ClassOf N)) → IsTakenInTurn is_same taken left → settle_behind is_same (length left + k) taken (left ++ back) ≡ settle_behind is_same k (taken ++ left) back
+  pub in_turn : (k : ℕ) (taken left back : List (ClassOf N)) → IsTakenInTurn is_same taken left → settle_behind is_same (length left + k) taken (left ++ back) ≡ settle_behind is_same k (taken ++ left) back
   in_turn k taken [] back turn =
       let none : 0 + k ≡ k = omega arith in
       ap (λ n. settle_behind is_same n taken back) none ∙ ap (λ ys. settle_behind is_same k ys back) (sym (append-nil taken))

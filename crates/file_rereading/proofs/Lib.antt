@@ -1,0 +1,17 @@
+mod Readings
+mod Lines
+mod Definitions
+mod Names
+mod Says
+mod DoIts
+mod Fresh
+mod Methods
+mod Prefixes
+mod Classes
+mod Again
+mod Least
+mod Same
+mod Kept
+mod Marked
+mod Stays
+mod Limits
