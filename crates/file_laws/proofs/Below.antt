@@ -1,10 +1,10 @@
 -- The classes below a class, in any order and in one pass.
-use Rattle.std.proofs.Common.{◌≡◌, ◌⊎◌, inl, inr, ℕ, zero, suc, Bool, true, false, cond, List, [], ◌∷◌, ◌++◌, length, filter, find, Option, Some, None, slice_get, refl, sym, ap, ◌∙◌, true≢false}
+use Rattle.std.proofs.Common.{◌≡◌, ◌⊎◌, inl, inr, ℕ, zero, suc, Bool, true, false, cond, List, [], ◌∷◌, ◌++◌, length, filter, find, Option, Some, None, slice_get, refl, sym, ap, ◌∙◌, true≢false, subst}
 use Rattle.std.specs.Prelude.{◌||◌, ◌&&◌, if◌then◌else◌, is_some}
 use Rattle.std.specs.List.{list_any, flat_map, AllByRecursion}
 use Rattle.std.specs.Option.{option_map_or}
 use Rattle.std.specs.List.Sorted.{IsPermutation}
-use Rattle.std.proofs.lemmas.List.Sorted.{list_any-IsPermutation, length_permutation, Contains-permutation}
+use Rattle.std.proofs.lemmas.List.Sorted.{list_any-IsPermutation, length_permutation, Contains-permutation, IsPermutation-refl, IsPermutation-sym}
 use Rattle.std.proofs.lemmas.List.Folds.{list_any-append}
 use Rattle.image_model.specs.Image.{ClassOf}
 use Rattle.image_model.specs.Upwards.{upwards}
@@ -12,13 +12,16 @@ use Rattle.image_model.specs.Chain.{class_named, class_of_name, superclass_of, c
 use Rattle.image_model.specs.Means.{VariableKind, variables}
 use Rattle.image_model.specs.Valid.{HasNoRepeat, class_names}
 use Rattle.image_model.proofs.Ends.{contains-place, place-contains, find-place}
-use Rattle.file_model.specs.Hierarchy.{stands_in, has_repeat, chain_variables, tree_below, stands_twice}
+use Rattle.file_model.specs.Hierarchy.{has_class, settled, stands_in, has_repeat, chain_variables, tree_below, stands_twice}
+use Rattle.file_model.specs.Changes.{DefinitionOf}
+use Rattle.file_model.specs.Refusals.{lacks_superclass, makes_cycle}
+use Rattle.file_model.specs.Applied.{with_definition, defined}
 use Rattle.file_laws.specs.Settling.{IsTakenInTurn, AreInOrder}
 use Rattle.file_laws.proofs.Settled.{turn_of}
 use Rattle.file_laws.proofs.Moves.{Inherits, stands_either, stands_alone}
-use Rattle.file_laws.proofs.Redefined.{is_below, inherits, below_itself, named_at, places}
+use Rattle.file_laws.proofs.Redefined.{is_below, inherits, below_itself, named_at, places, again_settled}
 use Rattle.file_laws.proofs.Repeats.{no_repeat_moved}
-use Rattle.file_laws.proofs.Defined.{has_stands}
+use Rattle.file_laws.proofs.Defined.{has_stands, root_stays, again_of, defined_leaves}
 
 -- what is found passes
 find_passes : {X : Type 0} (p : X → Bool) (xs : List X) (x : X) → find p xs ≡ Some x → p x ≡ true
@@ -189,3 +192,25 @@ module _ {N : Type 0} (is_same : N → N → Bool) (reflexive : (n : N) → is_s
             itself = λ e. ap (λ s. is_below is_same classes n s) (sym (equal n x.name e)) ∙ below_itself is_same reflexive equal classes n o.before o.distinct place.0 x place.1 (equal n x.name e);
             others = inh;
           }
+
+  -- a definition that is not refused gives the classes with it in another order
+  defined_permutes : (classes : List (ClassOf N)) (d : DefinitionOf N) (kernel : Bool) → AreInOrder classes → lacks_superclass is_same classes d ≡ false → makes_cycle is_same classes d ≡ false
+      → IsPermutation (with_definition is_same kernel d classes) (defined is_same kernel d classes)
+  defined_permutes classes d kernel o lacks cycle = by (has_class is_same classes d.name) refl d.superclass refl
+    where
+      unmoved : defined is_same kernel d classes ≡ with_definition is_same kernel d classes → IsPermutation (with_definition is_same kernel d classes) (defined is_same kernel d classes)
+      unmoved e = subst (λ (ys : List (ClassOf N)). IsPermutation (with_definition is_same kernel d classes) ys) (sym e) (IsPermutation-refl (with_definition is_same kernel d classes))
+
+      by : (b : Bool) → has_class is_same classes d.name ≡ b → (s : Option N) → d.superclass ≡ s → IsPermutation (with_definition is_same kernel d classes) (defined is_same kernel d classes)
+      by true there None e = unmoved (root_stays is_same reflexive equal classes d kernel o.distinct there o.before e)
+      by true there (Some p) e = (again_settled is_same reflexive equal classes d p kernel (again_of is_same reflexive equal classes d p o there e lacks cycle)).same
+      by false fresh s e = unmoved (ap (λ (b : Bool). if b then settled is_same (with_definition is_same kernel d classes) else with_definition is_same kernel d classes) fresh)
+
+  -- so the same variables stand twice
+  pub defined_twice : (classes : List (ClassOf N)) (d : DefinitionOf N) (kernel : Bool) → AreInOrder classes → lacks_superclass is_same classes d ≡ false → makes_cycle is_same classes d ≡ false
+      → (kind : VariableKind) (n : N) → stands_twice is_same (with_definition is_same kernel d classes) kind n ≡ stands_twice is_same (defined is_same kernel d classes) kind n
+  defined_twice classes d kernel o lacks cycle =
+      let same = defined_permutes classes d kernel o lacks cycle in
+      let leaves = defined_leaves is_same reflexive equal classes d kernel o lacks cycle in
+      twice_moved (with_definition is_same kernel d classes) (defined is_same kernel d classes) same
+      (no_repeat_moved is_same reflexive equal (defined is_same kernel d classes) (with_definition is_same kernel d classes) (IsPermutation-sym (with_definition is_same kernel d classes) (defined is_same kernel d classes) same) leaves.order.distinct)

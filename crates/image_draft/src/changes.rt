@@ -114,11 +114,11 @@ pub fn change_class_side(
     name: NameId,
     names: Ids,
 ) -> Result<Option<ImageCause>, Memory>
-    requires { NamesDiffer classes.old.items }
+    requires { AreOrdered classes.old.items }
     ensures cause { IfOk result (λ cause. told cause ≡ first_cause (class_side_refusals nat_eq classes.old.items name names (with_class_side nat_eq name names classes.old.items))) }
     ensures some { IfOk result (λ cause. is_some cause ≡ is_some (first_cause (class_side_refusals nat_eq classes.old.items name names (with_class_side nat_eq name names classes.old.items)))) }
     ensures changed { IfOk result (λ cause. IfNone cause (classes.new.items ≡ with_class_side nat_eq name names classes.old.items)) }
-    ensures order { AreOrdered classes.old.items → AreOrdered classes.new.items }
+    ensures order { AreOrdered classes.new.items }
     ensures names { (n : ℕ) → has_class nat_eq classes.new.items n ≡ has_class nat_eq classes.old.items n }
 {
     let refusal = early_side_refusal(classes, name, names.as_slice());

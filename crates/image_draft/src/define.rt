@@ -1,11 +1,11 @@
 // Definitions of classes.
-ghost use Rattle.std.specs.Prelude.{◌≡◌, ℕ, ◌<◌, ◌∷◌, ◌++◌, [], true, if◌then◌else◌, is_some, slice_get, slice_set, vec_len, nat_eq, IfNone, IfSome, IfOk, OnOk};
+ghost use Rattle.std.specs.Prelude.{◌≡◌, ℕ, ◌<◌, ◌∷◌, ◌++◌, [], None, true, if◌then◌else◌, is_some, slice_get, slice_set, vec_len, nat_eq, IfNone, IfSome, IfOk, OnOk};
 ghost use Rattle.file_model.specs.Causes.{first_cause};
 ghost use Rattle.file_model.specs.Hierarchy as hierarchy;
 ghost use Rattle.file_model.specs.Refusals.{definition_refusals};
 ghost use Rattle.file_model.specs.Applied.{class_again, new_class, with_definition, defined};
 ghost use Rattle.file_laws.specs.Settling as settling;
-ghost use Rattle.image_draft.specs.Early.{told};
+ghost use Rattle.image_draft.specs.Early.{told, early_refusals};
 ghost use Rattle.image_draft.specs.Names.{NamesDiffer, AreOrdered};
 
 use crate::changes::class_place;
@@ -80,30 +80,6 @@ fn put_definition(
     }
 }
 
-/// Defines a class, for the first time or again, or tells why it can not be defined; then, and on want of memory, it may
-/// be defined too. The classes are not put in order.
-pub fn change_definition(
-    alloc: Global,
-    classes: &mut Vec<ClassDraft>,
-    kernel: bool,
-    definition: Definition,
-) -> Result<Option<ImageCause>, Memory>
-    requires { NamesDiffer classes.old.items }
-    ensures cause { IfOk result (λ cause. told cause ≡ first_cause (definition_refusals nat_eq classes.old.items definition (with_definition nat_eq kernel definition classes.old.items))) }
-    ensures some { IfOk result (λ cause. is_some cause ≡ is_some (first_cause (definition_refusals nat_eq classes.old.items definition (with_definition nat_eq kernel definition classes.old.items)))) }
-    ensures changed { IfOk result (λ cause. IfNone cause (classes.new.items ≡ with_definition nat_eq kernel definition classes.old.items)) }
-{
-    let refusal = early_refusal(classes, &definition);
-    if refusal.is_some() {
-        return Ok(refusal);
-    }
-    let name = name_of(&definition);
-    let repeats = repeats_shared(&definition);
-    let too_many = is_one_class_too_many(classes, name);
-    put_definition(alloc, classes, kernel, definition)?;
-    late_refusal(alloc, classes, name, repeats, too_many)
-}
-
 /// Whether a class variable stands twice in the list of a definition.
 fn repeats_shared(definition: &Definition) -> bool
     ensures { result ≡ hierarchy.has_repeat nat_eq definition.now.shared }
@@ -143,8 +119,8 @@ fn in_order(
     }
 }
 
-/// Defines a class, for the first time or again, and puts the classes in order, or tells why it can not be defined; then,
-/// and on want of memory, no class is left.
+/// Defines a class, for the first time or again, and puts the classes in order, or tells why it can not be defined; then
+/// it may be defined too, and on want of memory no class may be left.
 pub fn define_in_order(
     alloc: Global,
     classes: &mut Vec<ClassDraft>,
@@ -158,13 +134,35 @@ pub fn define_in_order(
     ensures order { AreOrdered classes.new.items }
     ensures kept { IfOk result (λ cause. IfNone cause ((n : ℕ) → hierarchy.has_class nat_eq classes.old.items n ≡ true → hierarchy.has_class nat_eq classes.new.items n ≡ true)) }
 {
+    if let Some(cause) = early_refusal(classes, &definition) {
+        return Ok(Some(cause));
+    }
+    let name = name_of(&definition);
+    let repeats = repeats_shared(&definition);
+    let too_many = is_one_class_too_many(classes, name);
+    put_in_order(alloc, classes, kernel, definition)?;
+    late_refusal(alloc, classes, name, repeats, too_many)
+}
+
+/// Puts the class of a definition that the classes before it do not refuse in the place of the former one, or last, and
+/// puts the classes in order; on want of memory no class is left.
+fn put_in_order(
+    alloc: Global,
+    classes: &mut Vec<ClassDraft>,
+    kernel: bool,
+    definition: Definition,
+) -> Result<(), Memory>
+    requires order { AreOrdered classes.old.items }
+    requires free { first_cause (early_refusals classes.old.items definition) ≡ None }
+    ensures changed { OnOk result (classes.new.items ≡ defined nat_eq kernel definition classes.old.items) }
+    ensures order { AreOrdered classes.new.items }
+    ensures kept { OnOk result ((n : ℕ) → hierarchy.has_class nat_eq classes.old.items n ≡ true → hierarchy.has_class nat_eq classes.new.items n ≡ true) }
+{
     let mut items = take_all(alloc, classes);
     let name = name_of(&definition);
     let superclass = superclass_of(&definition);
     let was_there = has_class(&items, name);
-    if let Some(cause) = change_definition(alloc, &mut items, kernel, definition)? {
-        return Ok(Some(cause));
-    }
+    put_definition(alloc, &mut items, kernel, definition)?;
     *classes = in_order(alloc, items, was_there, name, superclass)?;
-    Ok(None)
+    Ok(())
 }

@@ -20,7 +20,6 @@ pub use changes::{
 };
 pub use class_draft::{ClassDraft, Definition, has_class};
 pub use classes::Classes;
-pub use define::change_definition;
 pub use draft::Draft;
 pub use method_change::put_method;
 pub use method_draft::{MethodDraft, has_method, method_place};

@@ -8,6 +8,7 @@ ghost use Rattle.file_model.specs.Causes as causes;
 ghost use Rattle.file_model.specs.Hierarchy as hierarchy;
 ghost use Rattle.file_model.specs.Hierarchy.{stands_twice};
 ghost use Rattle.image_model.specs.Means.{of_instance, of_class_side};
+ghost use Rattle.image_draft.specs.Names.{AreOrdered};
 ghost use Rattle.image_draft.specs.Early.{told, early_refusals, late_refusals, early_side_refusals, late_side_refusals};
 
 use crate::class_draft::{ClassDraft, Definition, has_class, has_subclass, is_kernel_class};
@@ -121,6 +122,7 @@ pub fn early_side_refusal(
 
 /// Whether an instance variable or a class-instance variable stands twice on the chain of a class or of one below it.
 fn repeats_on_chains(alloc: Global, new: &[ClassDraft], name: NameId) -> Result<bool, Memory>
+    requires { AreOrdered new.now }
     ensures { IfOk result (λ found. found ≡ (stands_twice nat_eq new.now of_instance name || stands_twice nat_eq new.now of_class_side name)) }
 {
     if stands_twice(alloc, new, ChainKind::Instance, name)? {
@@ -138,6 +140,7 @@ pub fn late_refusal(
     repeats: bool,
     too_many: bool,
 ) -> Result<Option<ImageCause>, Memory>
+    requires { AreOrdered new.now }
     ensures cause { IfOk result (λ cause. told cause ≡ first_cause (late_refusals new.now name repeats too_many)) }
     ensures some { IfOk result (λ cause. is_some cause ≡ is_some (first_cause (late_refusals new.now name repeats too_many))) }
 {
@@ -156,6 +159,7 @@ pub fn late_side_refusal(
     new: &[ClassDraft],
     name: NameId,
 ) -> Result<Option<ImageCause>, Memory>
+    requires { AreOrdered new.now }
     ensures cause { IfOk result (λ cause. told cause ≡ first_cause (late_side_refusals new.now name)) }
     ensures some { IfOk result (λ cause. is_some cause ≡ is_some (first_cause (late_side_refusals new.now name))) }
 {
