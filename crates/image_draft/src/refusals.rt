@@ -169,36 +169,6 @@ pub fn late_side_refusal(
     Ok(None)
 }
 
-/// Why a run of methods is refused, by the name of its class.
-pub fn run_refusal(classes: &[ClassDraft], class: NameId) -> Option<ImageCause>
-    ensures { told result ≡ first_cause (when (not (hierarchy.has_class nat_eq classes.now class)) causes.UnknownClass ∷ []) }
-{
-    if has_class(classes, class) {
-        None
-    } else {
-        Some(ImageCause::UnknownClass)
-    }
-}
-
-/// Why the removal of a method is refused.
-pub fn removal_refusal(
-    classes: &[ClassDraft],
-    methods: &[MethodDraft],
-    class: NameId,
-    meta: bool,
-    selector: NameId,
-) -> Option<ImageCause>
-    ensures { told result ≡ first_cause (when (not (hierarchy.has_class nat_eq classes.now class)) causes.UnknownClass ∷ when (refusals.is_kernel_method nat_eq (map entry_of methods.now) class meta selector) causes.KernelReplaced ∷ []) }
-{
-    if !has_class(classes, class) {
-        return Some(ImageCause::UnknownClass);
-    }
-    if is_kernel_method(methods, class, meta, selector) {
-        return Some(ImageCause::KernelReplaced);
-    }
-    None
-}
-
 /// Why a method is refused, by its class, its side and its selector.
 pub fn method_refusal(
     methods: &[MethodDraft],
@@ -206,7 +176,8 @@ pub fn method_refusal(
     meta: bool,
     selector: NameId,
 ) -> Option<ImageCause>
-    ensures { told result ≡ first_cause (when (refusals.is_kernel_method nat_eq (map entry_of methods.now) class meta selector) causes.KernelReplaced ∷ when (refusals.is_one_method_too_many nat_eq (map entry_of methods.now) class meta selector) causes.TooMany ∷ []) }
+    ensures cause { told result ≡ first_cause (when (refusals.is_kernel_method nat_eq (map entry_of methods.now) class meta selector) causes.KernelReplaced ∷ when (refusals.is_one_method_too_many nat_eq (map entry_of methods.now) class meta selector) causes.TooMany ∷ []) }
+    ensures some { is_some result ≡ is_some (first_cause (when (refusals.is_kernel_method nat_eq (map entry_of methods.now) class meta selector) causes.KernelReplaced ∷ when (refusals.is_one_method_too_many nat_eq (map entry_of methods.now) class meta selector) causes.TooMany ∷ [])) }
 {
     if is_kernel_method(methods, class, meta, selector) {
         return Some(ImageCause::KernelReplaced);
