@@ -1,10 +1,10 @@
 -- How classes stand once they are changed.
-use Rattle.std.proofs.Common.{◌≡◌, ℕ, zero, suc, Bool, true, false, not, cond, List, [], ◌∷◌, filter, find, Option, Some, None, nat_eq, refl, sym, ap, ◌∙◌, true≢false}
+use Rattle.std.proofs.Common.{◌≡◌, ℕ, zero, suc, Bool, true, false, not, cond, List, [], ◌∷◌, filter, find, Some, None, nat_eq, refl, sym, ap, ◌∙◌, true≢false}
 use Rattle.std.specs.Prelude.{◌||◌, if◌then◌else◌, is_some}
 use Rattle.std.specs.List.{list_any, AllByRecursion}
 use Rattle.image_model.specs.Image.{ClassOf}
 use Rattle.image_model.specs.Replaced.{KeepsHierarchy}
-use Rattle.image_model.specs.Valid.{HasNoRepeat, class_names, SuperclassesStandBefore}
+use Rattle.image_model.specs.Valid.{HasNoRepeat, class_names}
 use Rattle.image_model.proofs.Kept.{SuperclassesStandBefore-kept}
 use Rattle.file_model.specs.Causes.{Condition, when, first_cause, KernelReplaced, UnknownSuperclass, Cycle, VariableTwice, TooMany}
 use Rattle.file_model.specs.Changes.{DefinitionOf}

@@ -9,7 +9,8 @@ ghost use Rattle.file_model.specs.Hierarchy.{stands_in};
 ghost use Rattle.image_draft.specs.Kinds.{kind_of};
 ghost use Rattle.image_draft.specs.Names.{AreOrdered};
 
-use crate::class_draft::{ClassDraft, class_named};
+use crate::class_draft::ClassDraft;
+use crate::class_list::ClassList;
 use rb_base::{Memory, NameId};
 use std::alloc::Global;
 
@@ -21,21 +22,21 @@ pub enum ChainKind {
 }
 
 /// The class of a name, if there is a name.
-fn class_of_name(classes: &[ClassDraft], name: Option<NameId>) -> Option<&ClassDraft>
+fn class_of_name(classes: &ClassList, name: Option<NameId>) -> Option<&ClassDraft>
     ensures { option_copied result ≡ class_of_name nat_eq classes.now name }
 {
-    class_named(classes, name?)
+    classes.find(name?)
 }
 
 /// The superclass of a class.
-fn superclass_of<'a>(classes: &'a [ClassDraft], class: &ClassDraft) -> Option<&'a ClassDraft>
+fn superclass_of<'a>(classes: &'a ClassList, class: &ClassDraft) -> Option<&'a ClassDraft>
     ensures { option_copied result ≡ superclass_of nat_eq classes.now class.now }
 {
     class_of_name(classes, class.superclass)
 }
 
 /// Whether a class of a name is this class or stands above it.
-fn is_on_chain(classes: &[ClassDraft], name: NameId, from: Option<&ClassDraft>) -> bool
+fn is_on_chain(classes: &ClassList, name: NameId, from: Option<&ClassDraft>) -> bool
     ensures { result ≡ stands_in nat_eq name (chain_from nat_eq classes.now (option_copied from.entry)) }
 {
     let mut at = from;
@@ -54,7 +55,7 @@ fn is_on_chain(classes: &[ClassDraft], name: NameId, from: Option<&ClassDraft>) 
 }
 
 /// Whether a class of a name is the class of another name or stands above it.
-pub fn stands_above(classes: &[ClassDraft], name: NameId, from: Option<NameId>) -> bool
+pub fn stands_above(classes: &ClassList, name: NameId, from: Option<NameId>) -> bool
     ensures { result ≡ stands_in nat_eq name (chain nat_eq classes.now from) }
 {
     is_on_chain(classes, name, class_of_name(classes, from))
@@ -73,7 +74,7 @@ fn variables(class: &ClassDraft, kind: ChainKind) -> &[NameId]
 /// The variables of a kind on the chain of a class.
 fn chain_variables(
     alloc: Global,
-    classes: &[ClassDraft],
+    classes: &ClassList,
     kind: ChainKind,
     class: &ClassDraft,
 ) -> Result<Vec<NameId>, Memory>
@@ -117,7 +118,7 @@ pub fn has_repeat(names: &[NameId]) -> bool
 /// Whether a variable of a kind stands twice on the chain of a class.
 fn repeats_on_chain(
     alloc: Global,
-    classes: &[ClassDraft],
+    classes: &ClassList,
     kind: ChainKind,
     class: &ClassDraft,
 ) -> Result<bool, Memory>
@@ -141,7 +142,7 @@ fn is_under(class: &ClassDraft, names: &[NameId]) -> bool
 /// before its subclasses, one pass finds those below.
 pub fn stands_twice(
     alloc: Global,
-    classes: &[ClassDraft],
+    classes: &ClassList,
     kind: ChainKind,
     name: NameId,
 ) -> Result<bool, Memory>
@@ -149,7 +150,7 @@ pub fn stands_twice(
     ensures { IfOk result (λ found. found ≡ hierarchy.stands_twice nat_eq classes.now (kind_of kind) name) }
 {
     let mut below = Vec::new(alloc);
-    let mut rest = classes;
+    let mut rest = classes.as_slice();
     while let Some((class, others)) = rest.split_first() {
         if name == class.name || is_under(class, &below) {
             if repeats_on_chain(alloc, classes, kind, class)? {
