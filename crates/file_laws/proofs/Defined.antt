@@ -274,7 +274,7 @@ module _ {N : Type 0} (is_same : N → N → Bool) (reflexive : (n : N) → is_s
   not_there false h = absurd (true≢false h)
 
   -- what is known of a definition that is not refused
-  again_of : (classes : List (ClassOf N)) (d : DefinitionOf N) (p : N) → AreInOrder classes → has_class is_same classes d.name ≡ true → d.superclass ≡ Some p → lacks_superclass is_same classes d ≡ false → makes_cycle is_same classes d ≡ false
+  pub again_of : (classes : List (ClassOf N)) (d : DefinitionOf N) (p : N) → AreInOrder classes → has_class is_same classes d.name ≡ true → d.superclass ≡ Some p → lacks_superclass is_same classes d ≡ false → makes_cycle is_same classes d ≡ false
       → IsAgain is_same classes d p
   again_of classes d p o there under lacks cycle = record {
     before = o.before;

@@ -7,6 +7,7 @@ pub mod Moves
 pub mod Redefined
 pub mod Repeats
 pub mod Defined
+pub mod Below
 mod Named
 pub mod Methods
 mod Chains

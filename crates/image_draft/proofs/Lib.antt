@@ -5,6 +5,7 @@ mod Places
 pub mod Differ
 pub mod MethodPlaces
 mod Ordered
+mod ClassPlaces
 pub mod MethodsDiffer
 pub mod MethodClasses
 pub mod Drafts

@@ -3,4 +3,5 @@ pub mod Entries
 pub mod MethodCode
 pub mod Early
 pub mod Names
+pub mod Table
 pub mod Drafted
