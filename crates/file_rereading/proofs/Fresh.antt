@@ -1,4 +1,4 @@
--- What stands in front of one item of a list in which nothing stands twice, and limits.
+-- What stands in front of one item of a list in which nothing stands twice, and tests of all items of a list.
 use Rattle.std.proofs.Common.{◌≡◌, suc, Bool, true, false, cond, List, [], ◌∷◌, ◌++◌, length, map, find, filter, Some, None, slice_get, refl, ap, sym, ◌∙◌, arith, true≢false}
 use Rattle.std.specs.List.{list_any, AllByRecursion}
 use Rattle.std.specs.Prelude.{◌==◌, ◌||◌}
