@@ -19,7 +19,7 @@ use Rattle.file_model.specs.Filing.{Text, Filing, Item, Blank, DoItChunk, Method
 use Rattle.file_model.specs.Reading.{IsItem, Empty, DoItRead, DoItFault, MethodRead, MethodFault, Takes, TakesAll, Over, Taken, ReadsText, IsImageOf}
 
 -- a string of blanks has no words
-no_words : (s : List ℕ) → list_all is_blank s ≡ true → filter (λ (w : List ℕ). not (length w == 0)) (slice_split is_blank s) ≡ []
+pub no_words : (s : List ℕ) → list_all is_blank s ≡ true → filter (λ (w : List ℕ). not (length w == 0)) (slice_split is_blank s) ≡ []
 no_words [] h = refl
 no_words (b ∷ s) h = by (is_blank b) h (no_words s)
   where

@@ -25,18 +25,18 @@ use Rattle.file_laws.proofs.Sound.{unless_ok}
 use Rattle.file_laws.proofs.Moves.{text_equal}
 
 -- nothing stands twice, by recursion
-abbrev Differ : {Y : Type 0} → List Y → Type 0
+abbrev pub Differ : {Y : Type 0} → List Y → Type 0
 Differ [] = Unit {0}
 Differ (y ∷ ys) = ((j : ℕ) → slice_get ys j ≡ Some y → ⊥) × Differ ys
 
-differ_of : {Y : Type 0} (ys : List Y) → HasNoRepeat ys → Differ ys
+pub differ_of : {Y : Type 0} (ys : List Y) → HasNoRepeat ys → Differ ys
 differ_of [] h = tt
 differ_of (y ∷ ys) h = (
   (λ j e. let twice : 0 ≡ suc j = h 0 (suc j) y refl e in omega (arith, twice)),
   differ_of ys (λ j k x a b. let same : suc j ≡ suc k = h (suc j) (suc k) x a b in omega (arith, same)),
 )
 
-no_repeat_of : {Y : Type 0} (ys : List Y) → Differ ys → HasNoRepeat ys
+pub no_repeat_of : {Y : Type 0} (ys : List Y) → Differ ys → HasNoRepeat ys
 no_repeat_of [] d j k x a b = absurd (cc)
 no_repeat_of (y ∷ ys) d zero zero x a b = refl
 no_repeat_of (y ∷ ys) d zero (suc k) x a b = let same : y ≡ x = cc in absurd (d.0 k (b ∙ ap Some (sym same)))
@@ -107,7 +107,7 @@ is_its c meta s m e =
     ∙ ap (λ b. b && text_eq s m.tree.selector) (beq_same meta)
     ∙ ap (text_eq s) selector ∙ text_eq-refl s
 
-its_signature : (c : Text) (meta : Bool) (s : Text) (m : EntryOf Text) → is_method text_eq c meta s m ≡ true → (Some c, meta, s) ≡ signature m
+pub its_signature : (c : Text) (meta : Bool) (s : Text) (m : EntryOf Text) → is_method text_eq c meta s m ≡ true → (Some c, meta, s) ≡ signature m
 its_signature c meta s m h =
     let parts = and_parts (option_map_or (text_eq c) m.class false && beq meta m.meta) (text_eq s m.tree.selector) h in
     let first = and_parts (option_map_or (text_eq c) m.class false) (beq meta m.meta) parts.0 in
@@ -142,14 +142,14 @@ same_signatures r source m (e ∷ es) = by (is_method text_eq r.class r.meta m.s
 abbrev pub IsOnce : ImageOf Text → Type 0
 IsOnce i = Differ (map signature i.methods)
 
-once_changed : (c : ChangeOf Text) (i j : ImageOf Text) → changed text_eq false c i ≡ Ok j → IsOnce i → IsOnce j
+pub once_changed : (c : ChangeOf Text) (i j : ImageOf Text) → changed text_eq false c i ≡ Ok j → IsOnce i → IsOnce j
 once_changed (Define x) i j e h = subst IsOnce (unless_ok (definition_refusals text_eq i.classes x (with_definition text_eq false x i.classes)) (record i { classes = defined text_eq false x i.classes }) j e) h
 once_changed (Comment n t) i j e h = subst IsOnce (unless_ok (comment_refusals text_eq i.classes n) (record i { classes = with_comment text_eq n t i.classes }) j e) h
 once_changed (SetClassSide n ns) i j e h = subst IsOnce (unless_ok (class_side_refusals text_eq i.classes n ns (with_class_side text_eq n ns i.classes)) (record i { classes = with_class_side text_eq n ns i.classes }) j e) h
 once_changed (RemoveMethod c meta s) i j e h = subst IsOnce (unless_ok (removal_refusals text_eq i c meta s) (without_method text_eq c meta s i) j e) (differ_filter signature (λ m. not (is_method text_eq c meta s m)) i.methods h)
 once_changed (RemoveClass n) i j e h = subst IsOnce (unless_ok (class_removal_refusals text_eq i.classes n) (without_class text_eq n i) j e) (differ_filter signature (λ m. not (is_of_class text_eq n m)) i.methods h)
 
-once_added : (r : RunOf Text) (source : Text) (m : MethodOf Text) (i j : ImageOf Text) → method_added text_eq false r source m i ≡ Ok j → IsOnce i → IsOnce j
+pub once_added : (r : RunOf Text) (source : Text) (m : MethodOf Text) (i j : ImageOf Text) → method_added text_eq false r source m i ≡ Ok j → IsOnce i → IsOnce j
 once_added r source m i j e h =
     subst IsOnce (unless_ok (method_refusals text_eq i.methods r m.selector) (record i { methods = with_method text_eq false r source m i.methods }) j e) (by (has_method text_eq i.methods r.class r.meta m.selector) refl)
   where

@@ -57,7 +57,7 @@ All-last P [] x all h = (h, tt)
 All-last P (y ∷ ys) x all h = (all.0, All-last P ys x all.1 h)
 
 -- of items some of which are replaced by one
-All-replaced : {X : Type 0} (P : X → Type 0) (p : X → Bool) (new : X) (xs : List X) → AllByRecursion P xs → P new → AllByRecursion P (map (λ x. if p x then new else x) xs)
+pub All-replaced : {X : Type 0} (P : X → Type 0) (p : X → Bool) (new : X) (xs : List X) → AllByRecursion P xs → P new → AllByRecursion P (map (λ x. if p x then new else x) xs)
 All-replaced P p new [] all h = tt
 All-replaced P p new (x ∷ xs) all h = (by (p x), All-replaced P p new xs all.1 h)
   where

@@ -1,11 +1,12 @@
 // Laws of file-outs. Each function does nothing; its contract is the law.
-ghost use Rattle.std.specs.Prelude.{◌≡◌, map, ◌∷◌, ◌++◌, List, Bool, true, false, Some, IsTrue};
+ghost use Rattle.std.specs.Prelude.{◌≡◌, map, [], ◌∷◌, ◌++◌, List, Bool, true, false, Some, IsTrue};
 ghost use Rattle.std.specs.List.{AllByRecursion};
 ghost use Rattle.token_model.specs.declared.kind.Dialect.{Dialect};
 ghost use Rattle.token_model.specs.declared.kind.Dialect.TheVariants.{First, Second};
 ghost use Rattle.rb_base.specs.Names.{text_eq};
 ghost use Rattle.image_model.specs.Image.{ImageOf, ClassOf, EntryOf};
-ghost use Rattle.image_model.specs.Valid.{IsFileable, IsUserMethod, IsUserDoIt, SuperclassesStandBefore};
+ghost use Rattle.image_model.specs.Valid.{IsFileable, IsUserMethod, IsUserDoIt, IsValid, SuperclassesStandBefore};
+ghost use Rattle.image_model.specs.Words.{text_words};
 ghost use Rattle.std.specs.List.Sorted.{IsPermutation};
 ghost use Rattle.image_model.specs.Valid.{HasNoRepeat, class_names, signature, GivesNames};
 ghost use Rattle.file_model.specs.Changes.{DefinitionOf};
@@ -75,4 +76,18 @@ pub fn gives_named_classes()
 pub fn gives_methods_once()
     ensures { (dialect : Dialect) (prelude text : Text) (kernel image : ImageOf Text) → IsKernelOf dialect prelude kernel →
         HasNoRepeat (map signature kernel.methods) → IsImageOf dialect prelude text image → HasNoRepeat (map signature image.methods) }
+{}
+
+/// The image of a file-out is valid, where that of the kernel is and no class of the kernel has class-instance variables: a
+/// file-out may say of a class of the kernel that it has none.
+pub fn gives_valid_images()
+    ensures { (dialect : Dialect) (prelude text : Text) (kernel image : ImageOf Text) → IsKernelOf dialect prelude kernel →
+        IsValid text_words (reading_of dialect kernel) kernel → AllByRecursion (λ (c : ClassOf Text). c.class_side ≡ []) kernel.classes →
+        IsImageOf dialect prelude text image → IsValid text_words (reading_of dialect kernel) image }
+{}
+
+/// In the first dialect no class has class-instance variables, of the kernel or of the image of a file-out.
+pub fn gives_plain_classes()
+    ensures kernel { (prelude : Text) (kernel : ImageOf Text) → IsKernelOf First prelude kernel → AllByRecursion (λ (c : ClassOf Text). c.class_side ≡ []) kernel.classes }
+    ensures image { (prelude text : Text) (image : ImageOf Text) → IsImageOf First prelude text image → AllByRecursion (λ (c : ClassOf Text). c.class_side ≡ []) image.classes }
 {}

@@ -5,6 +5,6 @@
 mod laws;
 
 pub use laws::{
-    gives_fileable_images, gives_methods_once, gives_named_classes, keeps_superclasses_first,
-    reads_the_same_with_braces, settles_by_moving,
+    gives_fileable_images, gives_methods_once, gives_named_classes, gives_plain_classes,
+    gives_valid_images, keeps_superclasses_first, reads_the_same_with_braces, settles_by_moving,
 };

@@ -1,3 +1,3 @@
-mod Mapped
+pub mod Mapped
 mod Classes
 mod Changed

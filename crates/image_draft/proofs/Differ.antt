@@ -6,10 +6,11 @@ use Rattle.file_model.specs.Changes.{DefinitionOf}
 use Rattle.file_model.specs.Hierarchy.{has_class}
 use Rattle.file_model.specs.Applied.{changed_class, class_again, new_class, with_definition}
 use Rattle.image_draft.specs.Names.{NamesDiffer}
+use Rattle.image_draft.proofs.Numbers.{nat_itself}
 
 -- classes that are changed and keep their names
 module _ (n : ℕ) (g : ClassOf ℕ → ClassOf ℕ) (keeps : (c : ClassOf ℕ) → (g c).name ≡ c.name) where
-  has_class-changed : (cs : List (ClassOf ℕ)) (m : ℕ) → has_class nat_eq (changed_class nat_eq n g cs) m ≡ has_class nat_eq cs m
+  pub has_class-changed : (cs : List (ClassOf ℕ)) (m : ℕ) → has_class nat_eq (changed_class nat_eq n g cs) m ≡ has_class nat_eq cs m
   has_class-changed [] m = refl
   has_class-changed (x ∷ xs) m = by (nat_eq n x.name) (has_class-changed xs m)
     where
@@ -44,18 +45,11 @@ absent-of : (x : ClassOf ℕ) (xs : List (ClassOf ℕ)) (m : ℕ) → nat_eq m x
 absent-of x xs m e h = ap (λ (b : Bool). is_some (cond b (Some x) (find (λ (c : ClassOf ℕ). nat_eq m c.name) xs))) e ∙ h
 
 -- two numbers that differ do so the other way round
-differ-back : (m n : ℕ) → nat_eq m n ≡ false → nat_eq n m ≡ false
-differ-back m n h = by (eqb_tells n m)
+pub differ_back : (m n : ℕ) → nat_eq m n ≡ false → nat_eq n m ≡ false
+differ_back m n h = by (eqb_tells n m)
   where
-    same : (k : ℕ) → nat_eq k k ≡ true
-    same k = at (eqb_tells k k)
-      where
-        at : ((nat_eq k k ≡ true) × (k ≡ k)) ⊎ ((nat_eq k k ≡ false) × (k ≢ k)) → nat_eq k k ≡ true
-        at (inl t) = t.0
-        at (inr t) = absurd (t.1 refl)
-
     by : ((nat_eq n m ≡ true) × (n ≡ m)) ⊎ ((nat_eq n m ≡ false) × (n ≢ m)) → nat_eq n m ≡ false
-    by (inl t) = absurd (true≢false (sym (same n) ∙ ap (λ (k : ℕ). nat_eq k n) t.1 ∙ h))
+    by (inl t) = absurd (true≢false (sym (nat_itself n) ∙ ap (λ (k : ℕ). nat_eq k n) t.1 ∙ h))
     by (inr t) = t.0
 
 -- one more class of another name
@@ -65,7 +59,7 @@ absent-last (x ∷ xs) c m e h = let both = absent-both x xs m h in absent-of x 
 
 pub NamesDiffer-last : (cs : List (ClassOf ℕ)) (c : ClassOf ℕ) → has_class nat_eq cs c.name ≡ false → NamesDiffer cs → NamesDiffer (cs ++ c ∷ [])
 NamesDiffer-last [] c e h = (refl, tt)
-NamesDiffer-last (x ∷ xs) c e h = let both = absent-both x xs c.name e in (absent-last xs c x.name (differ-back c.name x.name both.0) h.0, NamesDiffer-last xs c both.1 h.1)
+NamesDiffer-last (x ∷ xs) c e h = let both = absent-both x xs c.name e in (absent-last xs c x.name (differ_back c.name x.name both.0) h.0, NamesDiffer-last xs c both.1 h.1)
 
 -- classes that pass
 absent-filter : (p : ClassOf ℕ → Bool) (cs : List (ClassOf ℕ)) (m : ℕ) → has_class nat_eq cs m ≡ false → has_class nat_eq (filter p cs) m ≡ false

@@ -1,8 +1,7 @@
 -- A class that is changed at its place.
-use Rattle.std.proofs.Common.{◌≡◌, ◌≢◌, ◌⊎◌, inl, inr, ℕ, zero, suc, ◌+◌, ◌≤◌, Bool, true, false, not, cond, List, [], ◌∷◌, ◌++◌, length, find, position, is_some, IfSome, Option, Some, None, slice_get, slice_set, get_or, nat_eq, nat_lt, refl, sym, ap, subst, ◌∙◌, arith, true≢false}
+use Rattle.std.proofs.Common.{◌≡◌, ℕ, zero, suc, ◌+◌, ◌≤◌, Bool, true, false, not, cond, List, [], ◌∷◌, ◌++◌, length, find, position, is_some, IfSome, Option, Some, None, slice_get, slice_set, get_or, nat_eq, nat_lt, refl, sym, ap, subst, ◌∙◌, arith, true≢false}
 use Rattle.std.specs.List.{position_or_len}
 use Rattle.std.proofs.lemmas.Bool.{ltb-false}
-use Rattle.std.proofs.lemmas.Bool.Decides.{eqb_tells}
 use Rattle.std.proofs.lemmas.List.Quantifiers.{position-Some}
 use Rattle.std.proofs.lemmas.Option.{slice_get-get_or}
 use Rattle.image_model.specs.Image.{ClassOf}
@@ -10,14 +9,7 @@ use Rattle.file_model.specs.Hierarchy.{has_class}
 use Rattle.file_model.specs.Changes.{DefinitionOf}
 use Rattle.file_model.specs.Applied.{changed_class, class_again, new_class, with_definition}
 use Rattle.image_draft.specs.Names.{NamesDiffer}
-
--- names that the test finds equal
-same_name : (m n : ℕ) → nat_eq m n ≡ true → m ≡ n
-same_name m n h = by (eqb_tells m n)
-  where
-    by : ((nat_eq m n ≡ true) × (m ≡ n)) ⊎ ((nat_eq m n ≡ false) × (m ≢ n)) → m ≡ n
-    by (inl t) = t.1
-    by (inr t) = absurd (true≢false (sym h ∙ t.0))
+use Rattle.image_draft.proofs.Numbers.{nat_equal}
 
 -- a class of no kind, which stands for what is behind the end of a list
 nothing : ClassOf ℕ
@@ -75,13 +67,13 @@ pub changed-at : (n : ℕ) (g : ClassOf ℕ → ClassOf ℕ) (cs : List (ClassOf
 changed-at n g [] k c differ at same = absurd (cc)
 changed-at n g (x ∷ xs) zero c differ at same =
     let one : x ≡ c = cc in
-    let named : n ≡ x.name = same_name n c.name same ∙ ap (λ (d : ClassOf ℕ). d.name) (sym one) in
+    let named : n ≡ x.name = nat_equal n c.name same ∙ ap (λ (d : ClassOf ℕ). d.name) (sym one) in
     let head : cond (nat_eq n x.name) (g x) x ≡ g c = ap (λ (b : Bool). cond b (g x) x) (ap (λ (d : ClassOf ℕ). nat_eq n d.name) one ∙ same) ∙ ap g one in
     λ i. head i ∷ changed-none n g xs (ap (has_class nat_eq xs) named ∙ differ.0) i
 changed-at n g (x ∷ xs) (suc k) c differ at same = by (nat_eq n x.name) refl (changed-at n g xs k c differ.1 at same)
   where
     by : (b : Bool) → nat_eq n x.name ≡ b → changed_class nat_eq n g xs ≡ slice_set xs k (g c) → cond b (g x) x ∷ changed_class nat_eq n g xs ≡ x ∷ slice_set xs k (g c)
-    by true e rest = absurd (true≢false (sym (stands-at n xs k c at same) ∙ ap (has_class nat_eq xs) (same_name n x.name e) ∙ differ.0))
+    by true e rest = absurd (true≢false (sym (stands-at n xs k c at same) ∙ ap (has_class nat_eq xs) (nat_equal n x.name e) ∙ differ.0))
     by false e rest = ap (λ (ys : List (ClassOf ℕ)). x ∷ ys) rest
 
 -- a class that is there is defined again at its place

@@ -1,5 +1,6 @@
 pub mod Kinds
 pub mod Entries
+pub mod MethodCode
 pub mod Early
 pub mod Names
 pub mod Drafted

@@ -1,12 +1,13 @@
 // Changes of classes and methods.
-ghost use Rattle.std.specs.Prelude.{◌≡◌, ◌<◌, filter, not, position, slice_get, slice_set, vec_len, nat_eq, IfNone, IfSome, IfOk};
+ghost use Rattle.std.specs.Prelude.{◌≡◌, ℕ, ◌<◌, filter, is_some, not, position, slice_get, slice_set, vec_len, nat_eq, IfNone, IfSome, IfOk};
 ghost use Rattle.image_model.specs.Lookup as lookup;
 ghost use Rattle.file_model.specs.Causes.{first_cause};
+ghost use Rattle.file_model.specs.Hierarchy.{has_class};
 ghost use Rattle.file_model.specs.Refusals.{comment_refusals, class_side_refusals};
 ghost use Rattle.file_model.specs.Applied.{with_comment, with_class_side};
 ghost use Rattle.image_draft.specs.Entries.{entry_of};
 ghost use Rattle.image_draft.specs.Early.{told};
-ghost use Rattle.image_draft.specs.Names.{NamesDiffer};
+ghost use Rattle.image_draft.specs.Names.{NamesDiffer, AreOrdered};
 
 use crate::class_draft::ClassDraft;
 use crate::method_draft::{MethodDraft, is_method};
@@ -67,8 +68,11 @@ pub fn change_comment(
 ) -> Option<ImageCause>
     requires { NamesDiffer classes.old.items }
     ensures cause { told result ≡ first_cause (comment_refusals nat_eq classes.old.items name) }
+    ensures some { is_some result ≡ is_some (first_cause (comment_refusals nat_eq classes.old.items name)) }
     ensures changed { IfNone result (classes.new.items ≡ with_comment nat_eq name comment classes.old.items) }
     ensures kept { IfSome result (λ _. classes.new.items ≡ classes.old.items) }
+    ensures order { AreOrdered classes.old.items → AreOrdered classes.new.items }
+    ensures names { (n : ℕ) → has_class nat_eq classes.new.items n ≡ has_class nat_eq classes.old.items n }
 {
     let refusal = comment_refusal(classes, name);
     if refusal.is_some() {
@@ -81,7 +85,9 @@ pub fn change_comment(
 /// Gives the class of a name, if there is one, another comment.
 fn put_comment(classes: &mut Vec<ClassDraft>, name: NameId, comment: Text)
     requires { NamesDiffer classes.old.items }
-    ensures { classes.new.items ≡ with_comment nat_eq name comment classes.old.items }
+    ensures changed { classes.new.items ≡ with_comment nat_eq name comment classes.old.items }
+    ensures order { AreOrdered classes.old.items → AreOrdered classes.new.items }
+    ensures names { (n : ℕ) → has_class nat_eq classes.new.items n ≡ has_class nat_eq classes.old.items n }
 {
     if let Some(place) = class_place(classes, name) {
         set_comment(classes, place, comment);
@@ -91,7 +97,9 @@ fn put_comment(classes: &mut Vec<ClassDraft>, name: NameId, comment: Text)
 /// Gives the class of a name, if there is one, other class-instance variables.
 fn put_class_side(classes: &mut Vec<ClassDraft>, name: NameId, names: Ids)
     requires { NamesDiffer classes.old.items }
-    ensures { classes.new.items ≡ with_class_side nat_eq name names classes.old.items }
+    ensures changed { classes.new.items ≡ with_class_side nat_eq name names classes.old.items }
+    ensures order { AreOrdered classes.old.items → AreOrdered classes.new.items }
+    ensures names { (n : ℕ) → has_class nat_eq classes.new.items n ≡ has_class nat_eq classes.old.items n }
 {
     if let Some(place) = class_place(classes, name) {
         set_class_side(classes, place, names);
@@ -108,7 +116,10 @@ pub fn change_class_side(
 ) -> Result<Option<ImageCause>, Memory>
     requires { NamesDiffer classes.old.items }
     ensures cause { IfOk result (λ cause. told cause ≡ first_cause (class_side_refusals nat_eq classes.old.items name names (with_class_side nat_eq name names classes.old.items))) }
+    ensures some { IfOk result (λ cause. is_some cause ≡ is_some (first_cause (class_side_refusals nat_eq classes.old.items name names (with_class_side nat_eq name names classes.old.items)))) }
     ensures changed { IfOk result (λ cause. IfNone cause (classes.new.items ≡ with_class_side nat_eq name names classes.old.items)) }
+    ensures order { AreOrdered classes.old.items → AreOrdered classes.new.items }
+    ensures names { (n : ℕ) → has_class nat_eq classes.new.items n ≡ has_class nat_eq classes.old.items n }
 {
     let refusal = early_side_refusal(classes, name, names.as_slice());
     if refusal.is_some() {

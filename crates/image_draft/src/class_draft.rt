@@ -7,17 +7,23 @@ ghost use Rattle.file_model.specs.Hierarchy.{has_class, is_kernel_class, has_sub
 use rb_base::{Ids, NameId, Text};
 use std::marker::Model;
 
-/// A class.
+/// A class while a file-out is read.
 #[derive(Drop)]
 pub struct ClassDraft {
-    pub(crate) name: NameId,
-    pub(crate) superclass: Option<NameId>,
-    pub(crate) instance: Ids,
-    pub(crate) shared: Ids,
-    pub(crate) class_side: Ids,
-    pub(crate) category: Text,
-    pub(crate) comment: Text,
-    pub(crate) kernel: bool,
+    pub name: NameId,
+    /// The class above it, if there is one.
+    pub superclass: Option<NameId>,
+    /// The instance variables that it adds to those of its superclass, in order.
+    pub instance: Ids,
+    /// Its class variables, in order.
+    pub shared: Ids,
+    /// The class-instance variables that it adds to those of its superclass, in order.
+    pub class_side: Ids,
+    /// The category under which browsers list it.
+    pub category: Text,
+    pub comment: Text,
+    /// Whether it is one of the kernel.
+    pub kernel: bool,
 }
 
 impl Model for ClassDraft {
@@ -90,14 +96,18 @@ fn is_below(class: &ClassDraft, name: NameId) -> bool
     }
 }
 
-/// A definition of a class.
+/// A definition of a class, for the first time or again (Goldberg and Robson 1983, "Creating Classes").
 #[derive(Drop)]
 pub struct Definition {
-    pub(crate) name: NameId,
-    pub(crate) superclass: Option<NameId>,
-    pub(crate) instance: Ids,
-    pub(crate) shared: Ids,
-    pub(crate) category: Text,
+    pub name: NameId,
+    /// The class above it, if there is to be one.
+    pub superclass: Option<NameId>,
+    /// The instance variables that it adds to those of its superclass, in order.
+    pub instance: Ids,
+    /// Its class variables, in order.
+    pub shared: Ids,
+    /// The category under which browsers list it.
+    pub category: Text,
 }
 
 impl Model for Definition {

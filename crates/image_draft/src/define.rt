@@ -1,19 +1,22 @@
 // Definitions of classes.
-ghost use Rattle.std.specs.Prelude.{◌≡◌, ◌<◌, ◌∷◌, ◌++◌, [], slice_get, slice_set, vec_len, nat_eq, IfNone, IfSome, IfOk, OnOk};
+ghost use Rattle.std.specs.Prelude.{◌≡◌, ℕ, ◌<◌, ◌∷◌, ◌++◌, [], true, if◌then◌else◌, is_some, slice_get, slice_set, vec_len, nat_eq, IfNone, IfSome, IfOk, OnOk};
 ghost use Rattle.file_model.specs.Causes.{first_cause};
 ghost use Rattle.file_model.specs.Hierarchy as hierarchy;
 ghost use Rattle.file_model.specs.Refusals.{definition_refusals};
-ghost use Rattle.file_model.specs.Applied.{class_again, new_class, with_definition};
+ghost use Rattle.file_model.specs.Applied.{class_again, new_class, with_definition, defined};
+ghost use Rattle.file_laws.specs.Settling as settling;
 ghost use Rattle.image_draft.specs.Early.{told};
-ghost use Rattle.image_draft.specs.Names.{NamesDiffer};
+ghost use Rattle.image_draft.specs.Names.{NamesDiffer, AreOrdered};
 
 use crate::changes::class_place;
-use crate::class_draft::{ClassDraft, Definition};
+use crate::class_draft::{ClassDraft, Definition, has_class};
 use crate::hierarchy::has_repeat;
+use crate::order::put_behind;
 use crate::refusals::{early_refusal, is_one_class_too_many, late_refusal};
 use file_faults::ImageCause;
 use rb_base::{Ids, Memory, NameId, Text};
 use std::alloc::Global;
+use std::mem::replace;
 
 /// Defines the class at a place again, which keeps its comment and its class-instance variables.
 fn redefine(classes: &mut Vec<ClassDraft>, place: usize, definition: Definition)
@@ -87,6 +90,7 @@ pub fn change_definition(
 ) -> Result<Option<ImageCause>, Memory>
     requires { NamesDiffer classes.old.items }
     ensures cause { IfOk result (λ cause. told cause ≡ first_cause (definition_refusals nat_eq classes.old.items definition (with_definition nat_eq kernel definition classes.old.items))) }
+    ensures some { IfOk result (λ cause. is_some cause ≡ is_some (first_cause (definition_refusals nat_eq classes.old.items definition (with_definition nat_eq kernel definition classes.old.items)))) }
     ensures changed { IfOk result (λ cause. IfNone cause (classes.new.items ≡ with_definition nat_eq kernel definition classes.old.items)) }
 {
     let refusal = early_refusal(classes, &definition);
@@ -105,4 +109,62 @@ fn repeats_shared(definition: &Definition) -> bool
     ensures { result ≡ hierarchy.has_repeat nat_eq definition.now.shared }
 {
     has_repeat(definition.shared.as_slice())
+}
+
+/// The superclass that a definition names.
+fn superclass_of(definition: &Definition) -> Option<NameId>
+    ensures { result ≡ definition.now.superclass }
+{
+    definition.superclass
+}
+
+/// Takes the classes out, and leaves none.
+fn take_all(alloc: Global, classes: &mut Vec<ClassDraft>) -> Vec<ClassDraft>
+    ensures taken { result.items ≡ classes.old.items }
+    ensures left { classes.new.items ≡ [] }
+{
+    replace(classes, Vec::new(alloc))
+}
+
+/// The classes in order, once the class of a name, which was there before or not, is defined with a superclass or without one.
+fn in_order(
+    alloc: Global,
+    classes: Vec<ClassDraft>,
+    was_there: bool,
+    name: NameId,
+    superclass: Option<NameId>,
+) -> Result<Vec<ClassDraft>, Memory>
+    ensures { IfOk result (λ ordered. ordered.items ≡ (if was_there then settling.put_behind nat_eq name superclass classes.items else classes.items)) }
+{
+    if was_there {
+        put_behind(alloc, classes, name, superclass)
+    } else {
+        Ok(classes)
+    }
+}
+
+/// Defines a class, for the first time or again, and puts the classes in order, or tells why it can not be defined; then,
+/// and on want of memory, no class is left.
+pub fn define_in_order(
+    alloc: Global,
+    classes: &mut Vec<ClassDraft>,
+    kernel: bool,
+    definition: Definition,
+) -> Result<Option<ImageCause>, Memory>
+    requires { AreOrdered classes.old.items }
+    ensures cause { IfOk result (λ cause. told cause ≡ first_cause (definition_refusals nat_eq classes.old.items definition (with_definition nat_eq kernel definition classes.old.items))) }
+    ensures some { IfOk result (λ cause. is_some cause ≡ is_some (first_cause (definition_refusals nat_eq classes.old.items definition (with_definition nat_eq kernel definition classes.old.items)))) }
+    ensures changed { IfOk result (λ cause. IfNone cause (classes.new.items ≡ defined nat_eq kernel definition classes.old.items)) }
+    ensures order { AreOrdered classes.new.items }
+    ensures kept { IfOk result (λ cause. IfNone cause ((n : ℕ) → hierarchy.has_class nat_eq classes.old.items n ≡ true → hierarchy.has_class nat_eq classes.new.items n ≡ true)) }
+{
+    let mut items = take_all(alloc, classes);
+    let name = name_of(&definition);
+    let superclass = superclass_of(&definition);
+    let was_there = has_class(&items, name);
+    if let Some(cause) = change_definition(alloc, &mut items, kernel, definition)? {
+        return Ok(Some(cause));
+    }
+    *classes = in_order(alloc, items, was_there, name, superclass)?;
+    Ok(None)
 }

@@ -1,5 +1,5 @@
 // Methods that are put in.
-ghost use Rattle.std.specs.Prelude.{◌≡◌, ◌<◌, ◌∷◌, ◌++◌, [], nat_eq, map, position, slice_set, vec_len, OnOk};
+ghost use Rattle.std.specs.Prelude.{◌≡◌, ◌<◌, ◌∷◌, ◌++◌, [], nat_eq, map, position, slice_set, vec_len, OnOk, OnErr};
 ghost use Rattle.image_model.specs.Lookup.{is_method};
 ghost use Rattle.st_tree.specs.View.{method_of};
 ghost use Rattle.file_model.specs.Applied.{with_method};
@@ -10,7 +10,8 @@ use rb_base::Memory;
 
 /// Appends a method.
 fn push_method(methods: &mut Vec<MethodDraft>, method: MethodDraft) -> Result<(), Memory>
-    ensures { OnOk result (methods.new.items ≡ methods.old.items ++ method ∷ []) }
+    ensures pushed { OnOk result (methods.new.items ≡ methods.old.items ++ method ∷ []) }
+    ensures unchanged { OnErr result (methods.new.items ≡ methods.old.items) }
 {
     methods.push(method)?;
     Ok(())
@@ -34,7 +35,8 @@ fn place_of(methods: &[MethodDraft], method: &MethodDraft) -> Option<usize>
 /// Puts a method in the place of the former one of its class, its side and its selector, or last.
 pub fn put_method(methods: &mut Vec<MethodDraft>, method: MethodDraft) -> Result<(), Memory>
     requires { MethodsDiffer methods.old.items }
-    ensures { OnOk result (map entry_of methods.new.items ≡ with_method nat_eq method.kernel (run_of method) method.source (method_of method.tree) (map entry_of methods.old.items)) }
+    ensures made { OnOk result (map entry_of methods.new.items ≡ with_method nat_eq method.kernel (run_of method) method.source (method_of method.tree) (map entry_of methods.old.items)) }
+    ensures unchanged { OnErr result (methods.new.items ≡ methods.old.items) }
 {
     match place_of(methods, &method) {
         None => push_method(methods, method),

@@ -1,14 +1,18 @@
 // The methods of a draft.
-ghost use Rattle.std.specs.Prelude.{◌≡◌, [], filter, map, not, nat_eq, is_some, IfNone, IfSome, IfOk};
+ghost use Rattle.std.specs.Prelude.{◌≡◌, [], filter, map, not, nat_eq, is_some, IfNone, IfOk};
 ghost use Rattle.image_model.specs.Lookup as lookup;
 ghost use Rattle.st_tree.specs.View.{method_of};
 ghost use Rattle.file_model.specs.Causes.{first_cause};
+ghost use Rattle.file_model.specs.Refusals as refusals;
 ghost use Rattle.file_model.specs.Refusals.{method_refusals};
 ghost use Rattle.file_model.specs.Applied.{with_method};
 ghost use Rattle.image_draft.specs.Early.{told};
 ghost use Rattle.image_draft.specs.Entries.{entry_of, run_of};
 
-use crate::method_draft::MethodDraft;
+use crate::changes::{remove_method, remove_methods_of};
+use crate::method_change::put_method;
+use crate::method_draft::{MethodDraft, is_kernel_method};
+use crate::refusals::method_refusal;
 use file_faults::ImageCause;
 use rb_base::{Memory, NameId};
 use std::alloc::Global;
@@ -24,8 +28,11 @@ impl Model for Methods {
     ghost use Rattle.std.specs.Prelude.{List};
     ghost use Rattle.image_draft.specs.declared.method_draft.MethodDraft.{MethodDraft};
     ghost use Rattle.image_draft.specs.Entries.{MethodsDiffer};
+    ghost use Rattle.image_draft.specs.MethodCode.{coded_methods};
 
     ghost Value = { List MethodDraft };
+
+    ghost coded = { coded_methods };
 
     ghost view = { λ a. a.items.items };
 
@@ -49,20 +56,51 @@ impl Methods {
         ensures some { IfOk result (λ cause. is_some cause ≡ is_some (first_cause (method_refusals nat_eq (map entry_of self.old) (run_of method) method.tree.selector))) }
         ensures changed { IfOk result (λ cause. IfNone cause (map entry_of self.new ≡ with_method nat_eq method.kernel (run_of method) method.source (method_of method.tree) (map entry_of self.old))) }
     {
-        Err(Memory)
+        let refusal = self.refusal(&method);
+        if refusal.is_some() {
+            return Ok(refusal);
+        }
+        put_method(&mut self.items, method)?;
+        Ok(None)
+    }
+
+    /// Why a method is refused.
+    fn refusal(&self, method: &MethodDraft) -> Option<ImageCause>
+        ensures cause { told result ≡ first_cause (method_refusals nat_eq (map entry_of self.now) (run_of method.now) method.now.tree.selector) }
+        ensures some { is_some result ≡ is_some (first_cause (method_refusals nat_eq (map entry_of self.now) (run_of method.now) method.now.tree.selector)) }
+    {
+        method_refusal(&self.items, method.class, method.meta, method.tree.selector)
+    }
+
+    /// Whether the method of a class, a side and a selector is one of the kernel.
+    pub fn is_kernel(&self, class: NameId, meta: bool, selector: NameId) -> bool
+        ensures { result ≡ refusals.is_kernel_method nat_eq (map entry_of self.now) class meta selector }
+    {
+        is_kernel_method(&self.items, class, meta, selector)
     }
 
     /// Takes the method of a class, a side and a selector away, if there is one.
     pub fn remove(&mut self, class: NameId, meta: bool, selector: NameId)
         ensures { self.new ≡ filter (λ m. not (lookup.is_method nat_eq class meta selector (entry_of m))) self.old }
     {
-        crate::changes::remove_method(&mut self.items, class, meta, selector);
+        remove_method(&mut self.items, class, meta, selector);
     }
 
     /// Takes the methods of a class away, those of its class side too.
     pub fn remove_of(&mut self, class: NameId)
         ensures { self.new ≡ filter (λ m. not (nat_eq class m.class)) self.old }
     {
-        crate::changes::remove_methods_of(&mut self.items, class);
+        remove_methods_of(&mut self.items, class);
+    }
+
+    /// The methods, in order.
+    pub fn into_items(self, alloc: Global) -> Result<Vec<MethodDraft>, Memory>
+        ensures { IfOk result (λ items. items.items ≡ self) }
+    {
+        let mut items = Vec::new(alloc);
+        for method in self.items {
+            items.push(method)?;
+        }
+        Ok(items)
     }
 }

@@ -1,5 +1,5 @@
 // Why changes are refused.
-ghost use Rattle.std.specs.Prelude.{◌≡◌, ◌∷◌, ◌||◌, [], is_some, map, not, nat_eq, IfOk};
+ghost use Rattle.std.specs.Prelude.{◌≡◌, ◌∷◌, ◌||◌, [], is_some, map, not, false, nat_eq, IfNone, IfOk};
 ghost use Rattle.std.specs.Option.{option_map_or};
 ghost use Rattle.file_model.specs.Causes.{first_cause, when};
 ghost use Rattle.file_model.specs.Refusals as refusals;
@@ -71,7 +71,8 @@ pub fn early_refusal(classes: &[ClassDraft], definition: &Definition) -> Option<
 
 /// Why the comment of a class is refused.
 pub fn comment_refusal(classes: &[ClassDraft], name: NameId) -> Option<ImageCause>
-    ensures { told result ≡ first_cause (refusals.comment_refusals nat_eq classes.now name) }
+    ensures cause { told result ≡ first_cause (refusals.comment_refusals nat_eq classes.now name) }
+    ensures some { is_some result ≡ is_some (first_cause (refusals.comment_refusals nat_eq classes.now name)) }
 {
     if !has_class(classes, name) {
         return Some(ImageCause::UnknownClass);
@@ -84,7 +85,9 @@ pub fn comment_refusal(classes: &[ClassDraft], name: NameId) -> Option<ImageCaus
 
 /// Why the removal of a class is refused.
 pub fn class_removal_refusal(classes: &[ClassDraft], name: NameId) -> Option<ImageCause>
-    ensures { told result ≡ first_cause (refusals.class_removal_refusals nat_eq classes.now name) }
+    ensures cause { told result ≡ first_cause (refusals.class_removal_refusals nat_eq classes.now name) }
+    ensures some { is_some result ≡ is_some (first_cause (refusals.class_removal_refusals nat_eq classes.now name)) }
+    ensures free { IfNone result (hierarchy.has_subclass nat_eq classes.now name ≡ false) }
 {
     if !has_class(classes, name) {
         return Some(ImageCause::UnknownClass);
@@ -135,7 +138,8 @@ pub fn late_refusal(
     repeats: bool,
     too_many: bool,
 ) -> Result<Option<ImageCause>, Memory>
-    ensures { IfOk result (λ cause. told cause ≡ first_cause (late_refusals new.now name repeats too_many)) }
+    ensures cause { IfOk result (λ cause. told cause ≡ first_cause (late_refusals new.now name repeats too_many)) }
+    ensures some { IfOk result (λ cause. is_some cause ≡ is_some (first_cause (late_refusals new.now name repeats too_many))) }
 {
     if repeats || repeats_on_chains(alloc, new, name)? {
         return Ok(Some(ImageCause::VariableTwice));
@@ -152,42 +156,13 @@ pub fn late_side_refusal(
     new: &[ClassDraft],
     name: NameId,
 ) -> Result<Option<ImageCause>, Memory>
-    ensures { IfOk result (λ cause. told cause ≡ first_cause (late_side_refusals new.now name)) }
+    ensures cause { IfOk result (λ cause. told cause ≡ first_cause (late_side_refusals new.now name)) }
+    ensures some { IfOk result (λ cause. is_some cause ≡ is_some (first_cause (late_side_refusals new.now name))) }
 {
     if stands_twice(alloc, new, ChainKind::ClassSide, name)? {
         return Ok(Some(ImageCause::VariableTwice));
     }
     Ok(None)
-}
-
-/// Why a run of methods is refused, by the name of its class.
-pub fn run_refusal(classes: &[ClassDraft], class: NameId) -> Option<ImageCause>
-    ensures { told result ≡ first_cause (when (not (hierarchy.has_class nat_eq classes.now class)) causes.UnknownClass ∷ []) }
-{
-    if has_class(classes, class) {
-        None
-    } else {
-        Some(ImageCause::UnknownClass)
-    }
-}
-
-/// Why the removal of a method is refused.
-pub fn removal_refusal(
-    classes: &[ClassDraft],
-    methods: &[MethodDraft],
-    class: NameId,
-    meta: bool,
-    selector: NameId,
-) -> Option<ImageCause>
-    ensures { told result ≡ first_cause (when (not (hierarchy.has_class nat_eq classes.now class)) causes.UnknownClass ∷ when (refusals.is_kernel_method nat_eq (map entry_of methods.now) class meta selector) causes.KernelReplaced ∷ []) }
-{
-    if !has_class(classes, class) {
-        return Some(ImageCause::UnknownClass);
-    }
-    if is_kernel_method(methods, class, meta, selector) {
-        return Some(ImageCause::KernelReplaced);
-    }
-    None
 }
 
 /// Why a method is refused, by its class, its side and its selector.
@@ -197,7 +172,8 @@ pub fn method_refusal(
     meta: bool,
     selector: NameId,
 ) -> Option<ImageCause>
-    ensures { told result ≡ first_cause (when (refusals.is_kernel_method nat_eq (map entry_of methods.now) class meta selector) causes.KernelReplaced ∷ when (refusals.is_one_method_too_many nat_eq (map entry_of methods.now) class meta selector) causes.TooMany ∷ []) }
+    ensures cause { told result ≡ first_cause (when (refusals.is_kernel_method nat_eq (map entry_of methods.now) class meta selector) causes.KernelReplaced ∷ when (refusals.is_one_method_too_many nat_eq (map entry_of methods.now) class meta selector) causes.TooMany ∷ []) }
+    ensures some { is_some result ≡ is_some (first_cause (when (refusals.is_kernel_method nat_eq (map entry_of methods.now) class meta selector) causes.KernelReplaced ∷ when (refusals.is_one_method_too_many nat_eq (map entry_of methods.now) class meta selector) causes.TooMany ∷ [])) }
 {
     if is_kernel_method(methods, class, meta, selector) {
         return Some(ImageCause::KernelReplaced);

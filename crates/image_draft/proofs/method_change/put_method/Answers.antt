@@ -8,11 +8,17 @@ use Rattle.image_draft.proofs.method_change.put_method.Goals as goal
 pub returns-in-None : goal.returns-in-None
 returns-in-None c =
     let methods : List MethodDraft = c.args.methods.now.items in
-    on_ok_weaker c.push_method.result (λ (e : c.push_method.new.methods.items ≡ methods ++ c.args.method ∷ []). ap (map entry_of) e
-    ∙ put-last c.args.method methods (ap (position (is_former c.args.method)) (sym c.deref.ensures.value) ∙ sym c.place_of.ensures ∙ c.in-None.is)) c.push_method.ensures
+    record {
+      made = on_ok_weaker c.push_method.result (λ (e : c.push_method.new.methods.items ≡ methods ++ c.args.method ∷ []). ap (map entry_of) e
+          ∙ put-last c.args.method methods (ap (position (is_former c.args.method)) (sym c.deref.ensures.value) ∙ sym c.place_of.ensures ∙ c.in-None.is)) c.push_method.ensures.pushed;
+      unchanged = c.push_method.ensures.unchanged;
+    }
 
 pub returns-in-Some : goal.returns-in-Some
 returns-in-Some c =
     let methods : List MethodDraft = c.args.methods.now.items in
-    ap (map entry_of) c.replace_method.ensures
-    ∙ put-at c.args.method methods c.in-Some.place c.requires (ap (position (is_former c.args.method)) (sym c.deref.ensures.value) ∙ sym c.place_of.ensures ∙ c.in-Some.is)
+    record {
+      made = ap (map entry_of) c.replace_method.ensures
+          ∙ put-at c.args.method methods c.in-Some.place c.requires (ap (position (is_former c.args.method)) (sym c.deref.ensures.value) ∙ sym c.place_of.ensures ∙ c.in-Some.is);
+      unchanged = tt;
+    }

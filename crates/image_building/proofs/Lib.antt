@@ -1,0 +1,5 @@
+mod Turns
+mod Found
+mod Added
+mod Outcomes
+mod Heads

@@ -1,0 +1,54 @@
+// The image of a draft.
+ghost use Rattle.std.specs.Prelude.{◌≡◌, ◌<◌, [], length, IfOk};
+ghost use Rattle.image_model.specs.ImageNames.{ImageNames};
+ghost use Rattle.class_table.specs.View.{number_image};
+ghost use Rattle.class_table.specs.Valid.{IsOrderly};
+ghost use Rattle.image_draft.specs.Drafted.{image_of, IsWhole};
+
+use crate::classes::add_classes;
+use crate::doits::add_doits;
+use crate::methods::add_methods;
+use class_table::Image;
+use image_draft::Draft;
+use indexmap::IndexMap;
+use rb_base::{Memory, Names};
+use std::alloc::Global;
+
+/// An image of nothing but names.
+fn image_with(alloc: Global, names: Names) -> Image
+    ensures image { result ≡ record { names = names; classes = []; class_order = []; methods = []; method_order = []; doits = []; heads = 0 } }
+    ensures orderly { IsOrderly result }
+{
+    let _ = names.len();
+    let mut image = Image::new(alloc);
+    *image.names_mut() = names;
+    image
+}
+
+/// Says how many of the do-its stand before the definitions.
+fn count_heads(image: &mut Image, heads: usize)
+    requires { IsOrderly image.old }
+    ensures image { image.new ≡ record image.old { heads = heads } }
+    ensures orderly { IsOrderly image.new }
+{
+    image.set_heads(heads);
+}
+
+/// The image of a draft, with the names to which its numbers belong. The error is want of memory. It takes time in the number
+/// of classes, methods and do-its.
+pub fn image_from(alloc: Global, names: Names, draft: Draft) -> Result<Image, Memory>
+    requires known { ImageNames (λ n. n < length names) (image_of draft) }
+    requires whole { IsWhole draft }
+    ensures names { IfOk result (λ image. image.names ≡ names) }
+    ensures image { IfOk result (λ image. number_image image ≡ image_of draft) }
+    ensures orderly { IfOk result IsOrderly }
+{
+    let parts = draft.into_parts(alloc)?;
+    let mut image = image_with(alloc, names);
+    let mut table = IndexMap::new(alloc);
+    add_classes(&mut image, &mut table, parts.classes)?;
+    add_methods(&mut image, &table, parts.methods)?;
+    add_doits(&mut image, parts.doits)?;
+    count_heads(&mut image, parts.heads);
+    Ok(image)
+}

@@ -1,0 +1,109 @@
+// The order of classes, once one of them is defined again under another superclass.
+ghost use Rattle.std.specs.Prelude.{◌≡◌, ◌∷◌, ◌++◌, [], List, ℕ, false, nat_eq, IfOk, OnOk};
+ghost use Rattle.std.specs.Option.{option_map_or};
+ghost use Rattle.image_model.specs.Image.{ClassOf};
+ghost use Rattle.file_model.specs.Hierarchy as hierarchy;
+ghost use Rattle.file_laws.specs.Settling as settling;
+
+use crate::class_draft::ClassDraft;
+use rb_base::{Memory, NameId};
+use std::alloc::Global;
+
+/// Whether a class of a name is one of these.
+fn stands_in(name: NameId, classes: &[ClassDraft]) -> bool
+    ensures { result ≡ hierarchy.stands_in nat_eq name classes.now }
+{
+    classes.iter().any(|class| name == class.name)
+}
+
+/// Whether the class of one name stands before that of another.
+fn comes_first(classes: &[ClassDraft], above: NameId, name: NameId) -> bool
+    ensures { result ≡ settling.comes_first nat_eq above name classes.now }
+{
+    let mut rest = classes;
+    while let Some((class, others)) = rest.split_first() {
+        if name == class.name {
+            return false;
+        }
+        if above == class.name {
+            return true;
+        }
+        rest = others;
+    }
+    false
+}
+
+/// Whether the superclass of a class is one of those that wait.
+fn is_held(class: &ClassDraft, waiting: &[ClassDraft]) -> bool
+    ensures { result ≡ option_map_or (λ s. hierarchy.stands_in nat_eq s waiting.now) class.now.superclass false }
+{
+    match class.superclass {
+        None => false,
+        Some(above) => stands_in(above, waiting),
+    }
+}
+
+/// Whether a class waits: it is that of a name, or its superclass is one of those that wait.
+fn waits(name: NameId, waiting: &[ClassDraft], class: &ClassDraft) -> bool
+    ensures { result ≡ settling.waits nat_eq name waiting.now class.now }
+{
+    name == class.name || is_held(class, waiting)
+}
+
+/// Puts a class among those that wait, or behind those that are placed; behind the class of a second name go those that wait.
+fn place(
+    placed: &mut Vec<ClassDraft>,
+    waiting: &mut Vec<ClassDraft>,
+    name: NameId,
+    above: NameId,
+    class: ClassDraft,
+) -> Result<(), Memory>
+    ensures { OnOk result ((rest : List (ClassOf ℕ)) → placed.new.items ++ settling.passed nat_eq name above waiting.new.items rest ≡ placed.old.items ++ settling.passed nat_eq name above waiting.old.items (class ∷ rest)) }
+{
+    if waits(name, waiting, &class) {
+        waiting.push(class)?;
+        return Ok(());
+    }
+    let is_last = above == class.name;
+    placed.push(class)?;
+    if is_last {
+        placed.append(waiting)?;
+    }
+    Ok(())
+}
+
+/// The classes with the one of a name, and those that wait for it, behind the class of a second name.
+fn pass(
+    alloc: Global,
+    classes: Vec<ClassDraft>,
+    name: NameId,
+    above: NameId,
+) -> Result<Vec<ClassDraft>, Memory>
+    ensures { IfOk result (λ passed. passed.items ≡ settling.passed nat_eq name above [] classes.items) }
+{
+    let mut placed = Vec::with_capacity(alloc, classes.len())?;
+    let mut waiting = Vec::new(alloc);
+    for class in classes {
+        place(&mut placed, &mut waiting, name, above, class)?;
+    }
+    placed.append(&mut waiting)?;
+    Ok(placed)
+}
+
+/// The classes in order, once the class of a name is defined again with a superclass or without one.
+pub fn put_behind(
+    alloc: Global,
+    classes: Vec<ClassDraft>,
+    name: NameId,
+    superclass: Option<NameId>,
+) -> Result<Vec<ClassDraft>, Memory>
+    ensures { IfOk result (λ ordered. ordered.items ≡ settling.put_behind nat_eq name superclass classes.items) }
+{
+    let Some(above) = superclass else {
+        return Ok(classes);
+    };
+    if comes_first(&classes, above, name) {
+        return Ok(classes);
+    }
+    pass(alloc, classes, name, above)
+}
