@@ -1,1 +1,1 @@
-mod Strings
+pub mod Strings

@@ -10,4 +10,4 @@ mod words;
 
 pub use form::{ChunkForm, ClassDefinition};
 pub use messages::chunk_form;
-pub use words::{may_name, may_name_all};
+pub use words::{may_name, may_name_all, word_len};

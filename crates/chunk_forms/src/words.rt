@@ -88,8 +88,8 @@ fn may_stand(part: &[u8]) -> bool
     part.is_empty() || may_name(part)
 }
 
-/// How many bytes stand before the first blank.
-fn word_len(text: &[u8]) -> usize
+/// How many bytes of a string stand before its first blank: the length of the word with which it begins, or 0. Takes no memory.
+pub fn word_len(text: &[u8]) -> usize
     ensures value { result ≡ prefix_len (λ byte. not (blank.is_blank byte)) text.now }
     ensures in_range { result ≤ length text.now }
 {

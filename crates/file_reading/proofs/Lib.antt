@@ -1,0 +1,5 @@
+pub mod Growing
+pub mod WordsOf
+pub mod Taking
+pub mod TakenSources
+pub mod Looping

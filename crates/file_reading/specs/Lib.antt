@@ -1,0 +1,4 @@
+pub mod Filed
+pub mod Said
+pub mod Answers
+pub mod Loop
