@@ -1,9 +1,8 @@
 // Why changes are refused.
-ghost use Rattle.std.specs.Prelude.{◌≡◌, ◌∷◌, ◌||◌, [], is_some, map, not, false, nat_eq, IfNone, IfOk};
+ghost use Rattle.std.specs.Prelude.{◌≡◌, ◌∷◌, ◌||◌, [], is_some, not, false, nat_eq, IfNone, IfOk};
 ghost use Rattle.std.specs.Option.{option_map_or};
 ghost use Rattle.file_model.specs.Causes.{first_cause, when};
 ghost use Rattle.file_model.specs.Refusals as refusals;
-ghost use Rattle.image_draft.specs.Entries.{entry_of};
 ghost use Rattle.file_model.specs.Causes as causes;
 ghost use Rattle.file_model.specs.Hierarchy as hierarchy;
 ghost use Rattle.file_model.specs.Hierarchy.{stands_twice};
@@ -12,16 +11,12 @@ ghost use Rattle.image_draft.specs.Early.{told, early_refusals, late_refusals, e
 
 use crate::class_draft::{ClassDraft, Definition, has_class, has_subclass, is_kernel_class};
 use crate::hierarchy::{ChainKind, stands_above, stands_twice};
-use crate::method_draft::{MethodDraft, has_method, is_kernel_method};
 use file_faults::ImageCause;
 use rb_base::{Memory, NameId};
 use std::alloc::Global;
 
 /// How many classes there may be, those of the kernel among them.
 const CLASS_LIMIT: usize = 10_000;
-
-/// How many methods there may be, those of the kernel among them.
-const METHOD_LIMIT: usize = 200_000;
 
 /// Whether the superclass that a definition names is no class.
 fn lacks_superclass(classes: &[ClassDraft], definition: &Definition) -> bool
@@ -38,18 +33,6 @@ pub fn is_one_class_too_many(classes: &[ClassDraft], name: NameId) -> bool
     ensures { result ≡ refusals.is_one_class_too_many nat_eq classes.now name }
 {
     !has_class(classes, name) && CLASS_LIMIT <= classes.len()
-}
-
-/// Whether a method is new, and there are as many as there may be.
-fn is_one_method_too_many(
-    methods: &[MethodDraft],
-    class: NameId,
-    meta: bool,
-    selector: NameId,
-) -> bool
-    ensures { result ≡ refusals.is_one_method_too_many nat_eq (map entry_of methods.now) class meta selector }
-{
-    !has_method(methods, class, meta, selector) && METHOD_LIMIT <= methods.len()
 }
 
 /// Why a definition is refused by the classes before it.
@@ -163,23 +146,4 @@ pub fn late_side_refusal(
         return Ok(Some(ImageCause::VariableTwice));
     }
     Ok(None)
-}
-
-/// Why a method is refused, by its class, its side and its selector.
-pub fn method_refusal(
-    methods: &[MethodDraft],
-    class: NameId,
-    meta: bool,
-    selector: NameId,
-) -> Option<ImageCause>
-    ensures cause { told result ≡ first_cause (when (refusals.is_kernel_method nat_eq (map entry_of methods.now) class meta selector) causes.KernelReplaced ∷ when (refusals.is_one_method_too_many nat_eq (map entry_of methods.now) class meta selector) causes.TooMany ∷ []) }
-    ensures some { is_some result ≡ is_some (first_cause (when (refusals.is_kernel_method nat_eq (map entry_of methods.now) class meta selector) causes.KernelReplaced ∷ when (refusals.is_one_method_too_many nat_eq (map entry_of methods.now) class meta selector) causes.TooMany ∷ [])) }
-{
-    if is_kernel_method(methods, class, meta, selector) {
-        return Some(ImageCause::KernelReplaced);
-    }
-    if is_one_method_too_many(methods, class, meta, selector) {
-        return Some(ImageCause::TooMany);
-    }
-    None
 }
