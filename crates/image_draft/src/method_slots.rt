@@ -224,7 +224,7 @@ impl MethodSlots {
         ensures { IfSome (slice_get self.now.slots.items place) (λ slot. result ≡ option_and_then (λ m. if nat_eq class m.class then Some (key_of m) else None) slot) }
     {
         match self.slots.get(place) {
-            Some(Some(method)) if class == method.class => { Some(key_of(method)) }
+            Some(Some(method)) if class == method.class => Some(key_of(method)),
             _ => None,
         }
     }
