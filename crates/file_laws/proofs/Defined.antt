@@ -1,7 +1,7 @@
 -- What a definition makes of classes of which each stands behind its superclass.
 use Rattle.std.proofs.Common.{◌≡◌, ◌⊎◌, inl, inr, Bool, true, false, not, cond, List, [], ◌∷◌, ◌++◌, filter, find, Option, Some, None, refl, sym, ap, subst, ◌∙◌, true≢false, append_assoc, append-nil}
 use Rattle.std.specs.Prelude.{◌||◌, if◌then◌else◌, is_some}
-use Rattle.std.specs.List.{list_any, AllByRecursion}
+use Rattle.std.specs.List.{AllByRecursion}
 use Rattle.std.specs.Option.{option_map_or}
 use Rattle.std.proofs.lemmas.List.Sorted.{list_any-IsPermutation}
 use Rattle.image_model.specs.Image.{ClassOf}
@@ -12,9 +12,9 @@ use Rattle.file_model.specs.Refusals.{lacks_superclass, makes_cycle}
 use Rattle.file_model.specs.Applied.{new_class, class_again, changed_class, with_definition, defined}
 use Rattle.file_laws.specs.Settling.{IsTakenInTurn, staying, moving, AreInOrder, waits, passed, comes_first, put_behind}
 use Rattle.file_laws.proofs.Settled.{moved, settled_in_turn, turn_of}
-use Rattle.file_laws.proofs.Moves.{Inherits, Redefines, waits_for, or_either, stands_either, stands_left, stands_right, stands_alone, stands_moving, none_stands, its_name, turn_front, turn_back, turn_both}
+use Rattle.file_laws.proofs.Moves.{Inherits, Redefines, waits_for, stands_either, stands_left, stands_right, stands_alone, stands_moving, none_stands, its_name, turn_front, turn_back, turn_both}
 use Rattle.file_laws.proofs.Redefined.{IsCutAt, IsAgain, is_below, cut_at, in_order, once_behind, again_follows, again_before, again_behind, again_at, again_is, again_far, again_settled}
-use Rattle.file_laws.proofs.Repeats.{no_repeat_moved, no_repeat_last, no_repeat_filter, absent, there_stands, names_changed, none_pass, turn_without}
+use Rattle.file_laws.proofs.Repeats.{no_repeat_moved, no_repeat_last, no_repeat_filter, absent, names_changed, none_pass, turn_without}
 
 -- a choice between equals
 either_way : {X : Type 0} (b : Bool) (x : X) → (if b then x else x) ≡ x
@@ -274,7 +274,7 @@ module _ {N : Type 0} (is_same : N → N → Bool) (reflexive : (n : N) → is_s
   not_there false h = absurd (true≢false h)
 
   -- what is known of a definition that is not refused
-  again_of : (classes : List (ClassOf N)) (d : DefinitionOf N) (p : N) → AreInOrder classes → has_class is_same classes d.name ≡ true → d.superclass ≡ Some p → lacks_superclass is_same classes d ≡ false → makes_cycle is_same classes d ≡ false
+  pub again_of : (classes : List (ClassOf N)) (d : DefinitionOf N) (p : N) → AreInOrder classes → has_class is_same classes d.name ≡ true → d.superclass ≡ Some p → lacks_superclass is_same classes d ≡ false → makes_cycle is_same classes d ≡ false
       → IsAgain is_same classes d p
   again_of classes d p o there under lacks cycle = record {
     before = o.before;

@@ -7,5 +7,6 @@ pub mod Moves
 pub mod Redefined
 pub mod Repeats
 pub mod Defined
+pub mod Below
 mod Named
 mod Methods

@@ -1,5 +1,5 @@
 -- The names and the order of the classes of each file-out.
-use Rattle.std.proofs.Common.{◌≡◌, ◌+◌, Bool, true, false, not, List, [], ◌∷◌, ◌++◌, Option, Some, None, Result, Ok, Err, refl, sym, ap, subst, ◌∙◌, true≢false}
+use Rattle.std.proofs.Common.{◌≡◌, Bool, true, false, not, List, [], ◌∷◌, ◌++◌, Option, Some, None, Result, Ok, Err, refl, sym, ap, subst, ◌∙◌, true≢false}
 use Rattle.std.specs.Prelude.{◌&&◌, ◌||◌, if◌then◌else◌, codes, IsTrue}
 use Rattle.std.specs.List.{list_all, AllByRecursion}
 use Rattle.std.specs.Option.{option_map_or}
@@ -19,7 +19,7 @@ use Rattle.image_model.specs.Replaced.{KeepsHierarchy}
 use Rattle.image_model.specs.Valid.{HasNoRepeat, class_names, SuperclassesStandBefore, GivesNames}
 use Rattle.image_model.proofs.Kept.{SuperclassesStandBefore-kept}
 use Rattle.file_model.specs.Words.{may_name, may_name_all, words_of, is_blank_string}
-use Rattle.file_model.specs.Causes.{Cause, PoolsNotEmpty, UnknownDefinition, Condition, when, first_cause, unless, Syntax, Cycle, UnknownSuperclass, VariableTwice, KernelReplaced, TooMany, UnknownClass}
+use Rattle.file_model.specs.Causes.{Cause, PoolsNotEmpty, UnknownDefinition, when, first_cause, Syntax, Cycle, UnknownSuperclass, VariableTwice, KernelReplaced, TooMany, UnknownClass}
 use Rattle.file_model.specs.Changes.{DefinitionOf, ChangeOf, Define, Comment, SetClassSide, RemoveMethod, RemoveClass}
 use Rattle.file_model.specs.Forms.{Argument, Symbol, String, Other, Form, Evaluates, Changes, Opens, Refuses, no_form, Sent, sent_of, definition_selector, DefinitionStrings, definition_strings, the_argument, definition_form, subclass_form, comment_form, run_form, removal_form, class_removal_form, has_class_side, class_side_form, other_form, sent_form, form_of}
 use Rattle.st_kernel.specs.Selectors.{is_reserved_selector}

@@ -38,7 +38,7 @@ pub record IsCutAt {N : Type 0} (is_same : N → N → Bool) (cs : List (ClassOf
   pub not_before : stands_in is_same n front ≡ false
 
 -- where the classes of a list stand behind others
-places : {N : Type 0} (pre xs : List (ClassOf N)) → AllByRecursion (λ (x : ClassOf N). (k : ℕ) × (slice_get (pre ++ xs) k ≡ Some x)) xs
+pub places : {N : Type 0} (pre xs : List (ClassOf N)) → AllByRecursion (λ (x : ClassOf N). (k : ℕ) × (slice_get (pre ++ xs) k ≡ Some x)) xs
 places pre [] = tt
 places pre (x ∷ xs) = (
   (length pre, at_front pre x xs),
@@ -104,7 +104,7 @@ module _ {N : Type 0} (is_same : N → N → Bool) (reflexive : (n : N) → is_s
       by false e = refl
 
   -- a class is found by its name
-  named_at : (cs : List (ClassOf N)) (k : ℕ) (x : ClassOf N) → HasNoRepeat (class_names cs) → slice_get cs k ≡ Some x → class_named is_same cs x.name ≡ Some x
+  pub named_at : (cs : List (ClassOf N)) (k : ℕ) (x : ClassOf N) → HasNoRepeat (class_names cs) → slice_get cs k ≡ Some x → class_named is_same cs x.name ≡ Some x
   named_at [] k x h e = absurd (cc)
   named_at (y ∷ ys) zero x h e =
       let same : y ≡ x = cc in
@@ -160,7 +160,7 @@ module _ {N : Type 0} (is_same : N → N → Bool) (reflexive : (n : N) → is_s
           record { front = y ∷ c.front; class = c.class; rest = c.rest; whole = ap (λ zs. y ∷ zs) c.whole; named = c.named; not_before = ap (λ b. b || stands_in is_same n c.front) e ∙ c.not_before }
 
   -- a class that does not have the name is below it exactly where its superclass is
-  inherits : (classes : List (ClassOf N)) (n : N) → SuperclassesStandBefore classes → HasNoRepeat (class_names classes)
+  pub inherits : (classes : List (ClassOf N)) (n : N) → SuperclassesStandBefore classes → HasNoRepeat (class_names classes)
       → AllByRecursion (λ (x : ClassOf N). is_same n x.name ≡ false → Inherits (is_below is_same classes n) x) classes
   inherits classes n before distinct = All-weaker (λ (x : ClassOf N). (k : ℕ) × (slice_get classes k ≡ Some x)) (λ (x : ClassOf N). is_same n x.name ≡ false → Inherits (is_below is_same classes n) x) classes one (places [] classes)
     where
@@ -240,7 +240,7 @@ module _ {N : Type 0} (is_same : N → N → Bool) (reflexive : (n : N) → is_s
       (place.0, (let below : place.0 < 0 + k = place.1 in omega arith), place.2)
 
   -- a class of the list is below itself
-  below_itself : (classes : List (ClassOf N)) (n : N) → SuperclassesStandBefore classes → HasNoRepeat (class_names classes) → (k : ℕ) (c : ClassOf N) → slice_get classes k ≡ Some c → n ≡ c.name → is_below is_same classes n n ≡ true
+  pub below_itself : (classes : List (ClassOf N)) (n : N) → SuperclassesStandBefore classes → HasNoRepeat (class_names classes) → (k : ℕ) (c : ClassOf N) → slice_get classes k ≡ Some c → n ≡ c.name → is_below is_same classes n n ≡ true
   below_itself classes n before distinct k c at named =
       ap (λ s. is_below is_same classes n s) named
       ∙ ap (λ o. stands_in is_same n (chain_from is_same classes o)) (named_at classes k c distinct at)

@@ -4,6 +4,7 @@ mod Entries
 mod Places
 pub mod Differ
 mod Ordered
+mod ClassPlaces
 pub mod MethodClasses
 pub mod Drafts
 pub mod SlotLists

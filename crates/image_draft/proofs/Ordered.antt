@@ -1,23 +1,25 @@
 -- How classes stand once they are changed.
-use Rattle.std.proofs.Common.{◌≡◌, ℕ, zero, suc, Bool, true, false, not, cond, List, [], ◌∷◌, filter, find, Option, Some, None, nat_eq, refl, sym, ap, ◌∙◌}
+use Rattle.std.proofs.Common.{◌≡◌, ℕ, zero, suc, Bool, true, false, not, cond, List, [], ◌∷◌, filter, find, Some, None, nat_eq, refl, sym, ap, ◌∙◌, true≢false}
 use Rattle.std.specs.Prelude.{◌||◌, if◌then◌else◌, is_some}
-use Rattle.std.specs.List.{AllByRecursion}
+use Rattle.std.specs.List.{list_any, AllByRecursion}
 use Rattle.image_model.specs.Image.{ClassOf}
 use Rattle.image_model.specs.Replaced.{KeepsHierarchy}
-use Rattle.image_model.specs.Valid.{HasNoRepeat, class_names, SuperclassesStandBefore}
+use Rattle.image_model.specs.Valid.{HasNoRepeat, class_names}
 use Rattle.image_model.proofs.Kept.{SuperclassesStandBefore-kept}
-use Rattle.file_model.specs.Causes.{when, first_cause, KernelReplaced, UnknownSuperclass, Cycle, VariableTwice, TooMany}
+use Rattle.file_model.specs.Causes.{Condition, when, first_cause, KernelReplaced, UnknownSuperclass, Cycle, VariableTwice, TooMany}
 use Rattle.file_model.specs.Changes.{DefinitionOf}
-use Rattle.file_model.specs.Hierarchy.{has_class, is_kernel_class, has_subclass, has_repeat, stands_twice, settled}
+use Rattle.file_model.specs.Hierarchy.{has_class, is_kernel_class, has_subclass, has_repeat, chain_variables, stands_twice, settled}
 use Rattle.file_model.specs.Refusals.{lacks_superclass, makes_cycle, is_one_class_too_many, definition_refusals}
 use Rattle.file_model.specs.Applied.{changed_class, with_definition, defined}
-use Rattle.image_model.specs.Means.{of_instance, of_class_side}
+use Rattle.image_model.specs.Means.{VariableKind, of_instance, of_class_side}
 use Rattle.file_laws.specs.Settling.{AreInOrder, put_behind}
-use Rattle.file_laws.proofs.Refused.{second_none, third_none}
+use Rattle.file_laws.proofs.Refused.{first_none, second_none, third_none}
 use Rattle.file_laws.proofs.Redefined.{no_repeat_behind, apart}
 use Rattle.file_laws.proofs.Repeats.{absent}
 use Rattle.file_laws.proofs.Defined.{has_stands, defined_puts, defined_leaves, removed_order}
+use Rattle.file_laws.proofs.Below.{defined_twice, tree_marked, marked}
 use Rattle.image_draft.specs.Names.{NamesDiffer, AreOrdered}
+use Rattle.image_draft.specs.Early.{early_refusals, late_refusals}
 use Rattle.image_draft.proofs.Numbers.{nat_itself, nat_equal}
 use Rattle.image_draft.proofs.Differ.{NamesDiffer-changed, differ_back}
 
@@ -44,35 +46,59 @@ ordered_of cs o = record { differ = differ_of cs o.distinct; before = o.before }
 pub ordered_none : AreOrdered []
 ordered_none = record { differ = tt; before = λ k c n e q. absurd (cc) }
 
--- what is known of a definition that is not refused
-lacks_none : (cs : List (ClassOf ℕ)) (d : DefinitionOf ℕ) (kernel : Bool) → first_cause (definition_refusals nat_eq cs d (with_definition nat_eq kernel d cs)) ≡ None → lacks_superclass nat_eq cs d ≡ false
-lacks_none cs d kernel none =
-    second_none (when (is_kernel_class nat_eq cs d.name) KernelReplaced) (when (lacks_superclass nat_eq cs d) UnknownSuperclass)
-    (when (makes_cycle nat_eq cs d) Cycle
-    ∷ when (stands_twice nat_eq (with_definition nat_eq kernel d cs) of_instance d.name || (stands_twice nat_eq (with_definition nat_eq kernel d cs) of_class_side d.name || has_repeat nat_eq d.shared)) VariableTwice
-    ∷ when (is_one_class_too_many nat_eq cs d.name) TooMany ∷ []) none
+-- what is known of a definition that the classes before it do not refuse
+abbrev pub IsLet : List (ClassOf ℕ) → DefinitionOf ℕ → Type 0
+IsLet cs d = first_cause (early_refusals cs d) ≡ None
 
-cycle_none : (cs : List (ClassOf ℕ)) (d : DefinitionOf ℕ) (kernel : Bool) → first_cause (definition_refusals nat_eq cs d (with_definition nat_eq kernel d cs)) ≡ None → makes_cycle nat_eq cs d ≡ false
-cycle_none cs d kernel none =
-    third_none (when (is_kernel_class nat_eq cs d.name) KernelReplaced) (when (lacks_superclass nat_eq cs d) UnknownSuperclass) (when (makes_cycle nat_eq cs d) Cycle)
-    (when (stands_twice nat_eq (with_definition nat_eq kernel d cs) of_instance d.name || (stands_twice nat_eq (with_definition nat_eq kernel d cs) of_class_side d.name || has_repeat nat_eq d.shared)) VariableTwice
-    ∷ when (is_one_class_too_many nat_eq cs d.name) TooMany ∷ []) none
+kernel_none : (cs : List (ClassOf ℕ)) (d : DefinitionOf ℕ) → IsLet cs d → is_kernel_class nat_eq cs d.name ≡ false
+kernel_none cs d none = (first_none (when (is_kernel_class nat_eq cs d.name) KernelReplaced) (when (lacks_superclass nat_eq cs d) UnknownSuperclass ∷ when (makes_cycle nat_eq cs d) Cycle ∷ []) none).0
+
+lacks_none : (cs : List (ClassOf ℕ)) (d : DefinitionOf ℕ) → IsLet cs d → lacks_superclass nat_eq cs d ≡ false
+lacks_none cs d none = second_none (when (is_kernel_class nat_eq cs d.name) KernelReplaced) (when (lacks_superclass nat_eq cs d) UnknownSuperclass) (when (makes_cycle nat_eq cs d) Cycle ∷ []) none
+
+cycle_none : (cs : List (ClassOf ℕ)) (d : DefinitionOf ℕ) → IsLet cs d → makes_cycle nat_eq cs d ≡ false
+cycle_none cs d none = third_none (when (is_kernel_class nat_eq cs d.name) KernelReplaced) (when (lacks_superclass nat_eq cs d) UnknownSuperclass) (when (makes_cycle nat_eq cs d) Cycle) [] none
 
 -- a definition that is not refused, with the classes put behind one another
-pub defined_is : (cs new : List (ClassOf ℕ)) (d : DefinitionOf ℕ) (kernel b : Bool) → AreOrdered cs → first_cause (definition_refusals nat_eq cs d (with_definition nat_eq kernel d cs)) ≡ None → b ≡ has_class nat_eq cs d.name
+pub defined_is : (cs new : List (ClassOf ℕ)) (d : DefinitionOf ℕ) (kernel b : Bool) → AreOrdered cs → IsLet cs d → b ≡ has_class nat_eq cs d.name
     → new ≡ (if b then put_behind nat_eq d.name d.superclass (with_definition nat_eq kernel d cs) else with_definition nat_eq kernel d cs) → new ≡ defined nat_eq kernel d cs
 defined_is cs new d kernel true o none there e =
-    e ∙ sym (defined_puts nat_eq nat_itself nat_equal cs d kernel (order_of cs o) (sym there) (lacks_none cs d kernel none) (cycle_none cs d kernel none))
+    e ∙ sym (defined_puts nat_eq nat_itself nat_equal cs d kernel (order_of cs o) (sym there) (lacks_none cs d none) (cycle_none cs d none))
 defined_is cs new d kernel false o none there e = e ∙ ap (λ (b : Bool). if b then settled nat_eq (with_definition nat_eq kernel d cs) else with_definition nat_eq kernel d cs) there
 
 -- it leaves the classes in order, and each class is there still
-pub defined_ordered : (cs : List (ClassOf ℕ)) (d : DefinitionOf ℕ) (kernel : Bool) → AreOrdered cs → first_cause (definition_refusals nat_eq cs d (with_definition nat_eq kernel d cs)) ≡ None → AreOrdered (defined nat_eq kernel d cs)
+pub defined_ordered : (cs : List (ClassOf ℕ)) (d : DefinitionOf ℕ) (kernel : Bool) → AreOrdered cs → IsLet cs d → AreOrdered (defined nat_eq kernel d cs)
 defined_ordered cs d kernel o none =
-    ordered_of (defined nat_eq kernel d cs) (defined_leaves nat_eq nat_itself nat_equal cs d kernel (order_of cs o) (lacks_none cs d kernel none) (cycle_none cs d kernel none)).order
+    ordered_of (defined nat_eq kernel d cs) (defined_leaves nat_eq nat_itself nat_equal cs d kernel (order_of cs o) (lacks_none cs d none) (cycle_none cs d none)).order
 
-pub defined_kept : (cs : List (ClassOf ℕ)) (d : DefinitionOf ℕ) (kernel : Bool) → AreOrdered cs → first_cause (definition_refusals nat_eq cs d (with_definition nat_eq kernel d cs)) ≡ None
+pub defined_kept : (cs : List (ClassOf ℕ)) (d : DefinitionOf ℕ) (kernel : Bool) → AreOrdered cs → IsLet cs d
     → (n : ℕ) → has_class nat_eq cs n ≡ true → has_class nat_eq (defined nat_eq kernel d cs) n ≡ true
-defined_kept cs d kernel o none = (defined_leaves nat_eq nat_itself nat_equal cs d kernel (order_of cs o) (lacks_none cs d kernel none) (cycle_none cs d kernel none)).kept
+defined_kept cs d kernel o none = (defined_leaves nat_eq nat_itself nat_equal cs d kernel (order_of cs o) (lacks_none cs d none) (cycle_none cs d none)).kept
+
+-- the classes with it, in order, decide the rest of its refusals
+pub judged : (cs new : List (ClassOf ℕ)) (d : DefinitionOf ℕ) (kernel : Bool) (n : ℕ) (repeats too_many : Bool) → AreOrdered cs → IsLet cs d → new ≡ defined nat_eq kernel d cs → n ≡ d.name
+    → repeats ≡ has_repeat nat_eq d.shared → too_many ≡ is_one_class_too_many nat_eq cs d.name
+    → first_cause (late_refusals new n repeats too_many) ≡ first_cause (definition_refusals nat_eq cs d (with_definition nat_eq kernel d cs))
+judged cs new d kernel n repeats too_many o none is named r t =
+    (λ i. first_cause (late_refusals (is i) (named i) (r i) (t i)))
+    ∙ (λ i. first_cause (when (sym (twice of_instance) i || (sym (twice of_class_side) i || has_repeat nat_eq d.shared)) VariableTwice ∷ when (is_one_class_too_many nat_eq cs d.name) TooMany ∷ []))
+    ∙ sym (passed_over (is_kernel_class nat_eq cs d.name) (lacks_superclass nat_eq cs d) (makes_cycle nat_eq cs d) (kernel_none cs d none) (lacks_none cs d none) (cycle_none cs d none) (late_refusals (with_definition nat_eq kernel d cs) d.name (has_repeat nat_eq d.shared) (is_one_class_too_many nat_eq cs d.name)))
+  where
+    twice : (kind : VariableKind) → stands_twice nat_eq (with_definition nat_eq kernel d cs) kind d.name ≡ stands_twice nat_eq (defined nat_eq kernel d cs) kind d.name
+    twice kind = defined_twice nat_eq nat_itself nat_equal cs d kernel (order_of cs o) (lacks_none cs d none) (cycle_none cs d none) kind d.name
+
+    passed_over : (a b c : Bool) → a ≡ false → b ≡ false → c ≡ false → (rest : List Condition) → first_cause (when a KernelReplaced ∷ when b UnknownSuperclass ∷ when c Cycle ∷ rest) ≡ first_cause rest
+    passed_over true b c k l m rest = absurd (true≢false k)
+    passed_over false true c k l m rest = absurd (true≢false l)
+    passed_over false false true k l m rest = absurd (true≢false m)
+    passed_over false false false k l m rest = refl
+
+-- of classes in order one pass finds the class of a name and those below it
+pub twice_marked : (cs : List (ClassOf ℕ)) (kind : VariableKind) (n : ℕ) (names : List ℕ) → AreOrdered cs → names ≡ []
+    → list_any (λ (c : ClassOf ℕ). has_repeat nat_eq (chain_variables nat_eq cs kind c)) (marked nat_eq n names cs) ≡ stands_twice nat_eq cs kind n
+twice_marked cs kind n names o none =
+    ap (λ (ns : List ℕ). list_any (λ (c : ClassOf ℕ). has_repeat nat_eq (chain_variables nat_eq cs kind c)) (marked nat_eq n ns cs)) none
+    ∙ sym (ap (list_any (λ (c : ClassOf ℕ). has_repeat nat_eq (chain_variables nat_eq cs kind c))) (tree_marked nat_eq nat_itself nat_equal cs n (order_of cs o)))
 
 -- the class of a name is changed and keeps its name and its superclass
 module _ (n : ℕ) (g : ClassOf ℕ → ClassOf ℕ) (name : (c : ClassOf ℕ) → (g c).name ≡ c.name) (superclass : (c : ClassOf ℕ) → (g c).superclass ≡ c.superclass) where

@@ -4,4 +4,5 @@ pub mod MethodCode
 pub mod MethodSlots
 pub mod Early
 pub mod Names
+pub mod Table
 pub mod Drafted

@@ -1,9 +1,4 @@
-// Classes while a file-out is read, and what is asked of them.
-ghost use Rattle.std.specs.Prelude.{◌≡◌, false, nat_eq, option_copied};
-ghost use Rattle.image_model.specs.Chain.{class_named};
-ghost use Rattle.std.specs.Option.{option_map_or};
-ghost use Rattle.file_model.specs.Hierarchy.{has_class, is_kernel_class, has_subclass};
-
+// Classes while a file-out is read, and definitions of them.
 use rb_base::{Ids, NameId, Text};
 use std::marker::Model;
 
@@ -53,47 +48,6 @@ impl Model for ClassDraft {
       comment = c.comment;
       kernel = c.kernel;
     } };
-}
-
-/// The first class of a name.
-pub fn class_named(classes: &[ClassDraft], name: NameId) -> Option<&ClassDraft>
-    ensures { option_copied result ≡ class_named nat_eq classes.now name }
-{
-    classes.iter().find(|class| name == class.name)
-}
-
-/// Whether there is a class of a name.
-pub fn has_class(classes: &[ClassDraft], name: NameId) -> bool
-    ensures { result ≡ has_class nat_eq classes.now name }
-{
-    class_named(classes, name).is_some()
-}
-
-/// Whether the class of a name is one of the kernel.
-pub fn is_kernel_class(classes: &[ClassDraft], name: NameId) -> bool
-    ensures { result ≡ is_kernel_class nat_eq classes.now name }
-{
-    match class_named(classes, name) {
-        None => false,
-        Some(class) => class.kernel,
-    }
-}
-
-/// Whether a class is the superclass of another.
-pub fn has_subclass(classes: &[ClassDraft], name: NameId) -> bool
-    ensures { result ≡ has_subclass nat_eq classes.now name }
-{
-    classes.iter().any(|class| is_below(class, name))
-}
-
-/// Whether a class has the superclass of a name.
-fn is_below(class: &ClassDraft, name: NameId) -> bool
-    ensures { result ≡ option_map_or (nat_eq name) class.now.superclass false }
-{
-    match class.superclass {
-        None => false,
-        Some(above) => name == above,
-    }
 }
 
 /// A definition of a class, for the first time or again (Goldberg and Robson 1983, "Creating Classes").

@@ -8,9 +8,11 @@ ghost use Rattle.file_model.specs.Applied.{defined, with_definition, with_commen
 ghost use Rattle.image_draft.specs.Early.{told};
 ghost use Rattle.image_draft.specs.Names.{NamesDiffer};
 
-use crate::changes::{change_class_side, change_comment, remove_class};
+use crate::changes::{change_class_side, change_comment};
 use crate::class_draft::{ClassDraft, Definition};
+use crate::class_list::ClassList;
 use crate::define::define_in_order;
+use crate::found;
 use crate::refusals::class_removal_refusal;
 use file_faults::ImageCause;
 use rb_base::{Ids, Memory, NameId, Text};
@@ -21,7 +23,7 @@ use std::marker::Model;
 /// Contracts see the list.
 #[derive(Drop)]
 pub struct Classes {
-    items: Vec<ClassDraft>,
+    list: ClassList,
 }
 
 impl Model for Classes {
@@ -31,9 +33,9 @@ impl Model for Classes {
 
     ghost Value = { List (ClassOf ℕ) };
 
-    ghost view = { λ a. a.items.items };
+    ghost view = { λ a. a.list };
 
-    ghost invariant = { λ a. AreOrdered a.items.items };
+    ghost invariant = { λ a. AreOrdered a.list };
 }
 
 impl Classes {
@@ -42,7 +44,7 @@ impl Classes {
         ensures { result ≡ [] }
     {
         Classes {
-            items: Vec::new(alloc),
+            list: ClassList::new(alloc),
         }
     }
 
@@ -50,21 +52,21 @@ impl Classes {
     pub fn has(&self, name: NameId) -> bool
         ensures { result ≡ has_class nat_eq self.now name }
     {
-        crate::class_draft::has_class(&self.items, name)
+        found::has_class(&self.list, name)
     }
 
     /// The classes in order.
     pub fn as_slice(&self) -> &[ClassDraft]
         ensures { result.now ≡ self.now }
     {
-        &self.items
+        self.list.as_slice()
     }
 
     /// The classes in order, given away.
     pub fn into_items(self) -> Vec<ClassDraft>
         ensures { result.items ≡ self }
     {
-        self.items
+        self.list.into_items()
     }
 
     /// Defines a class, for the first time or again, and puts the classes in order, or tells why it can not be defined;
@@ -82,7 +84,7 @@ impl Classes {
         ensures before { SuperclassesStandBefore self.new }
         ensures kept { IfOk result (λ cause. IfNone cause ((n : ℕ) → has_class nat_eq self.old n ≡ true → has_class nat_eq self.new n ≡ true)) }
     {
-        define_in_order(alloc, &mut self.items, kernel, definition)
+        define_in_order(alloc, &mut self.list, kernel, definition)
     }
 
     /// Gives the class of a name another comment, or tells why it can not be given; then nothing is changed.
@@ -95,7 +97,7 @@ impl Classes {
         ensures before { SuperclassesStandBefore self.new }
         ensures kept { IfNone result ((n : ℕ) → has_class nat_eq self.old n ≡ true → has_class nat_eq self.new n ≡ true) }
     {
-        change_comment(&mut self.items, name, text)
+        change_comment(&mut self.list, name, text)
     }
 
     /// Gives the class of a name other class-instance variables, or tells why it can not have them; then, and on want of
@@ -113,7 +115,7 @@ impl Classes {
         ensures before { SuperclassesStandBefore self.new }
         ensures kept { IfOk result (λ cause. IfNone cause ((n : ℕ) → has_class nat_eq self.old n ≡ true → has_class nat_eq self.new n ≡ true)) }
     {
-        change_class_side(alloc, &mut self.items, name, names)
+        change_class_side(alloc, &mut self.list, name, names)
     }
 
     /// Why the class of a name can not be removed, if so.
@@ -122,7 +124,7 @@ impl Classes {
         ensures some { is_some result ≡ is_some (first_cause (class_removal_refusals nat_eq self.now name)) }
         ensures free { IfNone result (has_subclass nat_eq self.now name ≡ false) }
     {
-        class_removal_refusal(&self.items, name)
+        class_removal_refusal(&self.list, name)
     }
 
     /// Takes the class of a name away, which is the superclass of none.
@@ -133,6 +135,6 @@ impl Classes {
         ensures before { SuperclassesStandBefore self.new }
         ensures kept { (n : ℕ) → nat_eq name n ≡ false → has_class nat_eq self.old n ≡ true → has_class nat_eq self.new n ≡ true }
     {
-        remove_class(&mut self.items, name);
+        self.list.remove(name);
     }
 }

@@ -1,13 +1,16 @@
 // Chains of classes while a file-out is read, and the variables on them.
-ghost use Rattle.std.specs.Prelude.{◌≡◌, ◌&&◌, Some, nat_eq, option_copied, IfOk};
+ghost use Rattle.std.specs.Prelude.{◌≡◌, false, nat_eq, option_copied, IfOk};
 ghost use Rattle.std.specs.List.{list_any};
+ghost use Rattle.std.specs.Option.{option_map_or};
 ghost use Rattle.image_model.specs.Chain.{chain_from, chain, class_of_name, superclass_of};
 ghost use Rattle.image_model.specs.Means as means;
 ghost use Rattle.file_model.specs.Hierarchy as hierarchy;
 ghost use Rattle.file_model.specs.Hierarchy.{stands_in};
 ghost use Rattle.image_draft.specs.Kinds.{kind_of};
+ghost use Rattle.image_draft.specs.Names.{AreOrdered};
 
-use crate::class_draft::{ClassDraft, class_named};
+use crate::class_draft::ClassDraft;
+use crate::class_list::ClassList;
 use rb_base::{Memory, NameId};
 use std::alloc::Global;
 
@@ -19,21 +22,21 @@ pub enum ChainKind {
 }
 
 /// The class of a name, if there is a name.
-fn class_of_name(classes: &[ClassDraft], name: Option<NameId>) -> Option<&ClassDraft>
+fn class_of_name(classes: &ClassList, name: Option<NameId>) -> Option<&ClassDraft>
     ensures { option_copied result ≡ class_of_name nat_eq classes.now name }
 {
-    class_named(classes, name?)
+    classes.find(name?)
 }
 
 /// The superclass of a class.
-fn superclass_of<'a>(classes: &'a [ClassDraft], class: &ClassDraft) -> Option<&'a ClassDraft>
+fn superclass_of<'a>(classes: &'a ClassList, class: &ClassDraft) -> Option<&'a ClassDraft>
     ensures { option_copied result ≡ superclass_of nat_eq classes.now class.now }
 {
     class_of_name(classes, class.superclass)
 }
 
 /// Whether a class of a name is this class or stands above it.
-fn is_on_chain(classes: &[ClassDraft], name: NameId, from: Option<&ClassDraft>) -> bool
+fn is_on_chain(classes: &ClassList, name: NameId, from: Option<&ClassDraft>) -> bool
     ensures { result ≡ stands_in nat_eq name (chain_from nat_eq classes.now (option_copied from.entry)) }
 {
     let mut at = from;
@@ -52,7 +55,7 @@ fn is_on_chain(classes: &[ClassDraft], name: NameId, from: Option<&ClassDraft>) 
 }
 
 /// Whether a class of a name is the class of another name or stands above it.
-pub fn stands_above(classes: &[ClassDraft], name: NameId, from: Option<NameId>) -> bool
+pub fn stands_above(classes: &ClassList, name: NameId, from: Option<NameId>) -> bool
     ensures { result ≡ stands_in nat_eq name (chain nat_eq classes.now from) }
 {
     is_on_chain(classes, name, class_of_name(classes, from))
@@ -71,7 +74,7 @@ fn variables(class: &ClassDraft, kind: ChainKind) -> &[NameId]
 /// The variables of a kind on the chain of a class.
 fn chain_variables(
     alloc: Global,
-    classes: &[ClassDraft],
+    classes: &ClassList,
     kind: ChainKind,
     class: &ClassDraft,
 ) -> Result<Vec<NameId>, Memory>
@@ -112,36 +115,48 @@ pub fn has_repeat(names: &[NameId]) -> bool
     false
 }
 
-/// Whether a class is that of a name or stands below it, and a variable of a kind stands twice on its chain.
-fn repeats_below(
+/// Whether a variable of a kind stands twice on the chain of a class.
+fn repeats_on_chain(
     alloc: Global,
-    classes: &[ClassDraft],
+    classes: &ClassList,
     kind: ChainKind,
-    name: NameId,
     class: &ClassDraft,
 ) -> Result<bool, Memory>
-    ensures { IfOk result (λ found. found ≡ (stands_in nat_eq name (chain_from nat_eq classes.now (Some class.now)) && hierarchy.has_repeat nat_eq (hierarchy.chain_variables nat_eq classes.now (kind_of kind) class.now))) }
+    ensures { IfOk result (λ found. found ≡ hierarchy.has_repeat nat_eq (hierarchy.chain_variables nat_eq classes.now (kind_of kind) class.now)) }
 {
-    if !is_on_chain(classes, name, Some(class)) {
-        return Ok(false);
-    }
     let names = chain_variables(alloc, classes, kind, class)?;
     Ok(has_repeat(&names))
 }
 
-/// Whether a variable of a kind stands twice on the chain of a class or of one below it.
+/// Whether the superclass of a class is among names.
+fn is_under(class: &ClassDraft, names: &[NameId]) -> bool
+    ensures { result ≡ option_map_or (λ s. list_any (nat_eq s) names.now) class.now.superclass false }
+{
+    match class.superclass {
+        None => false,
+        Some(above) => stands_among(above, names),
+    }
+}
+
+/// Whether a variable of a kind stands twice on the chain of a class or of one below it. Since each superclass stands
+/// before its subclasses, one pass finds those below.
 pub fn stands_twice(
     alloc: Global,
-    classes: &[ClassDraft],
+    classes: &ClassList,
     kind: ChainKind,
     name: NameId,
 ) -> Result<bool, Memory>
+    requires { AreOrdered classes.now }
     ensures { IfOk result (λ found. found ≡ hierarchy.stands_twice nat_eq classes.now (kind_of kind) name) }
 {
-    let mut rest = classes;
+    let mut below = Vec::new(alloc);
+    let mut rest = classes.as_slice();
     while let Some((class, others)) = rest.split_first() {
-        if repeats_below(alloc, classes, kind, name, class)? {
-            return Ok(true);
+        if name == class.name || is_under(class, &below) {
+            if repeats_on_chain(alloc, classes, kind, class)? {
+                return Ok(true);
+            }
+            below.push(class.name)?;
         }
         rest = others;
     }

@@ -4,9 +4,11 @@
 mod change;
 mod changes;
 mod class_draft;
+mod class_list;
 mod classes;
 mod define;
 mod draft;
+mod found;
 mod hierarchy;
 mod method_draft;
 mod method_slots;

@@ -6,6 +6,7 @@ ghost use Rattle.file_model.specs.Hierarchy as hierarchy;
 ghost use Rattle.file_laws.specs.Settling as settling;
 
 use crate::class_draft::ClassDraft;
+use crate::class_list::ClassList;
 use rb_base::{Memory, NameId};
 use std::alloc::Global;
 
@@ -93,17 +94,18 @@ fn pass(
 /// The classes in order, once the class of a name is defined again with a superclass or without one.
 pub fn put_behind(
     alloc: Global,
-    classes: Vec<ClassDraft>,
+    classes: ClassList,
     name: NameId,
     superclass: Option<NameId>,
-) -> Result<Vec<ClassDraft>, Memory>
-    ensures { IfOk result (λ ordered. ordered.items ≡ settling.put_behind nat_eq name superclass classes.items) }
+) -> Result<ClassList, Memory>
+    ensures { IfOk result (λ ordered. ordered ≡ settling.put_behind nat_eq name superclass classes) }
 {
     let Some(above) = superclass else {
         return Ok(classes);
     };
-    if comes_first(&classes, above, name) {
+    if comes_first(classes.as_slice(), above, name) {
         return Ok(classes);
     }
-    pass(alloc, classes, name, above)
+    let passed = pass(alloc, classes.into_items(), name, above)?;
+    Ok(ClassList::from_items(alloc, passed))
 }

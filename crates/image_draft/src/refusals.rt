@@ -1,15 +1,16 @@
 // Why changes are refused.
-ghost use Rattle.std.specs.Prelude.{◌≡◌, ◌∷◌, ◌||◌, [], is_some, not, false, nat_eq, IfNone, IfOk};
-ghost use Rattle.std.specs.Option.{option_map_or};
+ghost use Rattle.std.specs.Prelude.{◌≡◌, ◌∷◌, ◌||◌, [], is_some, false, nat_eq, IfNone, IfOk};
 ghost use Rattle.file_model.specs.Causes.{first_cause, when};
 ghost use Rattle.file_model.specs.Refusals as refusals;
-ghost use Rattle.file_model.specs.Causes as causes;
 ghost use Rattle.file_model.specs.Hierarchy as hierarchy;
 ghost use Rattle.file_model.specs.Hierarchy.{stands_twice};
 ghost use Rattle.image_model.specs.Means.{of_instance, of_class_side};
+ghost use Rattle.image_draft.specs.Names.{AreOrdered};
 ghost use Rattle.image_draft.specs.Early.{told, early_refusals, late_refusals, early_side_refusals, late_side_refusals};
 
-use crate::class_draft::{ClassDraft, Definition, has_class, has_subclass, is_kernel_class};
+use crate::class_draft::Definition;
+use crate::class_list::ClassList;
+use crate::found::{has_class, has_subclass, is_kernel_class};
 use crate::hierarchy::{ChainKind, stands_above, stands_twice};
 use file_faults::ImageCause;
 use rb_base::{Memory, NameId};
@@ -19,7 +20,7 @@ use std::alloc::Global;
 const CLASS_LIMIT: usize = 10_000;
 
 /// Whether the superclass that a definition names is no class.
-fn lacks_superclass(classes: &[ClassDraft], definition: &Definition) -> bool
+fn lacks_superclass(classes: &ClassList, definition: &Definition) -> bool
     ensures { result ≡ refusals.lacks_superclass nat_eq classes.now definition.now }
 {
     match definition.superclass {
@@ -29,14 +30,14 @@ fn lacks_superclass(classes: &[ClassDraft], definition: &Definition) -> bool
 }
 
 /// Whether a class is new, and there are as many as there may be.
-pub fn is_one_class_too_many(classes: &[ClassDraft], name: NameId) -> bool
+pub fn is_one_class_too_many(classes: &ClassList, name: NameId) -> bool
     ensures { result ≡ refusals.is_one_class_too_many nat_eq classes.now name }
 {
     !has_class(classes, name) && CLASS_LIMIT <= classes.len()
 }
 
 /// Why a definition is refused by the classes before it.
-pub fn early_refusal(classes: &[ClassDraft], definition: &Definition) -> Option<ImageCause>
+pub fn early_refusal(classes: &ClassList, definition: &Definition) -> Option<ImageCause>
     ensures cause { told result ≡ first_cause (early_refusals classes.now definition.now) }
     ensures some { is_some result ≡ is_some (first_cause (early_refusals classes.now definition.now)) }
 {
@@ -53,7 +54,7 @@ pub fn early_refusal(classes: &[ClassDraft], definition: &Definition) -> Option<
 }
 
 /// Why the comment of a class is refused.
-pub fn comment_refusal(classes: &[ClassDraft], name: NameId) -> Option<ImageCause>
+pub fn comment_refusal(classes: &ClassList, name: NameId) -> Option<ImageCause>
     ensures cause { told result ≡ first_cause (refusals.comment_refusals nat_eq classes.now name) }
     ensures some { is_some result ≡ is_some (first_cause (refusals.comment_refusals nat_eq classes.now name)) }
 {
@@ -67,7 +68,7 @@ pub fn comment_refusal(classes: &[ClassDraft], name: NameId) -> Option<ImageCaus
 }
 
 /// Why the removal of a class is refused.
-pub fn class_removal_refusal(classes: &[ClassDraft], name: NameId) -> Option<ImageCause>
+pub fn class_removal_refusal(classes: &ClassList, name: NameId) -> Option<ImageCause>
     ensures cause { told result ≡ first_cause (refusals.class_removal_refusals nat_eq classes.now name) }
     ensures some { is_some result ≡ is_some (first_cause (refusals.class_removal_refusals nat_eq classes.now name)) }
     ensures free { IfNone result (hierarchy.has_subclass nat_eq classes.now name ≡ false) }
@@ -85,11 +86,7 @@ pub fn class_removal_refusal(classes: &[ClassDraft], name: NameId) -> Option<Ima
 }
 
 /// Why class-instance variables are refused by the classes before they are set.
-pub fn early_side_refusal(
-    classes: &[ClassDraft],
-    name: NameId,
-    names: &[NameId],
-) -> Option<ImageCause>
+pub fn early_side_refusal(classes: &ClassList, name: NameId, names: &[NameId]) -> Option<ImageCause>
     ensures cause { told result ≡ first_cause (early_side_refusals classes.now name names.now) }
     ensures some { is_some result ≡ is_some (first_cause (early_side_refusals classes.now name names.now)) }
 {
@@ -103,7 +100,8 @@ pub fn early_side_refusal(
 }
 
 /// Whether an instance variable or a class-instance variable stands twice on the chain of a class or of one below it.
-fn repeats_on_chains(alloc: Global, new: &[ClassDraft], name: NameId) -> Result<bool, Memory>
+fn repeats_on_chains(alloc: Global, new: &ClassList, name: NameId) -> Result<bool, Memory>
+    requires { AreOrdered new.now }
     ensures { IfOk result (λ found. found ≡ (stands_twice nat_eq new.now of_instance name || stands_twice nat_eq new.now of_class_side name)) }
 {
     if stands_twice(alloc, new, ChainKind::Instance, name)? {
@@ -116,11 +114,12 @@ fn repeats_on_chains(alloc: Global, new: &[ClassDraft], name: NameId) -> Result<
 /// stands twice in its list, and whether there is a class too many.
 pub fn late_refusal(
     alloc: Global,
-    new: &[ClassDraft],
+    new: &ClassList,
     name: NameId,
     repeats: bool,
     too_many: bool,
 ) -> Result<Option<ImageCause>, Memory>
+    requires { AreOrdered new.now }
     ensures cause { IfOk result (λ cause. told cause ≡ first_cause (late_refusals new.now name repeats too_many)) }
     ensures some { IfOk result (λ cause. is_some cause ≡ is_some (first_cause (late_refusals new.now name repeats too_many))) }
 {
@@ -136,9 +135,10 @@ pub fn late_refusal(
 /// Why class-instance variables are refused by the classes with them.
 pub fn late_side_refusal(
     alloc: Global,
-    new: &[ClassDraft],
+    new: &ClassList,
     name: NameId,
 ) -> Result<Option<ImageCause>, Memory>
+    requires { AreOrdered new.now }
     ensures cause { IfOk result (λ cause. told cause ≡ first_cause (late_side_refusals new.now name)) }
     ensures some { IfOk result (λ cause. is_some cause ≡ is_some (first_cause (late_side_refusals new.now name))) }
 {

@@ -1,4 +1,4 @@
-use Rattle.std.proofs.Common.{◌≡◌, ℕ, Bool, List, Option, refl, IfSome, position, slice_set, nat_eq, sym, ap, subst, ◌∙◌}
+use Rattle.std.proofs.Common.{◌≡◌, ℕ, Bool, List, Option, refl, IfSome, slice_set, nat_eq, sym, ap, subst, ◌∙◌}
 use Rattle.image_model.specs.Image.{ClassOf}
 use Rattle.file_model.specs.Hierarchy.{has_class}
 use Rattle.image_draft.specs.Names.{AreOrdered}
@@ -10,34 +10,34 @@ use Rattle.image_draft.proofs.changes.put_comment.Goals as goal
 pub returns-in-Some-clause-changed : goal.returns-in-Some-clause-changed
 returns-in-Some-clause-changed c =
     let p : ClassOf ℕ → Bool = λ d. nat_eq c.args.name d.name in
-    let classes : List (ClassOf ℕ) = c.args.classes.now.items in
+    let classes : List (ClassOf ℕ) = c.args.classes.now in
     let g : ClassOf ℕ → ClassOf ℕ = λ d. record d { comment = c.args.comment } in
-    let at = placed p classes c.in-Some.place (ap (position p) (sym c.deref.ensures.value) ∙ sym c.class_place.ensures ∙ c.in-Some.is) in
-    subst (λ (o : Option (ClassOf ℕ)). IfSome o (λ (d : ClassOf ℕ). c.set_comment.new.classes.items ≡ slice_set classes c.in-Some.place (g d))) at.1 c.set_comment.ensures
+    let at = placed p classes c.in-Some.place (sym c.place.ensures ∙ c.in-Some.is) in
+    subst (λ (o : Option (ClassOf ℕ)). IfSome o (λ (d : ClassOf ℕ). c.set_comment.new.self ≡ slice_set classes c.in-Some.place (g d))) at.1 c.set_comment.ensures
     ∙ sym (changed-at c.args.name g classes c.in-Some.place at.0 c.requires at.1 at.2)
 
 pub returns-in_default-clause-changed : goal.returns-in_default-clause-changed
 returns-in_default-clause-changed c =
-    let classes : List (ClassOf ℕ) = c.args.classes.now.items in
+    let classes : List (ClassOf ℕ) = c.args.classes.now in
     let g : ClassOf ℕ → ClassOf ℕ = λ d. record d { comment = c.args.comment } in
-    sym (changed-none c.args.name g classes (unplaced c.args.name classes (ap (position (λ (d : ClassOf ℕ). nat_eq c.args.name d.name)) (sym c.deref.ensures.value) ∙ sym c.class_place.ensures ∙ c.in_default.is)))
+    sym (changed-none c.args.name g classes (unplaced c.args.name classes (sym c.place.ensures ∙ c.in_default.is)))
 
 pub returns-in-Some-clause-order : goal.returns-in-Some-clause-order
 returns-in-Some-clause-order c =
     let g : ClassOf ℕ → ClassOf ℕ = λ d. record d { comment = c.args.comment } in
-    λ o. subst AreOrdered (sym (returns-in-Some-clause-changed c)) (changed_ordered c.args.name g (λ d. refl) (λ d. refl) c.args.classes.now.items o)
+    λ o. subst AreOrdered (sym (returns-in-Some-clause-changed c)) (changed_ordered c.args.name g (λ d. refl) (λ d. refl) c.args.classes.now o)
 
 pub returns-in-Some-clause-names : goal.returns-in-Some-clause-names
 returns-in-Some-clause-names c =
     let g : ClassOf ℕ → ClassOf ℕ = λ d. record d { comment = c.args.comment } in
-    λ n. ap (λ (ds : List (ClassOf ℕ)). has_class nat_eq ds n) (returns-in-Some-clause-changed c) ∙ has_class-changed c.args.name g (λ d. refl) c.args.classes.now.items n
+    λ n. ap (λ (ds : List (ClassOf ℕ)). has_class nat_eq ds n) (returns-in-Some-clause-changed c) ∙ has_class-changed c.args.name g (λ d. refl) c.args.classes.now n
 
 pub returns-in_default-clause-order : goal.returns-in_default-clause-order
 returns-in_default-clause-order c =
     let g : ClassOf ℕ → ClassOf ℕ = λ d. record d { comment = c.args.comment } in
-    λ o. subst AreOrdered (sym (returns-in_default-clause-changed c)) (changed_ordered c.args.name g (λ d. refl) (λ d. refl) c.args.classes.now.items o)
+    λ o. subst AreOrdered (sym (returns-in_default-clause-changed c)) (changed_ordered c.args.name g (λ d. refl) (λ d. refl) c.args.classes.now o)
 
 pub returns-in_default-clause-names : goal.returns-in_default-clause-names
 returns-in_default-clause-names c =
     let g : ClassOf ℕ → ClassOf ℕ = λ d. record d { comment = c.args.comment } in
-    λ n. ap (λ (ds : List (ClassOf ℕ)). has_class nat_eq ds n) (returns-in_default-clause-changed c) ∙ has_class-changed c.args.name g (λ d. refl) c.args.classes.now.items n
+    λ n. ap (λ (ds : List (ClassOf ℕ)). has_class nat_eq ds n) (returns-in_default-clause-changed c) ∙ has_class-changed c.args.name g (λ d. refl) c.args.classes.now n

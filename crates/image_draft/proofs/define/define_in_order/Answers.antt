@@ -1,37 +1,26 @@
-use Rattle.std.proofs.Common.{◌≡◌, ℕ, List, Option, None, IfNone, nat_eq, sym, ap, subst, ◌∙◌}
-use Rattle.std.specs.Prelude.{if◌then◌else◌}
+use Rattle.std.proofs.Common.{◌≡◌, ℕ, List, Option, IfOk, is_some, nat_eq, sym, ap, subst, ◌∙◌}
 use Rattle.image_model.specs.Image.{ClassOf}
-use Rattle.file_model.specs.Causes.{first_cause}
-use Rattle.file_model.specs.Hierarchy.{has_class}
-use Rattle.file_model.specs.Refusals.{definition_refusals}
+use Rattle.file_model.specs.Causes.{Cause, first_cause}
+use Rattle.file_model.specs.Refusals.{definition_refusals, is_one_class_too_many}
 use Rattle.file_model.specs.Applied.{with_definition}
-use Rattle.file_laws.specs.Settling.{put_behind}
-use Rattle.file_faults.specs.declared.fault.ImageCause.{ImageCause}
-use Rattle.image_draft.specs.Early.{told}
-use Rattle.image_draft.specs.Names.{AreOrdered}
-use Rattle.image_draft.proofs.Ordered.{defined_is, defined_ordered, defined_kept}
+use Rattle.image_draft.specs.Early.{told, late_refusals}
+use Rattle.image_draft.proofs.Ordered.{IsLet, judged}
 use Rattle.image_draft.proofs.define.define_in_order.Goals as goal
 
--- the definition is not refused
-not_refused : (c : goal.After-drop-classes) → first_cause (definition_refusals nat_eq c.args.classes.now.items c.args.definition (with_definition nat_eq c.args.kernel c.args.definition c.args.classes.now.items)) ≡ None
-not_refused c =
-    subst (λ (cs : List (ClassOf ℕ)). first_cause (definition_refusals nat_eq cs c.args.definition (with_definition nat_eq c.args.kernel c.args.definition cs)) ≡ None) c.take_all-items.ensures.taken
-    (sym c.in_ok-cause.ensures.cause ∙ ap told c.in_default.is)
+-- the classes with the definition, in order, decide the rest
+rest_judged : (c : goal.After-late_refusal)
+    → first_cause (late_refusals c.put_in_order.new.classes c.name_of-name.result c.repeats_shared-repeats.result c.is_one_class_too_many-too_many.result)
+    ≡ first_cause (definition_refusals nat_eq c.args.classes.now c.args.definition (with_definition nat_eq c.args.kernel c.args.definition c.args.classes.now))
+rest_judged c =
+    let classes : List (ClassOf ℕ) = c.args.classes.now in
+    let free : IsLet classes c.args.definition =
+    sym c.early_refusal.ensures.cause ∙ ap told c.in_default.is in
+    judged classes c.put_in_order.new.classes c.args.definition c.args.kernel c.name_of-name.result c.repeats_shared-repeats.result c.is_one_class_too_many-too_many.result c.requires free
+    c.in_ok-put_in_order.ensures.changed c.name_of-name.ensures c.repeats_shared-repeats.ensures
+    (c.is_one_class_too_many-too_many.ensures ∙ (λ i. is_one_class_too_many nat_eq classes (c.name_of-name.ensures i)))
 
-pub returns-clause-changed : goal.returns-clause-changed
-returns-clause-changed c =
-    let classes : List (ClassOf ℕ) = c.args.classes.now.items in
-    let there : c.has_class-was_there.result ≡ has_class nat_eq classes c.args.definition.name =
-    c.has_class-was_there.ensures ∙ (λ i. has_class nat_eq ((c.deref.ensures.value ∙ c.take_all-items.ensures.taken) i) (c.name_of-name.ensures i)) in
-    let with : c.change_definition.new.classes.items ≡ with_definition nat_eq c.args.kernel c.args.definition classes =
-    subst (λ (o : Option ImageCause). IfNone o (c.change_definition.new.classes.items ≡ with_definition nat_eq c.args.kernel c.args.definition c.take_all-items.result.items)) c.in_default.is c.in_ok-cause.ensures.changed
-    ∙ ap (with_definition nat_eq c.args.kernel c.args.definition) c.take_all-items.ensures.taken in
-    defined_is classes c.in_ok-classes.field-0.items c.args.definition c.args.kernel c.has_class-was_there.result c.requires (not_refused c) there
-    (c.in_ok-classes.ensures ∙ (λ i. if c.has_class-was_there.result then put_behind nat_eq (c.name_of-name.ensures i) (c.superclass_of-superclass.ensures i) (with i) else with i))
+pub returns-clause-cause : goal.returns-clause-cause
+returns-clause-cause c = subst (λ (o : Option Cause). IfOk c.late_refusal.result (λ cause. told cause ≡ o)) (rest_judged c) c.late_refusal.ensures.cause
 
-pub returns-clause-order : goal.returns-clause-order
-returns-clause-order c = subst AreOrdered (sym (returns-clause-changed c)) (defined_ordered c.args.classes.now.items c.args.definition c.args.kernel c.requires (not_refused c))
-
-pub returns-clause-kept : goal.returns-clause-kept
-returns-clause-kept c =
-    λ n h. ap (λ (cs : List (ClassOf ℕ)). has_class nat_eq cs n) (returns-clause-changed c) ∙ defined_kept c.args.classes.now.items c.args.definition c.args.kernel c.requires (not_refused c) n h
+pub returns-clause-some : goal.returns-clause-some
+returns-clause-some c = subst (λ (o : Option Cause). IfOk c.late_refusal.result (λ cause. is_some cause ≡ is_some o)) (rest_judged c) c.late_refusal.ensures.some

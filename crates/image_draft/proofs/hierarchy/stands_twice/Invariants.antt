@@ -1,15 +1,14 @@
-use Rattle.std.proofs.Common.{◌≡◌, Some, filter, nat_eq, length}
+use Rattle.std.proofs.Common.{◌≡◌, nat_eq, length}
 use Rattle.std.specs.List.{list_any}
 use Rattle.image_model.specs.Image.{ClassOf}
-use Rattle.image_model.specs.Chain.{chain_from}
 use Rattle.file_model.specs.Hierarchy as hierarchy
-use Rattle.file_model.specs.Hierarchy.{stands_in}
+use Rattle.file_laws.proofs.Below.{marked}
 use Rattle.image_draft.specs.Kinds.{kind_of}
 use Rattle.image_draft.proofs.hierarchy.stands_twice.Given as goal
 
 abbrev pub invariant-loop-class : goal.invariant-loop-class
 invariant-loop-class l =
-    list_any (λ (c : ClassOf _). hierarchy.has_repeat nat_eq (hierarchy.chain_variables nat_eq l.classes (kind_of l.kind) c)) (filter (λ (c : ClassOf _). stands_in nat_eq l.name (chain_from nat_eq l.classes (Some c))) l.rest)
+    list_any (λ (c : ClassOf _). hierarchy.has_repeat nat_eq (hierarchy.chain_variables nat_eq l.classes (kind_of l.kind) c)) (marked nat_eq l.name l.below.items l.rest)
     ≡ hierarchy.stands_twice nat_eq l.classes (kind_of l.kind) l.name
 
 abbrev pub decreases-loop-class : goal.decreases-loop-class

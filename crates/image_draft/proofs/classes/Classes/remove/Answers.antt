@@ -7,8 +7,8 @@ use Rattle.image_draft.proofs.classes.Classes.remove.Goals as goal
 
 pub invariant_of-self : goal.invariant_of-self
 invariant_of-self c =
-    let classes : List (ClassOf ℕ) = c.self.inside.items.items in
-    subst AreOrdered (sym c.remove_class.ensures) (removed_ordered c.args.name classes (ap (λ (cs : List (ClassOf ℕ)). has_subclass nat_eq cs c.args.name) c.self.view_is ∙ c.requires) c.self.invariant)
+    let classes : List (ClassOf ℕ) = c.self.inside.list in
+    subst AreOrdered (sym c.remove.ensures) (removed_ordered c.args.name classes (ap (λ (cs : List (ClassOf ℕ)). has_subclass nat_eq cs c.args.name) c.self.view_is ∙ c.requires) c.self.invariant)
 
 pub returns-clause-differ : goal.returns-clause-differ
 returns-clause-differ c = (invariant_of-self c).differ
@@ -18,5 +18,5 @@ returns-clause-before c = (invariant_of-self c).before
 
 pub returns-clause-kept : goal.returns-clause-kept
 returns-clause-kept c = λ n other there.
-    let classes : List (ClassOf ℕ) = c.self.inside.items.items in
-    ap (λ (cs : List (ClassOf ℕ)). has_class nat_eq cs n) c.remove_class.ensures ∙ removed_kept c.args.name classes n other (ap (λ (cs : List (ClassOf ℕ)). has_class nat_eq cs n) c.self.view_is ∙ there)
+    let classes : List (ClassOf ℕ) = c.self.inside.list in
+    ap (λ (cs : List (ClassOf ℕ)). has_class nat_eq cs n) c.remove.ensures ∙ removed_kept c.args.name classes n other (ap (λ (cs : List (ClassOf ℕ)). has_class nat_eq cs n) c.self.view_is ∙ there)
