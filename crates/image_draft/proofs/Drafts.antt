@@ -1,5 +1,5 @@
 -- What changes make of a draft.
-use Rattle.std.proofs.Common.{◌≡◌, ℕ, Bool, true, false, not, cond, List, [], ◌∷◌, map, filter, is_some, Option, Some, None, Result, Ok, Err, IfNone, IfOk, nat_eq, refl, sym, ap, subst, ◌∙◌, true≢false}
+use Rattle.std.proofs.Common.{◌≡◌, ℕ, Bool, true, false, not, List, [], ◌∷◌, map, filter, is_some, Option, Some, None, Result, Ok, Err, IfNone, IfOk, nat_eq, refl, sym, ap, subst, ◌∙◌, true≢false}
 use Rattle.std.specs.List.{AllByRecursion}
 use Rattle.std.specs.Option.{option_map_or}
 use Rattle.rb_base.specs.declared.memory.Memory.{Memory}

@@ -1,5 +1,5 @@
 -- Methods found among those of the program.
-use Rattle.std.proofs.Common.{◌≡◌, ℕ, Bool, false, List, [], ◌∷◌, map, find, is_some, option_copied, Bor, Option, Some, None, option_map, nat_eq, refl, sym, ap, ◌∙◌}
+use Rattle.std.proofs.Common.{◌≡◌, ℕ, Bool, false, List, [], ◌∷◌, map, find, is_some, Option, Some, None, option_map, nat_eq, refl, sym, ap, ◌∙◌}
 use Rattle.std.specs.List.{AllByRecursion}
 use Rattle.std.specs.Option.{option_map_or}
 use Rattle.image_model.specs.Image.{EntryOf}
@@ -8,11 +8,6 @@ use Rattle.image_model.proofs.Lists.{find-map}
 use Rattle.file_model.specs.Refusals.{has_method, is_kernel_method}
 use Rattle.image_draft.specs.declared.method_draft.MethodDraft.{MethodDraft}
 use Rattle.image_draft.specs.Entries.{entry_of}
-
--- there is something behind a reference where there is a reference
-pub copied-some : {X : Type 0} (o : Option (Bor X)) → is_some o ≡ is_some (option_copied o)
-copied-some None = refl
-copied-some (Some r) = refl
 
 -- a test of what an item stands for is the same test
 all_same : {X Y : Type 0} (f : X → Y) (q : Y → Bool) (xs : List X) → AllByRecursion (λ x. q (f x) ≡ q (f x)) xs

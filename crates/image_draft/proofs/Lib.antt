@@ -3,9 +3,10 @@ mod Steps
 mod Entries
 mod Places
 pub mod Differ
-pub mod MethodPlaces
 mod Ordered
 mod ClassPlaces
-pub mod MethodsDiffer
 pub mod MethodClasses
 pub mod Drafts
+pub mod SlotLists
+pub mod SlotTables
+pub mod SlotMethods

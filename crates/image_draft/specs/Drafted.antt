@@ -1,5 +1,5 @@
 -- How far a file-out was read, over numbers of names.
-use Rattle.std.specs.Prelude.{◌≡◌, ℕ, ◌≤◌, List, length, map, Bool, true, nat_eq, Option, Some, None, Result, Ok, Err}
+use Rattle.std.specs.Prelude.{◌≡◌, ℕ, ◌≤◌, length, map, true, nat_eq, Option, Some, None, Result, Ok, Err}
 use Rattle.std.specs.List.{AllByRecursion}
 use Rattle.std.specs.Option.{ForSome}
 use Rattle.image_model.specs.Image.{ImageOf}

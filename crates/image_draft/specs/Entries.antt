@@ -14,12 +14,3 @@ entry_of m = record { class = Some m.class; meta = m.meta; protocol = m.protocol
 -- the run of methods in which a method would stand
 abbrev pub run_of : MethodDraft → RunOf ℕ
 run_of m = record { class = m.class; meta = m.meta; protocol = m.protocol }
-
--- at most one item passes
-abbrev pub PassesOnce : {Y : Type 0} → (Y → Bool) → List Y → Type 0
-PassesOnce q [] = Unit {0}
-PassesOnce q (y ∷ ys) = (q y ≡ true → list_any q ys ≡ false) × PassesOnce q ys
-
--- no two methods have one class, one side and one selector
-abbrev pub MethodsDiffer : List MethodDraft → Type 0
-MethodsDiffer ms = (c : ℕ) (meta : Bool) (s : ℕ) → PassesOnce (is_method nat_eq c meta s) (map entry_of ms)

@@ -1,6 +1,7 @@
 pub mod Kinds
 pub mod Entries
 pub mod MethodCode
+pub mod MethodSlots
 pub mod Early
 pub mod Names
 pub mod Table

@@ -1,17 +1,14 @@
-// Changes of classes and methods.
-ghost use Rattle.std.specs.Prelude.{◌≡◌, ℕ, ◌<◌, filter, is_some, not, nat_eq, IfNone, IfSome, IfOk};
-ghost use Rattle.image_model.specs.Lookup as lookup;
+// Changes of classes.
+ghost use Rattle.std.specs.Prelude.{◌≡◌, ℕ, filter, is_some, not, nat_eq, IfNone, IfSome, IfOk};
 ghost use Rattle.file_model.specs.Causes.{first_cause};
 ghost use Rattle.file_model.specs.Hierarchy.{has_class};
 ghost use Rattle.file_model.specs.Refusals.{comment_refusals, class_side_refusals};
 ghost use Rattle.file_model.specs.Applied.{with_comment, with_class_side};
-ghost use Rattle.image_draft.specs.Entries.{entry_of};
 ghost use Rattle.image_draft.specs.Early.{told};
 ghost use Rattle.image_draft.specs.Names.{NamesDiffer, AreOrdered};
 
 use crate::class_draft::ClassDraft;
 use crate::class_list::ClassList;
-use crate::method_draft::{MethodDraft, is_method};
 use crate::refusals::{comment_refusal, early_side_refusal, late_side_refusal};
 use file_faults::ImageCause;
 use rb_base::{Ids, Memory, NameId, Text};
@@ -22,20 +19,6 @@ pub fn remove_class(classes: &mut Vec<ClassDraft>, name: NameId)
     ensures { classes.new.items ≡ filter (λ c. not (nat_eq name c.name)) classes.old.items }
 {
     classes.retain(|class| name != class.name);
-}
-
-/// Takes the methods of a class, a side and a selector away.
-pub fn remove_method(methods: &mut Vec<MethodDraft>, class: NameId, meta: bool, selector: NameId)
-    ensures { methods.new.items ≡ filter (λ m. not (lookup.is_method nat_eq class meta selector (entry_of m))) methods.old.items }
-{
-    methods.retain(|method| !is_method(method, class, meta, selector));
-}
-
-/// Takes the methods of a class away, those of its class side too.
-pub fn remove_methods_of(methods: &mut Vec<MethodDraft>, class: NameId)
-    ensures { methods.new.items ≡ filter (λ m. not (nat_eq class m.class)) methods.old.items }
-{
-    methods.retain(|method| class != method.class);
 }
 
 /// Gives the class of a name another comment, or tells why it can not be given.

@@ -10,8 +10,8 @@ mod define;
 mod draft;
 mod found;
 mod hierarchy;
-mod method_change;
 mod method_draft;
+mod method_slots;
 mod methods;
 mod order;
 mod refusals;
@@ -20,3 +20,6 @@ pub use change::{Change, Run};
 pub use class_draft::{ClassDraft, Definition};
 pub use draft::{Draft, DraftParts};
 pub use method_draft::MethodDraft;
+
+#[cfg(test)]
+mod tests;

@@ -9,10 +9,8 @@ ghost use Rattle.file_model.specs.Applied.{with_method};
 ghost use Rattle.image_draft.specs.Early.{told};
 ghost use Rattle.image_draft.specs.Entries.{entry_of, run_of};
 
-use crate::changes::{remove_method, remove_methods_of};
-use crate::method_change::put_method;
-use crate::method_draft::{MethodDraft, is_kernel_method};
-use crate::refusals::method_refusal;
+use crate::method_draft::MethodDraft;
+use crate::method_slots::{MethodKey, MethodSlots};
 use file_faults::ImageCause;
 use rb_base::{Memory, NameId};
 use std::alloc::Global;
@@ -21,22 +19,22 @@ use std::marker::Model;
 /// The methods while a file-out is read, in order. No two have one class, one side and one selector. Contracts see the list.
 #[derive(Drop)]
 pub struct Methods {
-    items: Vec<MethodDraft>,
+    slots: MethodSlots,
 }
 
 impl Model for Methods {
     ghost use Rattle.std.specs.Prelude.{List};
     ghost use Rattle.image_draft.specs.declared.method_draft.MethodDraft.{MethodDraft};
-    ghost use Rattle.image_draft.specs.Entries.{MethodsDiffer};
     ghost use Rattle.image_draft.specs.MethodCode.{coded_methods};
+    ghost use Rattle.image_draft.specs.MethodSlots.{those_there, KeepsMethods};
 
     ghost Value = { List MethodDraft };
 
     ghost coded = { coded_methods };
 
-    ghost view = { λ a. a.items.items };
+    ghost view = { λ a. those_there a.slots.slots.items };
 
-    ghost invariant = { λ a. MethodsDiffer a.items.items };
+    ghost invariant = { λ a. KeepsMethods a.slots };
 }
 
 impl Methods {
@@ -45,7 +43,7 @@ impl Methods {
         ensures { result ≡ [] }
     {
         Methods {
-            items: Vec::new(alloc),
+            slots: MethodSlots::new(alloc),
         }
     }
 
@@ -56,51 +54,35 @@ impl Methods {
         ensures some { IfOk result (λ cause. is_some cause ≡ is_some (first_cause (method_refusals nat_eq (map entry_of self.old) (run_of method) method.tree.selector))) }
         ensures changed { IfOk result (λ cause. IfNone cause (map entry_of self.new ≡ with_method nat_eq method.kernel (run_of method) method.source (method_of method.tree) (map entry_of self.old))) }
     {
-        let refusal = self.refusal(&method);
-        if refusal.is_some() {
-            return Ok(refusal);
-        }
-        put_method(&mut self.items, method)?;
-        Ok(None)
-    }
-
-    /// Why a method is refused.
-    fn refusal(&self, method: &MethodDraft) -> Option<ImageCause>
-        ensures cause { told result ≡ first_cause (method_refusals nat_eq (map entry_of self.now) (run_of method.now) method.now.tree.selector) }
-        ensures some { is_some result ≡ is_some (first_cause (method_refusals nat_eq (map entry_of self.now) (run_of method.now) method.now.tree.selector)) }
-    {
-        method_refusal(&self.items, method.class, method.meta, method.tree.selector)
+        self.slots.put(method)
     }
 
     /// Whether the method of a class, a side and a selector is one of the kernel.
     pub fn is_kernel(&self, class: NameId, meta: bool, selector: NameId) -> bool
         ensures { result ≡ refusals.is_kernel_method nat_eq (map entry_of self.now) class meta selector }
     {
-        is_kernel_method(&self.items, class, meta, selector)
+        self.slots.is_kernel(MethodKey::new(class, meta, selector))
     }
 
     /// Takes the method of a class, a side and a selector away, if there is one.
     pub fn remove(&mut self, class: NameId, meta: bool, selector: NameId)
         ensures { self.new ≡ filter (λ m. not (lookup.is_method nat_eq class meta selector (entry_of m))) self.old }
     {
-        remove_method(&mut self.items, class, meta, selector);
+        self.slots.remove(MethodKey::new(class, meta, selector));
     }
 
-    /// Takes the methods of a class away, those of its class side too.
+    /// Takes the methods of a class away, those of its class side too. It takes time in the number of methods that were
+    /// ever put in.
     pub fn remove_of(&mut self, class: NameId)
         ensures { self.new ≡ filter (λ m. not (nat_eq class m.class)) self.old }
     {
-        remove_methods_of(&mut self.items, class);
+        self.slots.remove_of(class);
     }
 
     /// The methods, in order.
     pub fn into_items(self, alloc: Global) -> Result<Vec<MethodDraft>, Memory>
         ensures { IfOk result (λ items. items.items ≡ self) }
     {
-        let mut items = Vec::new(alloc);
-        for method in self.items {
-            items.push(method)?;
-        }
-        Ok(items)
+        self.slots.into_items(alloc)
     }
 }

@@ -1,9 +1,7 @@
 // Why changes are refused.
-ghost use Rattle.std.specs.Prelude.{◌≡◌, ◌∷◌, ◌||◌, [], is_some, map, false, nat_eq, IfNone, IfOk};
-ghost use Rattle.file_model.specs.Causes.{first_cause, when};
+ghost use Rattle.std.specs.Prelude.{◌≡◌, ◌∷◌, ◌||◌, [], is_some, false, nat_eq, IfNone, IfOk};
+ghost use Rattle.file_model.specs.Causes.{first_cause};
 ghost use Rattle.file_model.specs.Refusals as refusals;
-ghost use Rattle.image_draft.specs.Entries.{entry_of};
-ghost use Rattle.file_model.specs.Causes as causes;
 ghost use Rattle.file_model.specs.Hierarchy as hierarchy;
 ghost use Rattle.file_model.specs.Hierarchy.{stands_twice};
 ghost use Rattle.image_model.specs.Means.{of_instance, of_class_side};
@@ -14,16 +12,12 @@ use crate::class_draft::Definition;
 use crate::class_list::ClassList;
 use crate::found::{has_class, has_subclass, is_kernel_class};
 use crate::hierarchy::{ChainKind, stands_above, stands_twice};
-use crate::method_draft::{MethodDraft, has_method, is_kernel_method};
 use file_faults::ImageCause;
 use rb_base::{Memory, NameId};
 use std::alloc::Global;
 
 /// How many classes there may be, those of the kernel among them.
 const CLASS_LIMIT: usize = 10_000;
-
-/// How many methods there may be, those of the kernel among them.
-const METHOD_LIMIT: usize = 200_000;
 
 /// Whether the superclass that a definition names is no class.
 fn lacks_superclass(classes: &ClassList, definition: &Definition) -> bool
@@ -40,18 +34,6 @@ pub fn is_one_class_too_many(classes: &ClassList, name: NameId) -> bool
     ensures { result ≡ refusals.is_one_class_too_many nat_eq classes.now name }
 {
     !has_class(classes, name) && CLASS_LIMIT <= classes.len()
-}
-
-/// Whether a method is new, and there are as many as there may be.
-fn is_one_method_too_many(
-    methods: &[MethodDraft],
-    class: NameId,
-    meta: bool,
-    selector: NameId,
-) -> bool
-    ensures { result ≡ refusals.is_one_method_too_many nat_eq (map entry_of methods.now) class meta selector }
-{
-    !has_method(methods, class, meta, selector) && METHOD_LIMIT <= methods.len()
 }
 
 /// Why a definition is refused by the classes before it.
@@ -164,23 +146,4 @@ pub fn late_side_refusal(
         return Ok(Some(ImageCause::VariableTwice));
     }
     Ok(None)
-}
-
-/// Why a method is refused, by its class, its side and its selector.
-pub fn method_refusal(
-    methods: &[MethodDraft],
-    class: NameId,
-    meta: bool,
-    selector: NameId,
-) -> Option<ImageCause>
-    ensures cause { told result ≡ first_cause (when (refusals.is_kernel_method nat_eq (map entry_of methods.now) class meta selector) causes.KernelReplaced ∷ when (refusals.is_one_method_too_many nat_eq (map entry_of methods.now) class meta selector) causes.TooMany ∷ []) }
-    ensures some { is_some result ≡ is_some (first_cause (when (refusals.is_kernel_method nat_eq (map entry_of methods.now) class meta selector) causes.KernelReplaced ∷ when (refusals.is_one_method_too_many nat_eq (map entry_of methods.now) class meta selector) causes.TooMany ∷ [])) }
-{
-    if is_kernel_method(methods, class, meta, selector) {
-        return Some(ImageCause::KernelReplaced);
-    }
-    if is_one_method_too_many(methods, class, meta, selector) {
-        return Some(ImageCause::TooMany);
-    }
-    None
 }

@@ -1,6 +1,5 @@
-use Rattle.std.proofs.Common.{◌≡◌, false, Option, Some, IfSome, IfOk, nat_eq, sym, ap, subst, ◌∙◌}
+use Rattle.std.proofs.Common.{false, Some, IfSome, IfOk, nat_eq, sym, ap, subst, ◌∙◌}
 use Rattle.st_tree.specs.View.{method_of}
-use Rattle.file_model.specs.Changes.{RunOf}
 use Rattle.file_model.specs.Applied.{method_added}
 use Rattle.image_draft.specs.declared.method_draft.MethodDraft.{MethodDraft}
 use Rattle.image_draft.specs.declared.draft.Draft.{Draft}

@@ -1,4 +1,4 @@
-use Rattle.std.proofs.Common.{◌≡◌, List, map, nat_eq, sym, ap, ◌∙◌}
+use Rattle.std.proofs.Common.{List, map, nat_eq, sym, ap, ◌∙◌}
 use Rattle.file_model.specs.Refusals.{class_removal_refusals}
 use Rattle.file_model.specs.Applied.{without_class}
 use Rattle.image_draft.specs.declared.method_draft.MethodDraft.{MethodDraft}

@@ -1,4 +1,4 @@
-use Rattle.std.proofs.Common.{◌≡◌, List, map, not, nat_eq, sym, ap, ◌∙◌}
+use Rattle.std.proofs.Common.{List, map, not, nat_eq, sym, ap, ◌∙◌}
 use Rattle.image_model.specs.Lookup.{is_method}
 use Rattle.file_model.specs.Refusals.{removal_refusals}
 use Rattle.file_model.specs.Applied.{without_method}
