@@ -1,6 +1,6 @@
 // Why changes are refused.
 ghost use Rattle.std.specs.Prelude.{◌≡◌, ◌∷◌, ◌||◌, [], is_some, false, nat_eq, IfNone, IfOk};
-ghost use Rattle.file_model.specs.Causes.{first_cause, when};
+ghost use Rattle.file_model.specs.Causes.{first_cause};
 ghost use Rattle.file_model.specs.Refusals as refusals;
 ghost use Rattle.file_model.specs.Hierarchy as hierarchy;
 ghost use Rattle.file_model.specs.Hierarchy.{stands_twice};
