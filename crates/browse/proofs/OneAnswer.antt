@@ -5,10 +5,17 @@ use Rattle.first_path.specs.Images.{FileImage}
 use Rattle.first_path.specs.declared.command.Command.{Command}
 use Rattle.first_path.proofs.Once.{one_text}
 use Rattle.first_path.proofs.Scripts.{one_script}
+use Rattle.token_model.specs.declared.kind.Dialect.TheVariants.{Second}
+use Rattle.image_model.specs.Image.{ImageOf}
+use Rattle.st_kernel.specs.KernelText.{prelude_text}
+use Rattle.file_model.specs.Written.{file_of}
+use Rattle.file_model.proofs.OneImage.{one_image, one_refusal, no_image_where_refused}
+use Rattle.canonical_image.specs.Formatted.{formatted}
 use Rattle.browse.specs.declared.status.Status.{Status}
-use Rattle.browse.specs.Forms.{Form, Apply, NoForm, files_of, form_of}
+use Rattle.command_words.specs.Forms.{Form, Apply, Format, Later, NoForm, files_of, form_of}
 use Rattle.browse.specs.Loads.{World, Loads, Given, Refused, Refuses, MayFail, IsTold, IsHonest}
-use Rattle.browse.specs.Answers.{Answer, Reads, Applies, Unread, Judged, judged, AnswersForm, Answers, image_limit, script_limit}
+use Rattle.browse.specs.ImageLines.{image_refusal}
+use Rattle.browse.specs.Answers.{Answer, Reads, Applies, Unread, Judged, judged, Formats, Formatted, Refused as Stopped, AnswersForm, Answers, image_limit, script_limit}
 
 -- both answers are one
 abbrev pub SameAnswer : Status → Status → List ℕ → List ℕ → Type 0
@@ -71,10 +78,22 @@ applies_one image script s t x y (Judged i c reads e) (Judged j d reads' e') =
     let same : ◌≡◌ {A = Answer} (s, x) (t, y) = e ∙ judged_one image script i j c d reads reads' ∙ sym e' in
     (ap (λ (a : Answer). a.0) same, ap (λ (a : Answer). a.1) same)
 
+-- a text that is formatted has one answer
+formats_one : (text : List ℕ) (s t : Status) (x y : List ℕ) → Formats text s x → Formats text t y → SameAnswer s t x y
+formats_one text s t x y (Stopped r wrong is line) (Stopped q wrong' is' line') =
+    (is ∙ sym is', line ∙ ap image_refusal (one_refusal Second prelude_text text r q wrong wrong') ∙ sym line')
+formats_one text s t x y (Stopped r wrong is line) (Formatted i read is' line') = absurd (no_image_where_refused Second prelude_text text i r read wrong)
+formats_one text s t x y (Formatted i read is line) (Stopped r wrong is' line') = absurd (no_image_where_refused Second prelude_text text i r read wrong)
+formats_one text s t x y (Formatted i read is line) (Formatted j read' is' line') =
+    (is ∙ sym is', line ∙ ap (λ (k : ImageOf (List ℕ)). file_of (formatted k)) (one_image Second prelude_text text i j read read') ∙ sym line')
+
 form_one : (w : World) (form : Form) (s t : Status) (x y : List ℕ) → IsHonest w (files_of form) → AnswersForm w form s x → AnswersForm w form t y → SameAnswer s t x y
 form_one w (Apply image script) s t x y honest p q =
     loads_one w image image_limit s t x y _ _ honest.told.0 honest.fine
     (λ i p' q'. loads_one w script script_limit s t x y _ _ honest.told.1.0 honest.fine (λ c. applies_one i c s t x y) p' q') p q
+form_one w (Format image) s t x y honest p q =
+    loads_one w image image_limit s t x y _ _ honest.told.0 honest.fine (λ i. formats_one i s t x y) p q
+form_one w Later s t x y honest p q = (p.0 ∙ sym q.0, p.1 ∙ sym q.1)
 form_one w NoForm s t x y honest p q = (p.0 ∙ sym q.0, p.1 ∙ sym q.1)
 
 pub answers_one : (w : World) (words : List (List ℕ)) (s t : Status) (x y : List ℕ) → IsHonest w (files_of (form_of words)) → Answers w words s x → Answers w words t y → (s ≡ t) × (x ≡ y)

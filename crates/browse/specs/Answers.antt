@@ -9,8 +9,16 @@ use Rattle.first_path.specs.declared.command.FalseCondition.{FalseCondition}
 use Rattle.first_path.specs.declared.command.FalseCondition.TheVariants as condition
 use Rattle.browse.specs.declared.status.Status.{Status}
 use Rattle.browse.specs.declared.status.Status.TheVariants as status
-use Rattle.browse.specs.Forms.{Form, Apply, NoForm, form_of}
+use Rattle.token_model.specs.declared.kind.Dialect.TheVariants.{Second}
+use Rattle.image_model.specs.Image.{ImageOf}
+use Rattle.file_model.specs.Causes.{Refusal}
+use Rattle.file_model.specs.Reading.{IsImageOf, HasRefusal}
+use Rattle.file_model.specs.Written as written
+use Rattle.st_kernel.specs.KernelText.{prelude_text}
+use Rattle.canonical_image.specs.Formatted.{formatted}
+use Rattle.command_words.specs.Forms.{Form, Apply, Format, Later, NoForm, form_of}
 use Rattle.browse.specs.Loads.{World, Loads, line}
+use Rattle.browse.specs.ImageLines.{image_refusal}
 
 abbrev pub Answer : Type 0
 Answer = Status × List ℕ
@@ -25,6 +33,9 @@ script_limit = 1048576
 
 abbrev pub unbuilt : List ℕ
 unbuilt = line (codes "unbuilt")
+
+abbrev pub usage : List ℕ
+usage = line (codes "usage: browse COMMAND ARGUMENTS")
 
 -- a condition's number and name, and the name that it judges
 abbrev pub condition_text : Command → FalseCondition → List ℕ
@@ -52,10 +63,17 @@ pub data Applies (image script : List ℕ) (s : Status) (sent : List ℕ) : Type
   Unread : ((i : FileImage) (c : Command) → ¬ Reads image script i c) → s ≡ status.Unbuilt → sent ≡ unbuilt → Applies image script s sent
   Judged : (i : FileImage) (c : Command) → Reads image script i c → (s, sent) ≡ judged i c → Applies image script s sent
 
+-- `format` answers this text with the status and the bytes
+pub data Formats (text : List ℕ) (s : Status) (sent : List ℕ) : Type 0 where
+  Refused : (r : Refusal) → HasRefusal Second prelude_text text r → s ≡ status.ImageText → sent ≡ image_refusal r → Formats text s sent
+  Formatted : (i : ImageOf (List ℕ)) → IsImageOf Second prelude_text text i → s ≡ status.Done → sent ≡ written.file_of (formatted i) → Formats text s sent
+
 -- the form is answered with the status and the bytes
 abbrev pub AnswersForm : World → Form → Status → List ℕ → Type 0
 AnswersForm w (Apply image script) s sent = Loads w image image_limit s sent (λ i. Loads w script script_limit s sent (λ c. Applies i c s sent))
-AnswersForm w NoForm s sent = (s ≡ status.Unbuilt) × (sent ≡ unbuilt)
+AnswersForm w (Format image) s sent = Loads w image image_limit s sent (λ i. Formats i s sent)
+AnswersForm w Later s sent = (s ≡ status.Unbuilt) × (sent ≡ unbuilt)
+AnswersForm w NoForm s sent = (s ≡ status.Usage) × (sent ≡ usage)
 
 -- the words are answered with the status and the bytes
 abbrev pub Answers : World → List (List ℕ) → Status → List ℕ → Type 0

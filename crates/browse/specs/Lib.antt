@@ -1,4 +1,4 @@
 pub mod Statuses
-pub mod Forms
 pub mod Loads
+pub mod ImageLines
 pub mod Answers

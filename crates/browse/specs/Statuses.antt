@@ -1,12 +1,14 @@
 -- The numbers of the statuses.
 use Rattle.std.specs.Prelude.{ℕ}
 use Rattle.browse.specs.declared.status.Status.{Status}
-use Rattle.browse.specs.declared.status.Status.TheVariants.{Done, Condition, Read, Write, Memory, TooLarge, Unbuilt}
+use Rattle.browse.specs.declared.status.Status.TheVariants.{Done, Condition, Usage, ImageText, Read, Write, Memory, TooLarge, Unbuilt}
 
 -- with which number a process ends that ended so
 abbrev pub number_of : Status → ℕ
 number_of Done = 0
 number_of Condition = 1
+number_of Usage = 2
+number_of ImageText = 3
 number_of Read = 5
 number_of Write = 6
 number_of Memory = 7

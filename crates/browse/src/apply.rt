@@ -1,21 +1,18 @@
 // `apply IMAGE SCRIPT`: the image that the script's command changes, or the first condition that is false.
 ghost use Rattle.std.specs.Prelude.{◌≡◌, ◌++◌, [], IfOk, OnOk};
 ghost use Rattle.rb_base.specs.Outside.{MayGive};
-ghost use Rattle.browse.specs.Forms.{Apply};
+ghost use Rattle.command_words.specs.Forms.{Apply};
 ghost use Rattle.browse.specs.Loads.{world};
 ghost use Rattle.browse.specs.Answers.{AnswersForm, Applies, refusal, unbuilt};
 ghost use Rattle.browse.specs.declared.status.Status.{Status};
 
-use crate::load::{load, push_line};
+use crate::load::{IMAGE_LIMIT, load, push_line};
 use crate::status::Status;
 use first_path::{
     Command, FalseCondition, first_false, read_command, read_image, renamed_image, write_image,
 };
 use rb_base::{Memory, Shelf, Text};
 use std::alloc::Global;
-
-/// The most bytes of a file with an image.
-const IMAGE_LIMIT: u32 = 4194304;
 
 /// The most bytes of a script.
 const SCRIPT_LIMIT: u32 = 1048576;

@@ -2,13 +2,14 @@
 #![tactic(auto)]
 
 mod apply;
+mod format;
+mod image_lines;
 mod load;
 mod send;
 mod status;
 #[cfg(test)]
 mod tests;
 mod top;
-mod words;
 
 pub use status::Status;
 pub use top::{browse, has_one_answer};

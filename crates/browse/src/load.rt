@@ -7,6 +7,9 @@ use crate::status::Status;
 use rb_base::{Memory, Shelf, ShelfError, Text};
 use std::alloc::Global;
 
+/// The most bytes of a file with an image.
+pub(crate) const IMAGE_LIMIT: u32 = 4194304;
+
 /// Appends a line of these two texts.
 pub fn push_line(out: &mut Text, text: &str, name: &[u8]) -> Result<(), Memory>
     ensures { OnOk result (out.new ≡ out.old ++ line (text.now ++ name.now)) }

@@ -9,6 +9,10 @@ pub enum Status {
     Done,
     /// 1: a command was refused, since a condition of it is false; the line names the first one.
     Condition,
+    /// 2: the words are in no form.
+    Usage,
+    /// 3: a chunk of the image is refused; the line names the first one, the place of the cause and the cause.
+    ImageText,
     /// 5: a file could not be read, or there is none of that name.
     Read,
     /// 6: the output failed. What was sent is a prefix of the answer.
@@ -17,7 +21,7 @@ pub enum Status {
     Memory,
     /// 8: a file is longer than its limit.
     TooLarge,
-    /// 11: the words, or the texts of the files, are in no form that is built.
+    /// 11: the words are in a form that is not built yet, or the texts of the files are in none that `apply` reads yet.
     Unbuilt,
 }
 
@@ -29,6 +33,8 @@ impl Status {
         match self {
             Status::Done => 0,
             Status::Condition => 1,
+            Status::Usage => 2,
+            Status::ImageText => 3,
             Status::Read => 5,
             Status::Write => 6,
             Status::Memory => 7,

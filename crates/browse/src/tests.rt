@@ -152,16 +152,38 @@ fn texts_are_answered(rt: HostRuntime) -> Result<(), Fail> {
 }
 
 #[test]
-fn texts_and_words_of_no_form_are_unbuilt(rt: HostRuntime) -> Result<(), Fail> {
+fn texts_of_no_form_are_unbuilt(rt: HostRuntime) -> Result<(), Fail> {
     applies(&rt, rt.alloc(), "", "renameClass A B", 11, "unbuilt\n")?;
+    let mut shelf = MemoryShelf::new(rt.alloc());
+    for words in [
+        ["run", "I", "3"].as_slice(),
+        &["team", "I", "L"],
+        &["demo", "3"],
+    ] {
+        answers(&rt, rt.alloc(), words, &mut shelf, 11, b"unbuilt\n")?;
+    }
+    Ok(())
+}
+
+#[test]
+fn words_of_no_form_are_told_the_usage(rt: HostRuntime) -> Result<(), Fail> {
     let mut shelf = MemoryShelf::new(rt.alloc());
     for words in [
         ["apply", "I"].as_slice(),
         &["apply", "I", "S", "S"],
-        &["run", "I", "3"],
+        &["run", "I", "3", "0"],
+        &["demo", "2001"],
+        &["find", "I", "inst", ".x"],
         &[],
     ] {
-        answers(&rt, rt.alloc(), words, &mut shelf, 11, b"unbuilt\n")?;
+        answers(
+            &rt,
+            rt.alloc(),
+            words,
+            &mut shelf,
+            2,
+            b"usage: browse COMMAND ARGUMENTS\n",
+        )?;
     }
     Ok(())
 }

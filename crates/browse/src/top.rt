@@ -1,17 +1,29 @@
 // The one call of the program.
-ghost use Rattle.std.specs.Prelude.{◌≡◌, ◌≢◌, ◌⊎◌, [], IfOk, List, ℕ, map, string_bytes};
+ghost use Rattle.std.specs.Prelude.{◌≡◌, ◌≢◌, ◌⊎◌, [], IfOk, OnOk, List, ℕ, map, string_bytes};
 ghost use Rattle.rb_base.specs.Outside.{Rose, Sends, SendsPart};
 ghost use Rattle.browse.specs.declared.status.Status.{Status};
-ghost use Rattle.browse.specs.Forms.{form_of, files_of};
+ghost use Rattle.command_words.specs.Forms.{form_of, files_of};
 ghost use Rattle.browse.specs.Loads.{World, world, IsHonest};
-ghost use Rattle.browse.specs.Answers.{Answers};
+ghost use Rattle.browse.specs.Answers.{Answers, usage};
 
 use crate::apply::{apply, unbuilt};
+use crate::format::format;
+use crate::load::push_line;
 use crate::send::send;
 use crate::status::Status;
-use crate::words::{Words, words_of};
+use command_words::{Words, words_of};
 use rb_base::{Memory, Shelf, Sink, SinkError, Text};
 use std::alloc::Global;
+
+/// The answer to words in no form.
+fn usage(out: &mut Text) -> Result<Status, Memory>
+    requires { out.old ≡ [] }
+    ensures status { IfOk result (λ status. status ≡ Status.Usage) }
+    ensures text { OnOk result (out.new ≡ usage) }
+{
+    push_line(out, "usage: browse COMMAND ARGUMENTS", b"")?;
+    Ok(Status::Usage)
+}
 
 /// Builds the whole answer.
 fn answer<F: Shelf>(
@@ -26,7 +38,9 @@ fn answer<F: Shelf>(
 {
     match words_of(words) {
         Words::Apply { image, script } => apply(alloc, shelf, image, script, out),
-        Words::NoForm => unbuilt(out),
+        Words::Format { image } => format(alloc, shelf, image, out),
+        Words::Later => unbuilt(out),
+        Words::NoForm => usage(out),
     }
 }
 

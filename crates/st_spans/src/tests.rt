@@ -40,7 +40,39 @@ const METHODS: &[Case] = &[
             (&[0, 0, 1], 14, 15),
         ],
     ),
+    (
+        "pay: x | rate | rate := 2. ^x * rate + 1",
+        &[
+            (&[0], 16, 25),
+            (&[0, 0], 24, 25),
+            (&[1], 27, 40),
+            (&[1, 0], 28, 40),
+            (&[1, 0, 0], 28, 36),
+            (&[1, 0, 0, 0], 28, 29),
+            (&[1, 0, 0, 1], 32, 36),
+            (&[1, 0, 1], 39, 40),
+        ],
+    ),
+    (
+        "go: flag ^flag ifTrue: self part",
+        &[
+            (&[0], 9, 32),
+            (&[0, 0], 10, 32),
+            (&[0, 0, 0], 10, 14),
+            (&[0, 0, 1], 23, 32),
+            (&[0, 0, 1, 0], 23, 27),
+        ],
+    ),
     ("go", &[]),
+];
+
+/// Methods, each with the path of a node and its place.
+const PARTS: &[(&str, Row)] = &[
+    ("pay: x | rate | rate := 2. ^x * rate + 1", (&[1, 0, 0], 28, 36)),
+    ("due ^self fee", (&[0, 0], 5, 13)),
+    ("go: flag ^flag ifTrue: self part", (&[0, 0, 1], 23, 32)),
+    ("pay: x ^x * 2 + 1", (&[0, 0, 0], 8, 13)),
+    ("go ^self foo + self bar", (&[0, 0, 1], 15, 23)),
 ];
 
 /// Do-its.
@@ -177,6 +209,15 @@ fn parts(rt: HostRuntime) -> Result<(), Fail> {
     for (from, to, run) in RUNS {
         let part = part_of_span(rt.alloc(), STATEMENTS.as_bytes(), *from, *to)?;
         assert!(&rt; is_run(&part, run));
+    }
+    Ok(())
+}
+
+#[test]
+fn nodes(rt: HostRuntime) -> Result<(), Fail> {
+    for (text, (steps, from, to)) in PARTS {
+        let part = part_of_span(rt.alloc(), text.as_bytes(), *from, *to)?;
+        assert!(&rt; is_node(&part, steps));
     }
     Ok(())
 }

@@ -1,0 +1,47 @@
+#!/bin/sh
+# Makes large file-outs in a folder of its own and times `format` of the built program on each (./build makes it). It is no test:
+# it prints, for each input, its bytes, the status, the seconds of processor time and the greatest memory in megabytes.
+set -eu
+top=$(cd "$(dirname "$0")/.." && pwd)
+program=$top/crates/browse_program/out/browse_program
+[ -x "$program" ] || { echo "bench: build the program first: ./build" >&2; exit 1; }
+folder=$(mktemp -d)
+trap 'rm -rf "$folder"' EXIT
+most=4194304
+
+# A class with methods of ordinary code, over and over, up to 4 MB.
+awk -v most="$most" 'BEGIN {
+    for (n = 1; size < most - 2000; n++) {
+        text = "Object subclass: #Account" n "\n\tinstanceVariableNames: '"'balance owner'"'\n\tclassVariableNames: '"''"'\n\tpoolDictionaries: '"''"'\n\tcategory: '"'Bank'"'!\n\n"
+        text = text "!Account" n " methodsFor: '"'accessing'"'!\nbalance\n\t\"What is on the account.\"\n\t^balance! !\n\n"
+        text = text "!Account" n " methodsFor: '"'moving'"'!\ndeposit: anAmount\n\tanAmount < 0 ifTrue: [^self error: '"'negative'"'].\n\tbalance := balance + anAmount.\n\t^self!\n\nwithdraw: anAmount ifAbsent: aBlock\n\t| rest |\n\trest := balance - anAmount.\n\trest < 0 ifTrue: [^aBlock value].\n\tbalance := rest.\n\t#(1 2 3) do: [:each | owner note: each]! !\n\n"
+        size += length(text)
+        printf "%s", text
+    }
+}' > "$folder/ordinary.st"
+awk -v most="$most" 'BEGIN { for (n = 0; n < most; n++) printf " " }' > "$folder/blanks.st"
+awk -v most="$most" 'BEGIN { for (n = 0; n < most; n++) printf "!" }' > "$folder/marks.st"
+awk -v most="$most" 'BEGIN { printf "\""; for (n = 0; n < most - 6; n++) printf "c"; printf "\" 3!\n" }' > "$folder/comment.st"
+awk -v most="$most" 'BEGIN {
+    printf "Object subclass: #A instanceVariableNames: '"''"' classVariableNames: '"''"' poolDictionaries: '"''"' category: '"''"'!\n!A methodsFor: '"''"'!\ngo\n"
+    for (n = 0; n < (most - 200) / 11; n++) printf "\tx foo: 1.\n"
+    printf "! !\n"
+}' > "$folder/method.st"
+awk 'BEGIN {
+    printf "Object subclass: #A instanceVariableNames: '"''"' classVariableNames: '"''"' poolDictionaries: '"''"' category: '"''"'!\n!A methodsFor: '"''"'!\n"
+    for (n = 0; n < 100000; n++) printf "m%d ^%d!\n", n, n
+    printf " !\n"
+}' > "$folder/methods.st"
+awk 'BEGIN {
+    for (round = 0; round < 2; round++)
+        for (n = 0; n < 9900; n++)
+            printf "%s subclass: #C%d instanceVariableNames: '"''"' classVariableNames: '"''"' poolDictionaries: '"''"' category: '"'c%d'"'!\n", (n % 100 == 0 ? "Object" : "C" (n - 1)), n, round
+}' > "$folder/classes.st"
+
+for name in ordinary blanks marks comment method methods classes; do
+    file=$folder/$name.st
+    status=0
+    /usr/bin/env time -f '%U %S %M' -o "$folder/times" "$program" format "$file" > "$folder/out" || status=$?
+    tail -n 1 "$folder/times" | awk -v name="$name" -v bytes="$(wc -c < "$file")" -v status="$status" \
+        '{ printf "%-10s %8d bytes  status %d  %.2f s  %d MB\n", name, bytes, status, $1 + $2, $3 / 1024 }'
+done
