@@ -9,7 +9,8 @@ use crate::load::{IMAGE_LIMIT, load};
 use crate::status::Status;
 use canonical_image::format_image;
 use file_faults::ImageFault;
-use image_file::{read_image, write_image};
+use file_reading::read_image;
+use image_file::write_image;
 use rb_base::{Memory, Shelf, Text};
 use std::alloc::Global;
 

@@ -47,10 +47,6 @@ module _ (prelude text : Text) (k : Filing) (reads : ReadsText Second true no_im
   is_kernel : IsKernelOf Second prelude k.image
   is_kernel = record { end = k; reads = reads; image = refl }
 
-  -- a file-out was read behind the kernel
-  pub image_read : (f : Filing) → ReadsText Second false k.image text (Ok f) → IsImageOf Second prelude text f.image
-  image_read f r = record { kernel = k.image; is_kernel = is_kernel; end = f; reads = r; image = refl }
-
   -- it is refused
   pub image_refused : (a : ImageFault) → Tells (λ r. ReadsText Second false k.image text (Err r)) a → IsRefused prelude text a
   image_refused a WantsMemory = faults.WantsMemory

@@ -1,12 +1,14 @@
-//! The reader of file-outs of Smalltalk-80 (Krasner, "The Smalltalk-80 Code File Format", 1983), up to a draft of the image:
-//! the loop over the chunks.
+//! The reader of file-outs of Smalltalk-80 (Krasner, "The Smalltalk-80 Code File Format", 1983): each chunk is taken behind
+//! those before it, and the draft of an image that comes of it is made an image.
 #![tactic(auto)]
 
+mod image;
 mod read;
 mod reading;
 mod said;
 mod take;
 mod words;
 
+pub use image::read_image;
 pub use read::read_draft;
 pub use reading::Reading;
