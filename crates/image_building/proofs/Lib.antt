@@ -3,3 +3,4 @@ mod Found
 mod Added
 mod Outcomes
 mod Heads
+mod Made

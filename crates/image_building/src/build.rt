@@ -19,6 +19,7 @@ fn image_with(alloc: Global, names: Names) -> Image
     ensures image { result ≡ record { names = names; classes = []; class_order = []; methods = []; method_order = []; doits = []; heads = 0 } }
     ensures orderly { IsOrderly result }
 {
+    // The length is asked for, since it tells that no text stands twice among the names.
     let _ = names.len();
     let mut image = Image::new(alloc);
     *image.names_mut() = names;

@@ -7,3 +7,6 @@ mod doits;
 mod methods;
 
 pub use build::image_from;
+
+#[cfg(test)]
+mod tests;
