@@ -33,7 +33,7 @@ position_cons {X} p x xs = by (p x)
     by false = ap (λ (t : Bool). cond t (Some (1 + position_or_len p xs)) None) (more_both (position_or_len p xs) (length xs)) ∙ at (nat_lt (position_or_len p xs) (length xs)) (position_or_len p xs)
 
 -- of a name
-place_cons : (x : ClassOf ℕ) (xs : List (ClassOf ℕ)) (q : ℕ) → place_in (x ∷ xs) q ≡ cond (nat_eq q x.name) (Some 0) (option_map suc (place_in xs q))
+pub place_cons : (x : ClassOf ℕ) (xs : List (ClassOf ℕ)) (q : ℕ) → place_in (x ∷ xs) q ≡ cond (nat_eq q x.name) (Some 0) (option_map suc (place_in xs q))
 place_cons x xs q = position_cons (λ (c : ClassOf ℕ). nat_eq q c.name) x xs
 
 -- numbers are told apart both ways

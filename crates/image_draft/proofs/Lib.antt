@@ -5,6 +5,7 @@ mod Places
 pub mod Differ
 mod Ordered
 mod ClassPlaces
+mod Marks
 pub mod MethodClasses
 pub mod Drafts
 pub mod SlotLists

@@ -1,5 +1,5 @@
 // Classes in a list, found by their names.
-ghost use Rattle.std.specs.Prelude.{◌≡◌, ℕ, ◌<◌, ◌∷◌, ◌++◌, [], true, filter, length, not, position, slice_get, slice_set, nat_eq, option_copied, IfSome, IfOk, OnOk};
+ghost use Rattle.std.specs.Prelude.{◌≡◌, ℕ, ◌<◌, ◌∷◌, ◌++◌, [], true, drop, filter, length, not, position, slice_get, slice_set, nat_eq, option_copied, IfSome, IfOk, OnOk};
 ghost use Rattle.image_model.specs.Chain.{class_named};
 ghost use Rattle.file_model.specs.Applied.{class_again};
 ghost use Rattle.image_draft.specs.Table.{place_in, IsPlaceTable, IsNoted};
@@ -71,6 +71,13 @@ impl ClassList {
         ensures { result.now ≡ self.now }
     {
         &self.items
+    }
+
+    /// The classes from a place on.
+    pub fn behind(&self, place: usize) -> &[ClassDraft]
+        ensures { result.now ≡ drop place self.now }
+    {
+        self.items.get(place..).unwrap_or(&[])
     }
 
     /// The classes in order, given away.

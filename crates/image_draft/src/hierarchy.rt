@@ -139,7 +139,7 @@ fn is_under(class: &ClassDraft, names: &[NameId]) -> bool
 }
 
 /// Whether a variable of a kind stands twice on the chain of a class or of one below it. Since each superclass stands
-/// before its subclasses, one pass finds those below.
+/// before its subclasses, one pass from the class on finds those below.
 pub fn stands_twice(
     alloc: Global,
     classes: &ClassList,
@@ -149,8 +149,11 @@ pub fn stands_twice(
     requires { AreOrdered classes.now }
     ensures { IfOk result (λ found. found ≡ hierarchy.stands_twice nat_eq classes.now (kind_of kind) name) }
 {
+    let Some(place) = classes.place(name) else {
+        return Ok(false);
+    };
     let mut below = Vec::new(alloc);
-    let mut rest = classes.as_slice();
+    let mut rest = classes.behind(place);
     while let Some((class, others)) = rest.split_first() {
         if name == class.name || is_under(class, &below) {
             if repeats_on_chain(alloc, classes, kind, class)? {
