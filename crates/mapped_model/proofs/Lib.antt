@@ -1,0 +1,7 @@
+mod Tests
+mod LookupsMapped
+mod ValuesMapped
+mod PrimitivesMapped
+mod ShapesMapped
+mod StoresMapped
+mod RunsMapped
