@@ -5,3 +5,5 @@ mod PrimitivesMapped
 mod ShapesMapped
 mod StoresMapped
 mod RunsMapped
+mod Widened
+mod MatchedByMaps

@@ -1,8 +1,8 @@
 -- Chains and look-ups with mapped names.
-use Rattle.std.proofs.Common.{◌≡◌, List, [], ◌∷◌, length, Option, Some, None, refl, sym, ap, ◌∙◌}
+use Rattle.std.proofs.Common.{◌≡◌, List, length, Option, Some, None, refl, sym, ap, ◌∙◌}
 use Rattle.std.specs.Prelude.{ℕ, Bool, true, false, ◌&&◌, if◌then◌else◌, map, find}
 use Rattle.std.proofs.Math.Bool.{beq}
-use Rattle.std.specs.List.{AllByRecursion, list_any}
+use Rattle.std.specs.List.{list_any}
 use Rattle.std.specs.Option.{option_map, option_map_or, option_and_then, option_or}
 use Rattle.rb_base.specs.Names.{text_eq}
 use Rattle.image_model.specs.Image.{ClassOf}
@@ -12,7 +12,7 @@ use Rattle.image_model.specs.Chain.{class_of_name, superclass_of, chain_from, ch
 use Rattle.image_model.proofs.Lists.{length-map, find-map, any-map, option_map-option_or}
 use Rattle.image_model.proofs.UpwardsLemmas.{upwards-map, first_given-map}
 use Rattle.run_model.specs.Values.{Name}
-use Rattle.resolved_model.specs.ResolvedImages.{ResolvedMethod, ResolvedImage, is_resolved_method, found_on_chain, finds, finds_above, class_of_doits}
+use Rattle.resolved_model.specs.ResolvedImages.{ResolvedImage, is_resolved_method, found_on_chain, finds, finds_above, class_of_doits}
 use Rattle.resolved_model.proofs.LookupLemmas.{everywhere, anywhere}
 use Rattle.mapped_model.specs.NameMaps.{NameMaps, IsOneToOne, KeepsWords}
 use Rattle.mapped_model.specs.MappedImages.{mapped_class, mapped_method, mapped_image}

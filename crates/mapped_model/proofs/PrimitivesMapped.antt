@@ -1,6 +1,6 @@
 -- Primitives with mapped names.
 use Rattle.std.proofs.Common.{◌≡◌, ℕ, zero, suc, ◌+◌, List, [], ◌∷◌, ◌++◌, length, Option, Some, None, refl, sym, ap, ◌∙◌}
-use Rattle.std.specs.Prelude.{Bool, true, false, ◌==◌, ◌&&◌, cond, if◌then◌else◌, nat_lt, nat_abs, int_le, int_lt, map, find, set, take, drop, replicate, slice_get, get_or, option_map, unwrap_or, codes, ℤ, pos, negsuc, ◌+ℤ◌, ◌-ℤ◌, ◌*ℤ◌}
+use Rattle.std.specs.Prelude.{Bool, true, false, ◌==◌, ◌&&◌, cond, if◌then◌else◌, nat_lt, nat_abs, int_le, int_lt, map, find, set, take, drop, replicate, slice_get, option_map, codes, ℤ, pos, negsuc, ◌+ℤ◌, ◌-ℤ◌, ◌*ℤ◌}
 use Rattle.std.specs.Int.{int_bit_and, int_bit_or, w64}
 use Rattle.std.specs.Fmt.{signed_decimal}
 use Rattle.std.specs.Ordering.{int_eq}
@@ -12,11 +12,11 @@ use Rattle.image_model.proofs.Lists.{length-map}
 use Rattle.rb_base.specs.Names.{text_eq}
 use Rattle.image_model.specs.Image.{ClassOf}
 use Rattle.image_model.specs.Chain.{chain}
-use Rattle.run_model.specs.Values.{Name, Value, nil_value, true_value, false_value, int_value, char_value, string_value, symbol_value, class_value, object_value, array_value, closure_value, transcript_value, Event, shown, printed, unsupported, user_error, overflow, bad_argument, bad_index, too_long, reflective, wrong_arity}
+use Rattle.run_model.specs.Values.{Name, Value, nil_value, true_value, false_value, int_value, char_value, string_value, symbol_value, class_value, object_value, array_value, shown, printed, unsupported, user_error, overflow, bad_argument, too_long, reflective, wrong_arity}
 use Rattle.run_model.specs.Store.{Object, Heap, with_array, with_object}
 use Rattle.run_model.specs.Numbers.{is_zero, fitting, floor_quotient, floor_remainder, shifted}
 use Rattle.run_model.specs.Views.{elements, class_name_of, is_meta, same_value, view_of, string_text, symbol_text, char_text}
-use Rattle.run_model.specs.Calls.{Call, PrimResult, answers, faults, enters, argument, at_once, demands, of_length, makes_bytes, makes_array, answers_integer, truth, answers_truth, as_integer, as_char, as_string, as_symbol, as_bytes, as_class, as_array, as_closure, as_transcript, Sequence, of_bytes, of_values, as_sequence}
+use Rattle.run_model.specs.Calls.{Call, PrimResult, answers, faults, enters, argument, at_once, demands, of_length, makes_bytes, makes_array, answers_integer, answers_truth, as_integer, as_bytes, as_class, Sequence, of_bytes, of_values, as_sequence}
 use Rattle.run_model.specs.ObjectPrimitives.{is_same, gives_class, instance_class, is_on_chain, is_kind_of, copy_of, copies, raises_error, is_reflective, value_classes, instance_of, gives_instance, enters_closure, counts_parameters, shows, printed_length, prints}
 use Rattle.run_model.specs.IntegerPrimitives.{two_integers, divisor, adds, subtracts, multiplies, divides_down, gives_remainder, divides_exactly, is_less, bits_in_both, bits_in_any, shifts, prints_integer, byte_of, gives_character, gives_byte, string_of_character, prints_character}
 use Rattle.run_model.specs.SequencePrimitives.{item_at, place_of, items_between, within, with_items, items_count, gives_length, value_at, gives_item, with_item, stores_item, joined, joins, part_of, gives_part, is_before, is_text_before, symbol_of_string, string_of_symbol, prints_string, prints_symbol, as_array_class, length_of, gives_array}
@@ -24,7 +24,7 @@ use Rattle.run_model.specs.Primitives.{rows, primitive}
 use Rattle.mapped_model.specs.NameMaps.{NameMaps, IsOneToOne, KeepsWords}
 use Rattle.mapped_model.specs.MappedImages.{mapped_class}
 use Rattle.mapped_model.specs.MappedRuns.{mapped_event, mapped_error}
-use Rattle.mapped_model.proofs.Tests.{text-mapped, mapped-word, words-mapped, get_or-after}
+use Rattle.mapped_model.proofs.Tests.{mapped-word, words-mapped, get_or-after}
 use Rattle.mapped_model.proofs.LookupsMapped.{on-after}
 use Rattle.mapped_model.proofs.ValuesMapped.{mapped_value, mapped_object, mapped_heap, mapped_sequence, integer-after, char-after, string-after, symbol-after, bytes-after, array-after, closure-after, transcript-after, as_class-after, meta-after, elements-after, sequence-after, with_array-after, with_object-after, printed-after, same-after, class_name-after, instance_class-after, view-after}
 

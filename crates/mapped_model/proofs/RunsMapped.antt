@@ -8,7 +8,7 @@ use Rattle.image_model.proofs.Lists.{length-map}
 use Rattle.rb_base.specs.Names.{text_eq}
 use Rattle.tree_model.specs.Tree.{LiteralOf, number, str, symbol, char, array, bytes, word, LiteralsOf, no_literals, more_literals}
 use Rattle.run_model.specs.Values.{Name, Value, nil_value, true_value, false_value, int_value, char_value, string_value, symbol_value, class_value, object_value, array_value, closure_value, transcript_value, Event, RunError, does_not_understand, too_long, done}
-use Rattle.run_model.specs.Store.{Object, value_of, with_value, same_pair, field_of, with_field, class_side_of, with_class_side, with_shared, value_in_cell, with_cell, object_with, with_objects, Binding, holds, in_cell, Memory, start, returns, ends_by, out_of_ticks, Result, fine, leaves}
+use Rattle.run_model.specs.Store.{Object, value_of, same_pair, field_of, with_field, class_side_of, with_class_side, with_shared, with_cell, object_with, with_objects, Binding, holds, in_cell, Memory, start, returns, ends_by, out_of_ticks, Result, fine, leaves}
 use Rattle.run_model.specs.Numbers.{numeral_integer}
 use Rattle.run_model.specs.Views.{is_meta}
 use Rattle.run_model.specs.Calls.{PrimResult, answers, faults, enters}
@@ -28,7 +28,7 @@ use Rattle.mapped_model.specs.MappedRuns.{mapped_event, mapped_error, mapped_run
 use Rattle.mapped_model.proofs.Tests.{text-mapped, pair-mapped, value_of-mapped, with_value-mapped, get_or-after}
 use Rattle.mapped_model.proofs.LookupsMapped.{finds-after, finds_above-after, doits-after}
 use Rattle.mapped_model.proofs.ValuesMapped.{mapped_value, mapped_object, meta-after, class_name-after, view-after, with_array-after}
-use Rattle.mapped_model.proofs.PrimitivesMapped.{mapped_call, mapped_result, nils-after, primitive-after}
+use Rattle.mapped_model.proofs.PrimitivesMapped.{mapped_result, nils-after, primitive-after}
 use Rattle.mapped_model.proofs.ShapesMapped.{mapped_branch, mapped_shape, super-after, shape-after}
 use Rattle.mapped_model.proofs.StoresMapped.{mapped_side, mapped_memory, mapped_store, mapped_binding, mapped_frame, mapped_closure, mapped_end, Maps, gives-maps, fails-maps, goes_home-maps, stops-maps, then_maps, memory-maps, looks-maps, keeps-maps, tells-maps, pays-maps, home-maps}
 

@@ -1,5 +1,5 @@
 -- Shapes of sends with mapped names.
-use Rattle.std.proofs.Common.{◌≡◌, ℕ, zero, suc, Option, Some, None, refl, ap, ◌∙◌}
+use Rattle.std.proofs.Common.{◌≡◌, zero, suc, Option, Some, None, refl, ap, ◌∙◌}
 use Rattle.std.specs.Prelude.{Bool, true, false, if◌then◌else◌, option_map, option_and_then, unwrap_or, codes}
 use Rattle.rb_base.specs.Names.{text_eq}
 use Rattle.run_model.specs.Values.{Name}

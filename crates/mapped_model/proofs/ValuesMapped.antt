@@ -1,10 +1,10 @@
 -- Values, heaps and what is seen of values, with mapped names.
-use Rattle.std.proofs.Common.{◌≡◌, ℕ, List, [], ◌∷◌, ◌++◌, length, Option, Some, None, refl, sym, ap, ◌∙◌}
-use Rattle.std.specs.Prelude.{Bool, true, false, if◌then◌else◌, map, slice_get, option_map, unwrap_or, codes}
+use Rattle.std.proofs.Common.{◌≡◌, ℕ, List, [], ◌∷◌, length, Option, Some, None, refl, sym, ap, ◌∙◌}
+use Rattle.std.specs.Prelude.{map, slice_get, option_map, unwrap_or}
 use Rattle.std.proofs.lemmas.List.{map-append}
 use Rattle.std.proofs.lemmas.Option.{slice_get-map}
 use Rattle.image_model.proofs.Lists.{length-map}
-use Rattle.run_model.specs.Values.{Name, Value, nil_value, true_value, false_value, int_value, char_value, string_value, symbol_value, class_value, object_value, array_value, closure_value, transcript_value, object_atom, array_atom, items, one}
+use Rattle.run_model.specs.Values.{Value, nil_value, true_value, false_value, int_value, char_value, string_value, symbol_value, class_value, object_value, array_value, closure_value, transcript_value, object_atom, array_atom, items, one}
 use Rattle.run_model.specs.Store.{Object, Heap, with_array, with_object}
 use Rattle.run_model.specs.Views.{class_of_object, elements, class_name_of, is_meta, same_value, atom_of, view_of}
 use Rattle.run_model.specs.Calls.{as_integer, as_char, as_string, as_symbol, as_bytes, as_class, as_array, as_closure, as_transcript, Sequence, of_bytes, of_values, as_sequence}

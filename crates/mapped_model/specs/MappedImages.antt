@@ -1,5 +1,5 @@
 -- Resolved images with mapped names.
-use Rattle.std.specs.Prelude.{List, map, Option}
+use Rattle.std.specs.Prelude.{map}
 use Rattle.std.specs.Option.{option_map}
 use Rattle.image_model.specs.Image.{ClassOf}
 use Rattle.run_model.specs.Values.{Name}

@@ -1,5 +1,5 @@
 -- How names are mapped.
-use Rattle.std.specs.Prelude.{◌≡◌, List, [], ◌∷◌, codes}
+use Rattle.std.specs.Prelude.{◌≡◌, []}
 use Rattle.std.specs.List.{AllByRecursion}
 use Rattle.run_model.specs.Values.{Name}
 use Rattle.run_model.specs.ObjectPrimitives.{value_classes}

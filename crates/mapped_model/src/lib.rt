@@ -4,4 +4,4 @@
 
 mod laws;
 
-pub use laws::law_mapped_runs;
+pub use laws::{law_mapped_runs, law_matched_by_maps};

@@ -3,4 +3,4 @@ mod Environments
 mod ResolvingLemmas
 pub mod LookupLemmas
 mod ShapeLemmas
-mod RunLemmas
+pub mod RunLemmas
