@@ -1,6 +1,6 @@
 mod ResolvedStores
 mod Environments
 mod ResolvingLemmas
-mod LookupLemmas
+pub mod LookupLemmas
 mod ShapeLemmas
-mod RunLemmas
+pub mod RunLemmas

@@ -19,12 +19,12 @@ use Rattle.run_model.specs.Runs.{doit_class}
 use Rattle.resolved_model.specs.ResolvedImages.{plain_class, resolved_entry, resolved_image, is_resolved_method, found_on_chain, finds, finds_above, class_of_doits}
 
 -- a fact of everything is one of each item
-everywhere : {X : Type 0} (P : X → Type 0) → ((x : X) → P x) → (xs : List X) → AllByRecursion P xs
+pub everywhere : {X : Type 0} (P : X → Type 0) → ((x : X) → P x) → (xs : List X) → AllByRecursion P xs
 everywhere P h [] = tt
 everywhere P h (x ∷ xs) = (h x, everywhere P h xs)
 
 -- a fact of everything is one of what there may be
-anywhere : {X : Type 0} (P : X → Type 0) → ((x : X) → P x) → (o : Option X) → OptionNames P o
+pub anywhere : {X : Type 0} (P : X → Type 0) → ((x : X) → P x) → (o : Option X) → OptionNames P o
 anywhere P h None = tt
 anywhere P h (Some x) = h x
 

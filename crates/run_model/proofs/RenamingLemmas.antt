@@ -19,7 +19,7 @@ pub text-same : (s t : Name) → text_eq s t ≡ true → s ≡ t
 text-same s t e = (slice_eq-Decides Decides-eqb s t (text_eq s t) refl).0 e
 
 -- the same of pairs
-pair-same : (j k : OfClass) → same_pair j k ≡ true → j ≡ k
+pub pair-same : (j k : OfClass) → same_pair j k ≡ true → j ≡ k
 pair-same j k e = ap (λ x. (x, j.1)) (text-same j.0 k.0 (and-true_left _ _ e)) ∙ ap (λ y. (k.0, y)) (text-same j.1 k.1 (and-true_right _ _ e))
 
 -- the same of methods
@@ -35,7 +35,7 @@ temporary-same : (j k : MethodName × Name) → same_temporary j k ≡ true → 
 temporary-same j k e = ap (λ x. (x, j.1)) (method-same j.0 k.0 (and-true_left _ _ e)) ∙ ap (λ y. (k.0, y)) (text-same j.1 k.1 (and-true_right _ _ e))
 
 -- a thing is itself
-pair-refl : (k : OfClass) → same_pair k k ≡ true
+pub pair-refl : (k : OfClass) → same_pair k k ≡ true
 pair-refl k = and-true_both _ _ (text_eq-refl k.0) (text_eq-refl k.1)
 
 -- a side is itself

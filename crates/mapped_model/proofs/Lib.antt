@@ -1,0 +1,9 @@
+mod Tests
+mod LookupsMapped
+mod ValuesMapped
+mod PrimitivesMapped
+mod ShapesMapped
+mod StoresMapped
+mod RunsMapped
+mod Widened
+mod MatchedByMaps

@@ -1,0 +1,4 @@
+pub mod NameMaps
+pub mod MappedImages
+pub mod MappedRuns
+pub mod NamesInUse
