@@ -1,5 +1,5 @@
 -- Ticks that are wanted.
-use Rattle.std.proofs.Common.{◌≡◌, ℕ, ◌-◌, ◌<◌, ◌≤◌, if◌then◌else◌, refl, sym, ap}
+use Rattle.std.proofs.Common.{◌≡◌, ℕ, ◌-◌, ◌<◌, ◌≤◌, if◌then◌else◌, sym, ap}
 use Rattle.std.proofs.lemmas.Bool.{le-leb, lt-leb}
 use Rattle.run_model.specs.Store.{Store, fine, leaves, out_of_ticks}
 use Rattle.run_model.specs.Acts.{pays}

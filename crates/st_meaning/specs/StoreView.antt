@@ -1,5 +1,5 @@
 -- The store of runs for which the program's store stands, where `names` are the texts of the names in its trees.
-use Rattle.std.specs.Prelude.{ℕ, List, [], ◌∷◌, ◌++◌, map, length, set, unwrap_or, slice_get, Option, option_map, Bool, true, false}
+use Rattle.std.specs.Prelude.{ℕ, List, map, set, unwrap_or, slice_get, option_map, Bool, true, false}
 use Rattle.rb_base.specs.Names.{name_at}
 use Rattle.tree_model.specs.Tree.{map_sequence}
 use Rattle.st_tree.specs.View.{sequence_of}

@@ -41,6 +41,20 @@ impl Heap {
         }
     }
 
+    /// How many objects there are, which is the number of the next one.
+    pub fn object_count(&self) -> usize
+        ensures { result ≡ length self.now.objects }
+    {
+        self.objects.len()
+    }
+
+    /// How many arrays there are, which is the number of the next one.
+    pub fn array_count(&self) -> usize
+        ensures { result ≡ length self.now.arrays }
+    {
+        self.arrays.len()
+    }
+
     /// The object of a number, from 0.
     pub fn object(&self, number: usize) -> Option<&Object>
         ensures { option_copied result ≡ slice_get self.now.objects number }

@@ -1,5 +1,5 @@
 // Values.
-ghost use Rattle.std.specs.Prelude.{◌≡◌, [], ◌∷◌, ◌++◌, length, set, IfOk, OnOk, OnErr};
+ghost use Rattle.std.specs.Prelude.{◌≡◌, [], ◌∷◌, ◌++◌, length, set, replicate, IfOk, OnOk, OnErr};
 ghost use Rattle.run_model.specs.Values.{nil_value, true_value, false_value, int_value, char_value, string_value, symbol_value, class_value, object_value, array_value, closure_value, transcript_value};
 ghost use Rattle.run_model.specs.Views.{is_meta, same_value};
 ghost use Rattle.run_model.specs.Calls.{truth};
@@ -154,6 +154,26 @@ impl Values {
         }
     }
 
+    /// Copies of values, each for one more owner.
+    pub fn from_slice(alloc: Global, values: &[Value]) -> Result<Values, Memory>
+        ensures { IfOk result (λ copies. copies ≡ values.now) }
+    {
+        let mut copies = Values::new(alloc);
+        copies.push_slice(values)?;
+        Ok(copies)
+    }
+
+    /// So many values that are nil.
+    pub fn nils(alloc: Global, count: usize) -> Result<Values, Memory>
+        ensures { IfOk result (λ nils. nils ≡ replicate count nil_value) }
+    {
+        let mut items = Vec::new(alloc);
+        while items.len() < count {
+            items.push(Value::nil())?;
+        }
+        Ok(Values { items })
+    }
+
     /// The values.
     pub fn as_slice(&self) -> &[Value]
         ensures { result.now ≡ self.now }
@@ -185,4 +205,21 @@ impl Values {
         self.items.push(value)?;
         Ok(())
     }
+
+    /// Appends the values, each for one more owner; on want of memory some may be appended.
+    pub fn push_slice(&mut self, values: &[Value]) -> Result<(), Memory>
+        ensures { IfOk result (λ _. self.new ≡ self.old ++ values.now) }
+    {
+        append(&mut self.items, values)
+    }
+}
+
+/// Appends the values, each for one more owner.
+fn append(items: &mut Vec<Value>, values: &[Value]) -> Result<(), Memory>
+    ensures { IfOk result (λ _. items.new.items ≡ items.old.items ++ values.now) }
+{
+    for value in values {
+        items.push(value.share()?)?;
+    }
+    Ok(())
 }

@@ -1,4 +1,4 @@
-use Rattle.std.proofs.Common.{◌≡◌, ◌∙◌, ◌++◌, ◌∷◌, [], sym, ap, position}
+use Rattle.std.proofs.Common.{◌∙◌, ◌++◌, ◌∷◌, [], sym, ap, position}
 use Rattle.rb_base.specs.Names.{text_eq}
 use Rattle.st_meaning.proofs.Entries.{replaced, added}
 use Rattle.st_meaning.proofs.object.set.Goals as goal

@@ -1,4 +1,4 @@
-use Rattle.std.proofs.Common.{◌≡◌, ◌∙◌, ◌++◌, ◌∷◌, [], sym, ap, position}
+use Rattle.std.proofs.Common.{◌∙◌, ◌++◌, ◌∷◌, [], sym, position}
 use Rattle.run_model.specs.Store.{same_pair}
 use Rattle.st_meaning.proofs.Entries.{replaced, added}
 use Rattle.st_meaning.proofs.variables.set.Goals as goal

@@ -1,4 +1,4 @@
-use Rattle.std.proofs.Common.{◌≡◌, ◌∙◌, ◌++◌, ◌∷◌, [], sym, ap, take}
+use Rattle.std.proofs.Common.{◌∙◌, ◌++◌, ◌∷◌, [], sym}
 use Rattle.st_meaning.proofs.Taking.{take_next}
 use Rattle.st_meaning.proofs.names.SharedNames.new.Goals as goal
 
