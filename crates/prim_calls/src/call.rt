@@ -14,6 +14,7 @@ use st_meaning::{Heap, Object, RunErrorKind, SharedText, Value, ValueKind, Value
 
 /// What a primitive is given: its number, the receiver, the arguments and the heap. `call_of` in specs/ is what it stands
 /// for.
+#[derive(Clone, Copy)]
 pub struct Call<'a> {
     /// From 0 to 65,535.
     pub number: u16,

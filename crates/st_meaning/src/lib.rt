@@ -10,6 +10,8 @@ mod names;
 mod object;
 mod slots;
 mod store;
+#[cfg(test)]
+mod tests;
 mod text;
 mod value;
 mod variables;

@@ -58,4 +58,3 @@ pub returns-in-Less : goal.returns-in-Less
 returns-in-Less c w =
     let cc = call_of w c.args.call.now in
     c.truth.ensures w ∙ passed (λ x y. answers_truth cc (int_lt x y)) c.args.x c.args.y c.ranges.x c.ranges.y ∙ ap (λ o. applied o cc c.args.x c.args.y) (sym c.in-Less.is)
-
