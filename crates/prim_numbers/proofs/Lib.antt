@@ -1,0 +1,4 @@
+pub mod Fitting
+pub mod Floors
+pub mod Shifts
+pub mod Wide

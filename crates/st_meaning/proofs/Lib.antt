@@ -1,0 +1,3 @@
+pub mod Entries
+pub mod Paying
+pub mod Taking

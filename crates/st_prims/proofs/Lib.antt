@@ -1,0 +1,4 @@
+pub mod Walked
+pub mod Chains
+pub mod Doing
+pub mod Transcripts

@@ -1,0 +1,3 @@
+pub mod Walks
+pub mod Closures
+pub mod Rows
