@@ -7,6 +7,8 @@ mod read;
 mod reading;
 mod said;
 mod take;
+#[cfg(test)]
+mod tests;
 mod words;
 
 pub use image::read_image;
