@@ -75,6 +75,7 @@ fn compare_refusals(rt: &impl Abort, alloc: Global, refusals: &[Refusal]) {
 fn the_kernel_is_read(rt: HostRuntime) -> Result<(), Fail> {
     let parts = parts_of(rt.alloc(), "")?;
     assert_eq!(rt; parts.classes.len(), 20);
+    assert_eq!(rt; parts.methods.len(), 167);
     assert_eq!(rt; user_classes(&parts.classes), 0);
     assert_eq!(rt; parts.heads, 0);
     Ok(())
