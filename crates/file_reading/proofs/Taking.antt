@@ -1,15 +1,16 @@
 -- What becomes of what was read where a chunk is taken.
-use Rattle.std.proofs.Common.{◌≡◌, ℕ, true, false, List, Option, Some, None, Result, Ok, Err, option_map, refl, sym, ap, subst, ◌∙◌, true≢false}
-use Rattle.std.specs.Prelude.{is_some, nat_eq, IfNone}
+use Rattle.std.proofs.Common.{◌≡◌, ℕ, ◌+◌, true, false, List, [], ◌∷◌, ◌++◌, map, Option, Some, None, Result, Ok, Err, option_map, refl, sym, ap, subst, ◌∙◌, true≢false}
+use Rattle.std.specs.Prelude.{is_some, nat_eq, IfNone, if◌then◌else◌}
+use Rattle.std.specs.List.{AllByRecursion}
 use Rattle.std.specs.Option.{ForSome, option_map_or}
 use Rattle.std.specs.Result.{result_map_both, IfOk}
 use Rattle.rb_base.specs.Names.{name_at}
-use Rattle.image_model.specs.Image.{ImageOf, map_image}
-use Rattle.image_model.specs.ImageNames.{ImageNames}
+use Rattle.image_model.specs.Image.{DoItOf, ImageOf, map_doit, map_image, plus}
+use Rattle.image_model.specs.ImageNames.{DoItNames, ImageNames}
 use Rattle.file_model.specs.Causes.{Cause, Condition, first_cause, unless}
 use Rattle.file_model.specs.Changes.{RunOf, map_run}
 use Rattle.file_model.specs.Refusals.{run_refusals}
-use Rattle.file_model.specs.Filing.{Text, Filing, goes_on}
+use Rattle.file_model.specs.Filing.{Text, Filing, goes_on, with_doit}
 use Rattle.file_faults.specs.declared.fault.ImageCause.{ImageCause}
 use Rattle.file_faults.specs.Faults.{cause_of}
 use Rattle.image_draft.specs.declared.draft.Draft.{Draft}
@@ -42,6 +43,15 @@ one_run names r h q e = let same : r ≡ q = cc in subst (λ (x : RunOf ℕ). Is
 pub at_none : {X : Type 0} (P : Type 0) (o : Option X) → o ≡ None → IfNone o P → P
 at_none P None e p = p
 at_none P (Some x) e p = absurd (cc)
+
+-- one more item at the end
+map-last : {X Y : Type 0} (f : X → Y) (xs : List X) (x : X) → map f (xs ++ x ∷ []) ≡ map f xs ++ f x ∷ []
+map-last f [] x = refl
+map-last f (y ∷ ys) x = ap (λ zs. f y ∷ zs) (map-last f ys x)
+
+all-last : {X : Type 0} (P : X → Type 0) (xs : List X) (x : X) → AllByRecursion P xs → P x → AllByRecursion P (xs ++ x ∷ [])
+all-last P [] x all p = (p, tt)
+all-last P (y ∷ ys) x all p = (all.0, all-last P ys x all.1 p)
 
 module _ (names : List Text) where
   -- a change over numbers was made, and reading goes on in a run or outside
@@ -109,3 +119,33 @@ module _ (names : List Text) where
         by : (o : Option Cause) → first_cause (run_refusals nat_eq old.classes run) ≡ o → Answers (λ r. r ≡ unless conditions f) (Err (stop.Refused cause))
         by None e = absurd (true≢false (some ∙ ap is_some e))
         by (Some k) e = (k, tells ∙ e, ap (λ (o : Option Cause). option_map_or Err o (Ok f)) (sym e ∙ sym (ap first_cause same)))
+
+    -- a do-it was put at the end
+    pub was_added : (d : DoItOf ℕ) (later : Draft) → DoItNames (IsNumberIn names) d
+        → image_of later ≡ record (plus (image_of old) d) { heads = if old.at_head then old.heads + 1 else old.heads }
+        → later.run ≡ old.run → later.at_head ≡ old.at_head → IsWhole later
+        → Answers (λ r. r ≡ Ok (with_doit (filed (with_draft names old)) (map_doit (name_at names) d))) (Ok (with_draft names later))
+    was_added d later known image runs head whole = (added, ap Ok result)
+      where
+        f : ℕ → Text
+        f = name_at names
+
+        added : IsSound (with_draft names later)
+        added = record {
+          whole = whole;
+          image = subst (ImageNames (IsNumberIn names)) (sym image) (record {
+            classes = sound.image.classes;
+            methods = sound.image.methods;
+            doits = all-last (DoItNames (IsNumberIn names)) (image_of old).doits d sound.image.doits known;
+          });
+          run = λ r e. sound.run r (sym runs ∙ e);
+        }
+
+        named : text_image (with_draft names later) ≡ record (plus (text_image (with_draft names old)) (map_doit f d)) { heads = if old.at_head then old.heads + 1 else old.heads }
+        named = ap (map_image f) image ∙ (λ i. record (text_image (with_draft names old)) {
+          doits = map-last (map_doit f) (image_of old).doits d i;
+          heads = if old.at_head then old.heads + 1 else old.heads;
+        })
+
+        result : filed (with_draft names later) ≡ with_doit (filed (with_draft names old)) (map_doit f d)
+        result = λ i. record { image = named i; run = option_map (map_run f) (runs i); at_head = head i }

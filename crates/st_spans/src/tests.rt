@@ -68,7 +68,10 @@ const METHODS: &[Case] = &[
 
 /// Methods, each with the path of a node and its place.
 const PARTS: &[(&str, Row)] = &[
-    ("pay: x | rate | rate := 2. ^x * rate + 1", (&[1, 0, 0], 28, 36)),
+    (
+        "pay: x | rate | rate := 2. ^x * rate + 1",
+        (&[1, 0, 0], 28, 36),
+    ),
     ("due ^self fee", (&[0, 0], 5, 13)),
     ("go: flag ^flag ifTrue: self part", (&[0, 0, 1], 23, 32)),
     ("pay: x ^x * 2 + 1", (&[0, 0, 0], 8, 13)),

@@ -23,10 +23,7 @@ pub(super) fn formatted_one() -> [(&'static [u8], &'static [u8]); 6] {
             b"((((((((((((((((((((((((((((((((((((((((((((((((((((((((((((((((((((((((((((((((((((((((((((((((((((((((((((((((((((((((((((((((((((((((((((((((((((((((((((((((((((((((((((((((((((((((((((((((((((((((((((((((((((((((((((((((((((((((((((((((((((((((((((((((((((((((((((((((((((((((((((((((((((((((((((((((((((((((((((((((((((((((((((((((((((((((((((((((((((((((((((((((((((((((((((((((((((((((((((((((3))))))))))))))))))))))))))))))))))))))))))))))))))))))))))))))))))))))))))))))))))))))))))))))))))))))))))))))))))))))))))))))))))))))))))))))))))))))))))))))))))))))))))))))))))))))))))))))))))))))))))))))))))))))))))))))))))))))))))))))))))))))))))))))))))))))))))))))))))))))))))))))))))))))))))))))))))))))))))))))))))))))))))))))))))))))))))))))))))))))))))))))))))))))))))))))))))))))))))))))))!",
             b"3!\n\n",
         ),
-        (
-            b"{1.{2}. }!",
-            b"{1. {2}}!\n\n",
-        ),
+        (b"{1.{2}. }!", b"{1. {2}}!\n\n"),
     ]
 }
 
@@ -49,10 +46,7 @@ pub(super) fn formatted_two() -> [(&'static [u8], &'static [u8]); 6] {
             b"Object subclass: #A instanceVariableNames: 'z' classVariableNames: '' poolDictionaries: '' category: 'T'!\x0c\x0c\"a comment alone\"!\x0cA class instanceVariableNames: 'x'!\n\nA subclass: #B instanceVariableNames: 'x' classVariableNames: 'Z' poolDictionaries: '' category: 'T'!\n\n!B methodsFor: 'm' at: 7!\nwith: n\n\t| y w |\n\ty := y run.\n\tTranscript display: self bar.\n\tz := self asSymbol.\n\t^self bar! !\n\nB class instanceVariableNames: 'k'!\n\nA subclass: #C instanceVariableNames: 'x n' classVariableNames: '' poolDictionaries: '' category: 'T'!\n\nC class instanceVariableNames: 's'!\n\n!C methodsFor: 'm'!\nat: n by: b\n\t| y A |\n\ty := [:q | y := z] value: z.\n\t^Transcript\nshow: x! !\n\nC removeSelector: #at:by:!\n!B methodsFor: 'm' at: 7!\nbar\n\t| w |\n\tw := 2.\n\t^w foo foo: 2! !\n\n!B methodsFor: 'm' at: 5!\nrun x := {3. Z} isNil.\n\t^(1 < self and: [3]) whileTrue: [\n\t\t| w |\n\t\t0 baz.\n\t\tTranscript print: x.\n\t\t^[:t |\n\t\t\tself % z.\n\nZ]]\n\n\"it's\"! !\n\n",
             b"Object subclass: #A\n\tinstanceVariableNames: 'z'\n\tclassVariableNames: ''\n\tpoolDictionaries: ''\n\tcategory: 'T'!\n\nA class instanceVariableNames: 'x'!\n\nA subclass: #B\n\tinstanceVariableNames: 'x'\n\tclassVariableNames: 'Z'\n\tpoolDictionaries: ''\n\tcategory: 'T'!\n\nB class instanceVariableNames: 'k'!\n\nA subclass: #C\n\tinstanceVariableNames: 'x n'\n\tclassVariableNames: ''\n\tpoolDictionaries: ''\n\tcategory: 'T'!\n\nC class instanceVariableNames: 's'!\n\n!B methodsFor: 'm'!\nrun\n\tx := {3. Z} isNil.\n\t^(1 < self and: [3]) whileTrue: [\n\t\t| w |\n\t\t0 baz.\n\t\tTranscript print: x.\n\t\t^[:t |\n\t\t\tself % z.\n\t\t\tZ]]\n\t\"it's\"!\n\nwith: n\n\t| y w |\n\ty := y run.\n\tTranscript display: self bar.\n\tz := self asSymbol.\n\t^self bar!\n\nbar\n\t| w |\n\tw := 2.\n\t^w foo foo: 2! !\n\n\"a comment alone\"!\n\n",
         ),
-        (
-            b"",
-            b"",
-        ),
+        (b"", b""),
         (
             b"| Transcript self | -16rFF super!\n\nObject subclass: #A instanceVariableNames: '' classVariableNames: 'X' poolDictionaries: '' category: 'T'!\n\n!A methodsFor: 'q''s'!\nbar ^1! !\n\nA subclass: #B instanceVariableNames: '' classVariableNames: 'X' poolDictionaries: '' category: 'T'!\n\nA subclass: #C instanceVariableNames: '' classVariableNames: 'X y' poolDictionaries: '' category: 'T'!\n\nC subclass: #D instanceVariableNames: '' classVariableNames: 'X y' poolDictionaries: '' category: 'T'!\n\n!B methodsFor: 'p'!\nfoo\n\t\"\"\n\t|\r\nr2 super\r\n|\x0c^  [\x0c:e5\r| self\x0c]! !\n\n!A methodsFor: 'q''s'!\nbar\t| Foo r2 |\r^ [ :b\x0c|\n\t\t^\n\t{\re5\n\tat:\nthisContext } +\r( [\r\n:self\r\n|\n\t\t\tnil.\n\n^\x0c#( true)] at:\x0ctrue put:\x0cfalse\x0c; whileTrue: [:foo :super  |\n\t\t\t|\x0cc\n\tself |\n\t\t\t^foo ])] \"\"\n\n\"a comment\"! !\n\n!A methodsFor: 'p'!\nbar\r| self\n\t| [[  #( ) ]  \" \xc8\" ]\t.\r\"\"\n\t\"\x00\xc8\" 2r101\n. false\r\ne5 ifTrue:\n\n(\r\n#(true\r\n-1.5e-3\n\n\"`:#\"\n) at:\x0ca put:\r\nselelf )! !\n\n| a |\n[\n\t| x1 |\n\t[:Transcript :super |\n\t\tself.\n\t\t$`.\n\t\ta] at: [:r2 :foo |\n\t\tself.\n\t\tfalse]; at: {}]!\n\nC subclass: #D instanceVariableNames: '' classVariableNames: '' poolDictionaries: '' category: 'T'!\n\n!Object methodsFor: '*mine'!\ndouble ^self + self! !\n\nSmalltalk removeClassNamed: #D!\n\nObject subclass: #D instanceVariableNames: '' classVariableNames: '' poolDictionaries: '' category: 'T'!\n\n",
             b"| Transcript self |\n-16rFF super!\n\nObject subclass: #A\n\tinstanceVariableNames: ''\n\tclassVariableNames: 'X'\n\tpoolDictionaries: ''\n\tcategory: 'T'!\n\nA subclass: #B\n\tinstanceVariableNames: ''\n\tclassVariableNames: 'X'\n\tpoolDictionaries: ''\n\tcategory: 'T'!\n\nA subclass: #C\n\tinstanceVariableNames: ''\n\tclassVariableNames: 'X y'\n\tpoolDictionaries: ''\n\tcategory: 'T'!\n\nObject subclass: #D\n\tinstanceVariableNames: ''\n\tclassVariableNames: ''\n\tpoolDictionaries: ''\n\tcategory: 'T'!\n\n!A methodsFor: 'p'!\nbar\n\t| self |\n\t[\n\t\t[#()]\n\t\t\" \xc8\"].\n\t\"\"\n\t\"\x00\xc8\"\n\t2r101.\n\t\"`:#\"\n\tfalse e5 ifTrue: (#(true -1.5e-3) at: a put: selelf)! !\n\n!B methodsFor: 'p'!\nfoo\n\t\"\"\n\t| r2 super |\n\t^[:e5 | self]! !\n\n!Object methodsFor: '*mine'!\ndouble\n\t^self + self! !\n\n| a |\n[\n\t| x1 |\n\t[:Transcript :super |\n\t\tself.\n\t\t$`.\n\t\ta] at: [:r2 :foo |\n\t\tself.\n\t\tfalse]; at: {}]!\n\n",
@@ -145,76 +139,28 @@ pub(super) fn formatted_six() -> [(&'static [u8], &'static [u8]); 5] {
             b"Object subclass: #A instanceVariableNames: '' classVariableNames: '' poolDictionaries: '' category: 'T'!\n\nA subclass: #B instanceVariableNames: '' classVariableNames: 'X' poolDictionaries: '' category: 'T'!\n\nB subclass: #C instanceVariableNames: '' classVariableNames: 'X' poolDictionaries: '' category: 'T'!\n\n!Object methodsFor: '*mine'!\nisMine ^true! !\n\n!A class methodsFor: '!!'!\nself\n\tFoo e5\n\t\"\x00a\n\"\n\t\" \x00\n\"! !\n\n!C methodsFor: 'q''s'!\nbar\n\t\"old\"\n\t^nil! !\n\n!B methodsFor: '!!'!\nbaz\x0c[\x0c\".\" ^ true\rifTrue:\r#(\n\t);\n~= #'foo'  ; at: #[\n] ]\n\n, c\x0c; ifTrue: (\n\n(-1e5 super ; foo\n\n) e5\r; whileTrue:\t(  x1\n:=\n\nself ) ;  super\n\t) \t\"\xc3\xa9\"! !\n\n!B class methodsFor: 'p' at: 5!\nfoo\n\t#'a:b'.\n\t\"!!a.\"\n\t\"]!!a\"\n\t[\n\t: r2 | ]! !\n\nB removeSelector: #baz!\n!C methodsFor: 'q''s'!\nbar\n\t| x1 |\n\t^[self] at: [:super :self | true] put: [:c |\n\t\t^ #(true $\xe7)\n\t\t\"\"] ; nil\x0c! !\n\n!A class methodsFor: '!!'!\nbar! !\n\n",
             b"Object subclass: #A\n\tinstanceVariableNames: ''\n\tclassVariableNames: ''\n\tpoolDictionaries: ''\n\tcategory: 'T'!\n\nA subclass: #B\n\tinstanceVariableNames: ''\n\tclassVariableNames: 'X'\n\tpoolDictionaries: ''\n\tcategory: 'T'!\n\nB subclass: #C\n\tinstanceVariableNames: ''\n\tclassVariableNames: 'X'\n\tpoolDictionaries: ''\n\tcategory: 'T'!\n\n!Object methodsFor: '*mine'!\nisMine\n\t^true! !\n\n!A class methodsFor: '!!'!\nself\n\tFoo e5\n\t\"\x00a\n\"\n\t\" \x00\n\"! !\n\n!C methodsFor: 'q''s'!\nbar\n\t| x1 |\n\t^[self] at: [:super :self | true] put: [:c |\n\t\t^#(true $\xe7)\n\t\t\"\"]; nil! !\n\n!A class methodsFor: '!!'!\nbar! !\n\n!B class methodsFor: 'p'!\nfoo\n\t#'a:b'.\n\t\"!!a.\"\n\t\"]!!a\"\n\t[:r2 | ]! !\n\n",
         ),
-        (
-            b"x!",
-            b"x!\n\n",
-        ),
+        (b"x!", b"x!\n\n"),
     ]
 }
 
 /// File-outs with a chunk that is refused, and the line that tells which.
 pub(super) fn refused_one() -> [(&'static [u8], &'static [u8]); 16] {
     [
-        (
-            b"$!",
-            b"image chunk 1 at 0 BadByte\n",
-        ),
-        (
-            b"'a!",
-            b"image chunk 1 at 0 OpenString\n",
-        ),
-        (
-            b"\"a!",
-            b"image chunk 1 at 0 OpenComment\n",
-        ),
-        (
-            b"a)!",
-            b"image chunk 1 at 1 Expected end\n",
-        ),
-        (
-            b"3 +!",
-            b"image chunk 1 at 3 Expected operand\n",
-        ),
-        (
-            b"#'a!",
-            b"image chunk 1 at 1 OpenString\n",
-        ),
-        (
-            b"37r1!",
-            b"image chunk 1 at 0 BadNumeral\n",
-        ),
-        (
-            b"[:3]!",
-            b"image chunk 1 at 2 Expected identifier\n",
-        ),
-        (
-            b"#(.)!",
-            b"image chunk 1 at 2 Expected element\n",
-        ),
-        (
-            b"^a. b!",
-            b"image chunk 1 at 4 Expected end\n",
-        ),
-        (
-            b"nil := 3!",
-            b"image chunk 1 at 0 AssignsFixed\n",
-        ),
-        (
-            b"[:a :a | ]!",
-            b"image chunk 1 at 5 DuplicateName\n",
-        ),
-        (
-            b"(super) foo!",
-            b"image chunk 1 at 6 Expected end\n",
-        ),
-        (
-            b"(a foo); bar!",
-            b"image chunk 1 at 7 Expected end\n",
-        ),
-        (
-            b"<primitive: 1>!",
-            b"image chunk 1 at 0 PrimitiveInUser\n",
-        ),
+        (b"$!", b"image chunk 1 at 0 BadByte\n"),
+        (b"'a!", b"image chunk 1 at 0 OpenString\n"),
+        (b"\"a!", b"image chunk 1 at 0 OpenComment\n"),
+        (b"a)!", b"image chunk 1 at 1 Expected end\n"),
+        (b"3 +!", b"image chunk 1 at 3 Expected operand\n"),
+        (b"#'a!", b"image chunk 1 at 1 OpenString\n"),
+        (b"37r1!", b"image chunk 1 at 0 BadNumeral\n"),
+        (b"[:3]!", b"image chunk 1 at 2 Expected identifier\n"),
+        (b"#(.)!", b"image chunk 1 at 2 Expected element\n"),
+        (b"^a. b!", b"image chunk 1 at 4 Expected end\n"),
+        (b"nil := 3!", b"image chunk 1 at 0 AssignsFixed\n"),
+        (b"[:a :a | ]!", b"image chunk 1 at 5 DuplicateName\n"),
+        (b"(super) foo!", b"image chunk 1 at 6 Expected end\n"),
+        (b"(a foo); bar!", b"image chunk 1 at 7 Expected end\n"),
+        (b"<primitive: 1>!", b"image chunk 1 at 0 PrimitiveInUser\n"),
         (
             b"(((((((((((((((((((((((((((((((((((((((((((((((((((((((((((((((((((((((((((((((((((((((((((((((((((((((((((((((((((((((((((((((((((((((((((((((((((((((((((((((((((((((((((((((((((((((((((((((((((((((((((((((((((((((((((((((((((((((((((((((((((((((((((((((((((((((((((((((((((((((((((((((((((((((((((((((((((((((((((((((((((((((((((((((((((((((((((((((((((((((((((((((((((((((((((((((((((((((((((((((((!",
             b"image chunk 1 at 400 TooDeep\n",
@@ -229,26 +175,11 @@ pub(super) fn refused_two() -> [(&'static [u8], &'static [u8]); 16] {
             b"a foo foo foo foo foo foo foo foo foo foo foo foo foo foo foo foo foo foo foo foo foo foo foo foo foo foo foo foo foo foo foo foo foo foo foo foo foo foo foo foo foo foo foo foo foo foo foo foo foo foo foo foo foo foo foo foo foo foo foo foo foo foo foo foo foo foo foo foo foo foo foo foo foo foo foo foo foo foo foo foo foo foo foo foo foo foo foo foo foo foo foo foo foo foo foo foo foo foo foo foo foo foo foo foo foo foo foo foo foo foo foo foo foo foo foo foo foo foo foo foo foo foo foo foo foo foo foo foo foo foo foo foo foo foo foo foo foo foo foo foo foo foo foo foo foo foo foo foo foo foo foo foo foo foo foo foo foo foo foo foo foo foo foo foo foo foo foo foo foo foo foo foo foo foo foo foo foo foo foo foo foo foo foo foo foo foo foo foo foo foo foo foo foo foo foo foo foo foo foo foo!",
             b"image chunk 1 at 0 TooDeep\n",
         ),
-        (
-            b"{!:-",
-            b"image chunk 1 at 1 Expected operand\n",
-        ),
-        (
-            b"super!",
-            b"image chunk 1 at 5 Expected end\n",
-        ),
-        (
-            b"#({1})!",
-            b"image chunk 1 at 2 Expected element\n",
-        ),
-        (
-            b"!\x0c\n3'_\t!\" ",
-            b"image chunk 2 at 1 OpenString\n",
-        ),
-        (
-            b"'3\r (\t!_!.!.!\" ",
-            b"image chunk 1 at 0 OpenString\n",
-        ),
+        (b"{!:-", b"image chunk 1 at 1 Expected operand\n"),
+        (b"super!", b"image chunk 1 at 5 Expected end\n"),
+        (b"#({1})!", b"image chunk 1 at 2 Expected element\n"),
+        (b"!\x0c\n3'_\t!\" ", b"image chunk 2 at 1 OpenString\n"),
+        (b"'3\r (\t!_!.!.!\" ", b"image chunk 1 at 0 OpenString\n"),
         (
             b"_\" \n\t$! (!\t! '3.#!\"",
             b"image chunk 1 at 1 OpenComment\n",
