@@ -7,3 +7,4 @@ mod StoresMapped
 mod RunsMapped
 mod Widened
 mod MatchedByMaps
+mod ChangedLemmas

@@ -1,15 +1,18 @@
 // Laws of mapped names. Each function does nothing; its contract is the law, for all images whose names are texts.
 ghost use Rattle.std.specs.Prelude.{◌≡◌, ℕ};
+ghost use Rattle.scope_model.specs.Scope.{ScopeOf};
 ghost use Rattle.image_model.specs.Image.{ImageOf};
 ghost use Rattle.run_model.specs.Values.{Name};
 ghost use Rattle.run_model.specs.Runs.{run};
 ghost use Rattle.run_model.specs.Renamings.{Renaming, class_image, selector_image};
 ghost use Rattle.run_model.specs.Matched.{AreMatched};
+ghost use Rattle.resolved_model.specs.Resolving.{MeantAt, resolved_scope};
 ghost use Rattle.resolved_model.specs.ResolvedImages.{ResolvedImage, resolved_image};
 ghost use Rattle.resolved_model.specs.ResolvedRuns.{resolved_run_to, resolved_run};
 ghost use Rattle.mapped_model.specs.NameMaps.{NameMaps, IsOneToOne, KeepsWords};
-ghost use Rattle.mapped_model.specs.MappedImages.{mapped_image};
+ghost use Rattle.mapped_model.specs.MappedImages.{mapped_code, mapped_image};
 ghost use Rattle.mapped_model.specs.MappedRuns.{mapped_run};
+ghost use Rattle.mapped_model.specs.ChangedTrees.{NewNames, changed_scope, MeaningsAreMapped};
 ghost use Rattle.mapped_model.specs.NamesInUse.{NamesInUse, IsOneToOneOn, HasWords, UsesOnly};
 
 /// The run of an image whose names are mapped is the mapped run of the image: with the depth of a run, and with any other.
@@ -32,4 +35,11 @@ pub fn law_matched_by_maps()
         ((c : Name) → f.class c ≡ class_image r c) → ((s : Name) → f.selector s ≡ selector_image r s) →
         IsOneToOneOn u f → HasWords u → KeepsWords f → UsesOnly u (resolved_image i) →
         resolved_image j ≡ mapped_image f (resolved_image i) → AreMatched i j r }
+{}
+
+/// A method or do-it in which names are changed at their places is, once its names are resolved, the one before with the
+/// maps put on it, if what each node reads or assigns means after what it meant before with the maps put on it.
+pub fn law_changed_names()
+    ensures { (f : NameMaps) (to : NewNames) (scope : ScopeOf Name) (before after : MeantAt) → MeaningsAreMapped f to scope before after →
+        resolved_scope after (changed_scope to f.selector scope) ≡ mapped_code f (resolved_scope before scope) }
 {}

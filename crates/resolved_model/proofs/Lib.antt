@@ -1,6 +1,6 @@
 mod ResolvedStores
 mod Environments
-mod ResolvingLemmas
+pub mod ResolvingLemmas
 pub mod LookupLemmas
 mod ShapeLemmas
 pub mod RunLemmas

@@ -28,7 +28,7 @@ nth-left (more_trees t ts) us zero c e = e
 nth-left (more_trees t ts) us (suc j) c e = nth-left ts us j c e
 
 -- the second has its items behind those of the first
-nth-right : (ts us : TreesOf Name) (j : ℕ) → nth (append ts us) (count ts + j) ≡ nth us j
+pub nth-right : (ts us : TreesOf Name) (j : ℕ) → nth (append ts us) (count ts + j) ≡ nth us j
 nth-right no_trees us j =
     let e : 0 + j ≡ j = omega arith in
     ap (nth us) e
