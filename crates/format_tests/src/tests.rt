@@ -47,8 +47,6 @@ fn file_outs_are_formatted(rt: HostRuntime) -> Result<(), Fail> {
     answers(&rt, alloc, 0, &texts::formatted_two())?;
     answers(&rt, alloc, 0, &texts::formatted_three())?;
     answers(&rt, alloc, 0, &texts::formatted_four())?;
-    answers(&rt, alloc, 0, &texts::formatted_five())?;
-    answers(&rt, alloc, 0, &texts::formatted_six())?;
     Ok(())
 }
 
@@ -58,7 +56,6 @@ fn file_outs_are_refused(rt: HostRuntime) -> Result<(), Fail> {
     answers(&rt, alloc, 3, &texts::refused_one())?;
     answers(&rt, alloc, 3, &texts::refused_two())?;
     answers(&rt, alloc, 3, &texts::refused_three())?;
-    answers(&rt, alloc, 3, &texts::refused_four())?;
     Ok(())
 }
 
