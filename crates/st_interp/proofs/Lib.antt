@@ -1,0 +1,6 @@
+pub mod Plug
+pub mod Naming
+pub mod Values
+pub mod Begun
+pub mod Exits
+pub mod Ordered

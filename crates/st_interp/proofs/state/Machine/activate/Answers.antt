@@ -1,0 +1,14 @@
+use Rattle.std.proofs.Common.{refl, ap, ◌∙◌}
+use Rattle.std.proofs.lemmas.Result.{IfOk-weaker}
+use Rattle.st_meaning.specs.StoreView.{store_of}
+use Rattle.st_program.specs.Found.{entry_from}
+use Rattle.st_interp.proofs.Plug.{activated}
+use Rattle.st_interp.proofs.state.Machine.activate.Goals as goal
+
+pub returns-clause-rest : goal.returns-clause-rest
+returns-clause-rest c =
+    let names = c.args.program.now.names in
+    let m = entry_from names c.args.found in
+    IfOk-weaker c.sequence.result _ _
+    (λ n h i. h i ∙ activated i names c.args.self.now.stack.items _ _ m c.args.receiver _ c.args.arguments.now c.in_ok-home.home _ m.tree.arguments m.tree.body (store_of names c.args.self.now.store) _ c.in_ok-push.ensures.items c.in_ok-push-2.ensures.items c.in_ok-value.ensures c.in_ok-home.ensures.number (c.in_ok-home.ensures.store names) (c.in_ok-context.ensures.ok ∙ c.outermost-outermost.ensures) refl refl)
+    c.sequence.ensures.rest

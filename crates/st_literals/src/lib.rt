@@ -1,0 +1,6 @@
+//! The values of literals.
+#![tactic(auto)]
+
+mod numerals;
+
+pub use numerals::numeral;

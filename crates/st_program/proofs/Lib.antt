@@ -1,0 +1,4 @@
+pub mod LookedUp
+pub mod DoIts
+pub mod Chains
+pub mod Meant

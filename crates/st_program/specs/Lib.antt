@@ -1,0 +1,4 @@
+pub mod Found
+pub mod Meaning
+pub mod Slots
+pub mod Definers
