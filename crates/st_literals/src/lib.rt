@@ -3,6 +3,8 @@
 
 mod literals;
 mod numerals;
+#[cfg(test)]
+mod tests;
 
 pub use literals::literal;
 pub use numerals::numeral;
