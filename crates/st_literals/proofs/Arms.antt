@@ -3,7 +3,7 @@ use Rattle.std.proofs.Common.{◌≡◌, ℕ, ℤ, List, length, Option, Some, N
 use Rattle.rb_base.specs.Names.{name_at}
 use Rattle.tree_model.specs.Tree.{LiteralOf, number, str, symbol, char, array, bytes, word, LiteralsOf, literals_of}
 use Rattle.run_model.specs.Values.{Name, Value, int_value, char_value, string_value, symbol_value, array_value, unsupported}
-use Rattle.run_model.specs.Store.{Store, Result, fine, leaves, ends_by, with_array}
+use Rattle.run_model.specs.Store.{Store, fine, leaves, ends_by, with_array}
 use Rattle.run_model.specs.Acts.{acts, then_do, gives, fails, and_then, with_memory}
 use Rattle.run_model.specs.Numbers.{numeral_integer}
 use Rattle.run_model.specs.Eval.{word_value, gives_integer, literal_value, literal_values, makes_new_array}
