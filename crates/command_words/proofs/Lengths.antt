@@ -1,6 +1,6 @@
 -- Words that are too few or too many for any form.
 use Rattle.std.proofs.Common.{◌≡◌, ℕ, ◌<◌, ◌≤◌, List, [], ◌∷◌, length, map, refl, arith}
-use Rattle.command_words.specs.Forms.{Form, NoForm, form_of}
+use Rattle.command_words.specs.Forms.{NoForm, form_of}
 
 -- fewer than two words
 pub too_few : {X : Type 0} (f : X → List ℕ) (words : List X) → length words < 2 → NoForm ≡ form_of (map f words)
