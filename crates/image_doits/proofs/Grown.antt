@@ -1,14 +1,11 @@
--- An image with more names, and with one more do-it.
-use Rattle.std.proofs.Common.{◌≡◌, ℕ, ◌+◌, ◌<◌, List, [], ◌∷◌, ◌++◌, length, map, sym, ap, subst, ◌∙◌, arith}
-use Rattle.std.proofs.lemmas.List.{length-append, map-append}
-use Rattle.rb_base.specs.Names.{name_at, HasNoTwice}
-use Rattle.image_model.specs.Image.{plus, map_doit}
-use Rattle.image_model.specs.ImageNames.{ImageNames}
+-- An image with more names.
+use Rattle.std.proofs.Common.{◌≡◌, ℕ, ◌<◌, List, ◌++◌, length, sym, ap, subst, ◌∙◌, arith}
+use Rattle.std.proofs.lemmas.List.{length-append}
+use Rattle.rb_base.specs.Names.{HasNoTwice}
 use Rattle.image_model.proofs.MapImage.{ImageNames-implies}
 use Rattle.event_trees.specs.Naming.{Grows}
-use Rattle.class_table.specs.declared.record.DoIt.{DoIt}
 use Rattle.class_table.specs.Slots.{Slots}
-use Rattle.class_table.specs.View.{doit_of, number_image, image_of}
+use Rattle.class_table.specs.View.{number_image, image_of}
 use Rattle.class_table.specs.Valid.{IsOrderly}
 use Rattle.class_table.proofs.Found.{image_of-grown}
 
@@ -36,10 +33,3 @@ same_image s t h rest g = ap image_of (same_slots s t (s.names ++ g.more) rest g
 pub still_orderly : (s t : Slots) → IsOrderly s → t ≡ record s { names = t.names } → Grows s.names t.names → HasNoTwice t.names → IsOrderly t
 still_orderly s t h rest g once =
     subst IsOrderly (sym (same_slots s t (s.names ++ g.more) rest g.grown)) (orderly_grown s g.more h (subst HasNoTwice g.grown once))
-
--- one more do-it among the slots is one more in the image
-pub one_more : (s : Slots) (d : DoIt) → image_of (record s { doits = s.doits ++ d ∷ [] }) ≡ plus (image_of s) (map_doit (name_at s.names) (doit_of d))
-one_more s d = λ i. record (image_of s) { doits = same i }
-  where
-    same : map (map_doit (name_at s.names)) (map doit_of (s.doits ++ d ∷ [])) ≡ map (map_doit (name_at s.names)) (map doit_of s.doits) ++ map_doit (name_at s.names) (doit_of d) ∷ []
-    same = ap (map (map_doit (name_at s.names))) (map-append doit_of s.doits (d ∷ [])) ∙ map-append (map_doit (name_at s.names)) (map doit_of s.doits) (doit_of d ∷ [])

@@ -2,5 +2,7 @@
 #![tactic(auto)]
 
 mod added;
+#[cfg(test)]
+mod tests;
 
 pub use added::add_doit;
