@@ -13,8 +13,8 @@ use crate::load::{IMAGE_LIMIT, load};
 use crate::status::Status;
 use class_table::Image;
 use file_faults::ImageFault;
+use file_reading::read_image;
 use image_doits::add_doit;
-use image_file::read_image;
 use rb_base::{Memory, Shelf, Text};
 use run_texts::write_run;
 use st_meaning::{Outcome, OutcomeKind};
@@ -39,7 +39,13 @@ fn print_run(alloc: Global, image: &Image, budget: u32, out: &mut Text) -> Resul
     ensures text { OnOk result (out.new ≡ runs.printed_run (image_of image.now) budget) }
 {
     let report = st_interp::run(alloc, image, budget)?;
-    write_run(alloc, report.events.as_slice(), &report.outcome, budget, out)?;
+    write_run(
+        alloc,
+        report.events.as_slice(),
+        &report.outcome,
+        budget,
+        out,
+    )?;
     Ok(status_of(&report.outcome))
 }
 

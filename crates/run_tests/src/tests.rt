@@ -6,6 +6,7 @@ use std::process::Abort;
 use std::test::Fail;
 use texts::Run;
 
+mod examples;
 mod texts;
 
 /// The words of a command line that runs the expression on the file of this name.
@@ -37,6 +38,49 @@ fn answers(rt: &impl Abort, alloc: Global, status: u8, runs: &[Run]) -> Result<(
     for run in runs {
         answers_one(rt, alloc, status, run)?;
     }
+    Ok(())
+}
+
+/// Compares the answers to expressions that are run on one image with the wanted ones.
+fn answers_on(
+    rt: &impl Abort,
+    alloc: Global,
+    status: u8,
+    image: &'static [u8],
+    cases: &[(&'static str, &'static [u8])],
+) -> Result<(), Memory> {
+    for (expression, sent) in cases {
+        let run = Run {
+            image,
+            expression: *expression,
+            budget: None,
+            sent: *sent,
+        };
+        answers_one(rt, alloc, status, &run)?;
+    }
+    Ok(())
+}
+
+/// Compares the answers to file-outs that are refused, also where the expression is no do-it, with the wanted ones.
+fn refuses(
+    rt: &impl Abort,
+    alloc: Global,
+    cases: &[(&'static [u8], &'static [u8])],
+) -> Result<(), Memory> {
+    for (image, sent) in cases {
+        answers_on(rt, alloc, 3, *image, &[("3", *sent), ("3 +", *sent)])?;
+    }
+    Ok(())
+}
+
+#[test]
+fn examples_are_answered(rt: HostRuntime) -> Result<(), Fail> {
+    let alloc = rt.alloc();
+    let account = examples::account();
+    answers_on(&rt, alloc, 0, account, &examples::values())?;
+    answers_on(&rt, alloc, 9, account, &examples::errors())?;
+    answers_on(&rt, alloc, 4, account, &examples::faults())?;
+    refuses(&rt, alloc, &examples::refused())?;
     Ok(())
 }
 
