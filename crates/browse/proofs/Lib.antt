@@ -1,4 +1,4 @@
 pub mod Loading
 pub mod OneAnswer
 pub mod Judging
-pub mod Formatting
+pub mod Refusing

@@ -12,10 +12,16 @@ use Rattle.file_model.specs.Written.{file_of}
 use Rattle.file_model.proofs.OneImage.{one_image, one_refusal, no_image_where_refused}
 use Rattle.canonical_image.specs.Formatted.{formatted}
 use Rattle.browse.specs.declared.status.Status.{Status}
-use Rattle.command_words.specs.Forms.{Form, Apply, Format, Later, NoForm, files_of, form_of}
+use Rattle.command_words.specs.Forms.{Form, Apply, Format, Run, Later, NoForm, files_of, form_of}
 use Rattle.browse.specs.Loads.{World, Loads, Given, Refused, Refuses, MayFail, IsTold, IsHonest}
-use Rattle.browse.specs.ImageLines.{image_refusal}
-use Rattle.browse.specs.Answers.{Answer, Reads, Applies, Unread, Judged, judged, Formats, Formatted, Refused as Stopped, AnswersForm, Answers, image_limit, script_limit}
+use Rattle.grammar_model.specs.Whole.{DoIt}
+use Rattle.grammar_model.proofs.Texts.{no_fault_DoIt, one_SpellsDoIt, one_HasFirstFault}
+use Rattle.tree_model.specs.Tree.{SequenceOf}
+use Rattle.image_model.specs.Image.{plus}
+use Rattle.image_doits.specs.Added.{IsWithDoIt}
+use Rattle.run_model.specs.Runs.{run, printed_run}
+use Rattle.browse.specs.ImageLines.{image_refusal, expression_refusal}
+use Rattle.browse.specs.Answers.{Answer, Reads, Applies, Unread, Judged, judged, Formats, Formatted, Refused as Stopped, status_of, RunsIn, NoDoIt, Ran, Runs, NoImage, InImage, AnswersForm, Answers, image_limit, script_limit}
 
 -- both answers are one
 abbrev pub SameAnswer : Status → Status → List ℕ → List ℕ → Type 0
@@ -87,12 +93,39 @@ formats_one text s t x y (Formatted i read is line) (Stopped r wrong is' line') 
 formats_one text s t x y (Formatted i read is line) (Formatted j read' is' line') =
     (is ∙ sym is', line ∙ ap (λ (k : ImageOf (List ℕ)). file_of (formatted k)) (one_image Second prelude_text text i j read read') ∙ sym line')
 
+-- an image has one more do-it of a text in one way
+with_one : (expression : List ℕ) (i j k : ImageOf (List ℕ)) → IsWithDoIt expression i j → IsWithDoIt expression i k → j ≡ k
+with_one expression i j k p q =
+    let same : p.body ≡ q.body = one_SpellsDoIt Second expression p.body q.body p.spelled q.spelled in
+    p.added ∙ ap (λ (b : SequenceOf (List ℕ)). plus i (record { source = expression; body = b })) same ∙ sym q.added
+
+-- an expression that is run in an image has one answer
+runs_in_one : (i : ImageOf (List ℕ)) (expression : List ℕ) (budget : ℕ) (s t : Status) (x y : List ℕ) → RunsIn i expression budget s x → RunsIn i expression budget t y → SameAnswer s t x y
+runs_in_one i expression budget s t x y (NoDoIt f wrong is line) (NoDoIt g wrong' is' line') =
+    (is ∙ sym is', line ∙ ap expression_refusal (one_HasFirstFault Second DoIt expression f g wrong wrong') ∙ sym line')
+runs_in_one i expression budget s t x y (NoDoIt f wrong is line) (Ran j added is' line') = absurd (no_fault_DoIt Second expression added.body f added.spelled wrong)
+runs_in_one i expression budget s t x y (Ran j added is line) (NoDoIt f wrong is' line') = absurd (no_fault_DoIt Second expression added.body f added.spelled wrong)
+runs_in_one i expression budget s t x y (Ran j added is line) (Ran k added' is' line') =
+    let same : j ≡ k = with_one expression i j k added added' in
+    (is ∙ ap (λ (m : ImageOf (List ℕ)). status_of (run m budget).outcome) same ∙ sym is', line ∙ ap (λ (m : ImageOf (List ℕ)). printed_run m budget) same ∙ sym line')
+
+-- a text and an expression that are run have one answer
+runs_one : (text expression : List ℕ) (budget : ℕ) (s t : Status) (x y : List ℕ) → Runs text expression budget s x → Runs text expression budget t y → SameAnswer s t x y
+runs_one text expression budget s t x y (NoImage r wrong is line) (NoImage q wrong' is' line') =
+    (is ∙ sym is', line ∙ ap image_refusal (one_refusal Second prelude_text text r q wrong wrong') ∙ sym line')
+runs_one text expression budget s t x y (NoImage r wrong is line) (InImage i read p) = absurd (no_image_where_refused Second prelude_text text i r read wrong)
+runs_one text expression budget s t x y (InImage i read p) (NoImage r wrong is line) = absurd (no_image_where_refused Second prelude_text text i r read wrong)
+runs_one text expression budget s t x y (InImage i read p) (InImage j read' q) =
+    runs_in_one j expression budget s t x y (subst (λ (k : ImageOf (List ℕ)). RunsIn k expression budget s x) (one_image Second prelude_text text i j read read') p) q
+
 form_one : (w : World) (form : Form) (s t : Status) (x y : List ℕ) → IsHonest w (files_of form) → AnswersForm w form s x → AnswersForm w form t y → SameAnswer s t x y
 form_one w (Apply image script) s t x y honest p q =
     loads_one w image image_limit s t x y _ _ honest.told.0 honest.fine
     (λ i p' q'. loads_one w script script_limit s t x y _ _ honest.told.1.0 honest.fine (λ c. applies_one i c s t x y) p' q') p q
 form_one w (Format image) s t x y honest p q =
     loads_one w image image_limit s t x y _ _ honest.told.0 honest.fine (λ i. formats_one i s t x y) p q
+form_one w (Run image expression budget) s t x y honest p q =
+    loads_one w image image_limit s t x y _ _ honest.told.0 honest.fine (λ i. runs_one i expression budget s t x y) p q
 form_one w Later s t x y honest p q = (p.0 ∙ sym q.0, p.1 ∙ sym q.1)
 form_one w NoForm s t x y honest p q = (p.0 ∙ sym q.0, p.1 ∙ sym q.1)
 

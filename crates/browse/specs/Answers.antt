@@ -16,9 +16,15 @@ use Rattle.file_model.specs.Reading.{IsImageOf, HasRefusal}
 use Rattle.file_model.specs.Written as written
 use Rattle.st_kernel.specs.KernelText.{prelude_text}
 use Rattle.canonical_image.specs.Formatted.{formatted}
-use Rattle.command_words.specs.Forms.{Form, Apply, Format, Later, NoForm, form_of}
+use Rattle.grammar_model.specs.Whole.{DoIt}
+use Rattle.grammar_model.specs.Checks.{Fault}
+use Rattle.grammar_model.specs.Spelling.{HasFirstFault}
+use Rattle.run_model.specs.Values.{Outcome, done, failed, spent}
+use Rattle.run_model.specs.Runs.{run, printed_run}
+use Rattle.image_doits.specs.Added.{IsWithDoIt}
+use Rattle.command_words.specs.Forms.{Form, Apply, Format, Run, Later, NoForm, form_of}
 use Rattle.browse.specs.Loads.{World, Loads, line}
-use Rattle.browse.specs.ImageLines.{image_refusal}
+use Rattle.browse.specs.ImageLines.{image_refusal, expression_refusal}
 
 abbrev pub Answer : Type 0
 Answer = Status × List ℕ
@@ -68,10 +74,27 @@ pub data Formats (text : List ℕ) (s : Status) (sent : List ℕ) : Type 0 where
   Refused : (r : Refusal) → HasRefusal Second prelude_text text r → s ≡ status.ImageText → sent ≡ image_refusal r → Formats text s sent
   Formatted : (i : ImageOf (List ℕ)) → IsImageOf Second prelude_text text i → s ≡ status.Done → sent ≡ written.file_of (formatted i) → Formats text s sent
 
+-- how a call ends whose run came out so
+abbrev pub status_of : Outcome → Status
+status_of (done v) = status.Done
+status_of (failed e) = status.RunError
+status_of spent = status.Spent
+
+-- `run` answers this image and this expression with the status and the bytes, where the run has so many ticks: the image is run with the expression as its last do-it
+pub data RunsIn (i : ImageOf (List ℕ)) (expression : List ℕ) (budget : ℕ) (s : Status) (sent : List ℕ) : Type 0 where
+  NoDoIt : (f : Fault) → HasFirstFault Second DoIt expression f → s ≡ status.ScriptText → sent ≡ expression_refusal f → RunsIn i expression budget s sent
+  Ran : (j : ImageOf (List ℕ)) → IsWithDoIt expression i j → s ≡ status_of (run j budget).outcome → sent ≡ printed_run j budget → RunsIn i expression budget s sent
+
+-- `run` answers this text and this expression
+pub data Runs (text expression : List ℕ) (budget : ℕ) (s : Status) (sent : List ℕ) : Type 0 where
+  NoImage : (r : Refusal) → HasRefusal Second prelude_text text r → s ≡ status.ImageText → sent ≡ image_refusal r → Runs text expression budget s sent
+  InImage : (i : ImageOf (List ℕ)) → IsImageOf Second prelude_text text i → RunsIn i expression budget s sent → Runs text expression budget s sent
+
 -- the form is answered with the status and the bytes
 abbrev pub AnswersForm : World → Form → Status → List ℕ → Type 0
 AnswersForm w (Apply image script) s sent = Loads w image image_limit s sent (λ i. Loads w script script_limit s sent (λ c. Applies i c s sent))
 AnswersForm w (Format image) s sent = Loads w image image_limit s sent (λ i. Formats i s sent)
+AnswersForm w (Run image expression budget) s sent = Loads w image image_limit s sent (λ i. Runs i expression budget s sent)
 AnswersForm w Later s sent = (s ≡ status.Unbuilt) × (sent ≡ unbuilt)
 AnswersForm w NoForm s sent = (s ≡ status.Usage) × (sent ≡ usage)
 

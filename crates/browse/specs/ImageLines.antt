@@ -1,11 +1,11 @@
--- The line of a refused image.
+-- The lines of a refused image and of a refused expression.
 use Rattle.std.specs.Prelude.{ℕ, List, ◌++◌, codes}
 use Rattle.std.specs.Fmt.{decimal}
 use Rattle.token_model.specs.declared.fault.LexFault.{LexFault}
 use Rattle.token_model.specs.declared.fault.LexFault.TheVariants.{BadByte, OpenString, OpenComment, BadNumeral}
 use Rattle.grammar_model.specs.Checks.{Fault, Lexical, TooDeep, Expected, PrimitiveInUser, DuplicateName, AssignsFixed}
 use Rattle.st_faults.specs.Words.{word}
-use Rattle.file_model.specs.Causes.{Cause, UnknownSuperclass, Cycle, VariableTwice, KernelReplaced, UnknownClass, TooMany, PoolsNotEmpty, UnknownDefinition, Unended, Syntax, Refusal}
+use Rattle.file_model.specs.Causes.{Cause, UnknownSuperclass, Cycle, VariableTwice, KernelReplaced, UnknownClass, TooMany, PoolsNotEmpty, UnknownDefinition, Unended, Syntax, Refusal, place_of_fault}
 use Rattle.browse.specs.Loads.{line}
 
 -- why no token begins where one should
@@ -40,3 +40,7 @@ cause_text (Syntax fault) = fault_text fault
 -- the line of a refusal: the chunk, the place of the cause, and the cause
 abbrev pub image_refusal : Refusal → List ℕ
 image_refusal r = line (codes "image chunk " ++ decimal r.chunk ++ codes " at " ++ decimal r.at ++ codes " " ++ cause_text r.cause)
+
+-- the line of an expression that is no do-it: the place of its first fault, and the fault
+abbrev pub expression_refusal : Fault → List ℕ
+expression_refusal f = line (codes "expression at " ++ decimal (place_of_fault f) ++ codes " " ++ fault_text f)

@@ -1,9 +1,10 @@
-// The line of a refused image.
+// The lines of a refused image and of a refused expression.
 ghost use Rattle.std.specs.Prelude.{◌≡◌, ◌++◌, [], OnOk, MatchOption};
 ghost use Rattle.std.specs.Fmt.{decimal};
+ghost use Rattle.file_model.specs.Causes.{place_of_lexical, place_of_fault};
 ghost use Rattle.st_faults.specs.Faults.{fault_of};
 ghost use Rattle.file_faults.specs.Faults.{cause_of};
-ghost use Rattle.browse.specs.ImageLines.{lexical_text, fault_text, cause_text, image_refusal};
+ghost use Rattle.browse.specs.ImageLines.{lexical_text, fault_text, cause_text, image_refusal, expression_refusal};
 
 use file_faults::ImageCause;
 use rb_base::{Memory, Text};
@@ -84,5 +85,48 @@ pub(crate) fn push_image_refusal(
     push_number(alloc, at, out)?;
     out.push_slice(b" ")?;
     push_cause(cause, out)?;
+    out.push_slice(b"\n")
+}
+
+/// Where a token that is none begins.
+fn lexical_place(fault: LexFault) -> usize
+    ensures { result ≡ place_of_lexical fault }
+{
+    match fault {
+        LexFault::BadByte { at } => at,
+        LexFault::OpenString { at } => at,
+        LexFault::OpenComment { at } => at,
+        LexFault::BadNumeral { at } => at,
+    }
+}
+
+/// The place of a fault in its text, and 0 for want of memory.
+fn place_of(fault: ParseFault) -> usize
+    ensures { MatchOption (fault_of fault) (Unit {0}) (λ f. result ≡ place_of_fault f) }
+{
+    match fault {
+        ParseFault::Lexical(fault) => lexical_place(fault),
+        ParseFault::Expected { at, .. } => at,
+        ParseFault::AssignsFixed { at } => at,
+        ParseFault::TooDeep { at } => at,
+        ParseFault::PrimitiveInUser { at } => at,
+        ParseFault::DuplicateName { at } => at,
+        ParseFault::Memory => 0,
+    }
+}
+
+/// Appends the line of an expression that is no do-it. Want of memory is no fault of a text.
+pub(crate) fn push_expression_refusal(
+    alloc: Global,
+    fault: ParseFault,
+    out: &mut Text,
+) -> Result<(), Memory>
+    requires { out.old ≡ [] }
+    ensures { OnOk result (MatchOption (fault_of fault) ⊥ (λ f. out.new ≡ expression_refusal f)) }
+{
+    out.push_slice(b"expression at ")?;
+    push_number(alloc, place_of(fault), out)?;
+    out.push_slice(b" ")?;
+    push_fault(fault, out)?;
     out.push_slice(b"\n")
 }

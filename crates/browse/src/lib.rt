@@ -5,6 +5,7 @@ mod apply;
 mod format;
 mod image_lines;
 mod load;
+mod run;
 mod send;
 mod status;
 #[cfg(test)]

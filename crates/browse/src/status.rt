@@ -13,6 +13,8 @@ pub enum Status {
     Usage,
     /// 3: a chunk of the image is refused; the line names the first one, the place of the cause and the cause.
     ImageText,
+    /// 4: the expression of a run is no do-it; the line names the place of its first fault and the fault.
+    ScriptText,
     /// 5: a file could not be read, or there is none of that name.
     Read,
     /// 6: the output failed. What was sent is a prefix of the answer.
@@ -21,6 +23,10 @@ pub enum Status {
     Memory,
     /// 8: a file is longer than its limit.
     TooLarge,
+    /// 9: a run ended in an error; the last line names it.
+    RunError,
+    /// 10: a run wanted a tick when none was left; the last line says how many it had.
+    Spent,
     /// 11: the words are in a form that is not built yet, or the texts of the files are in none that `apply` reads yet.
     Unbuilt,
 }
@@ -35,10 +41,13 @@ impl Status {
             Status::Condition => 1,
             Status::Usage => 2,
             Status::ImageText => 3,
+            Status::ScriptText => 4,
             Status::Read => 5,
             Status::Write => 6,
             Status::Memory => 7,
             Status::TooLarge => 8,
+            Status::RunError => 9,
+            Status::Spent => 10,
             Status::Unbuilt => 11,
         }
     }

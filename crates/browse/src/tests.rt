@@ -156,7 +156,7 @@ fn texts_of_no_form_are_unbuilt(rt: HostRuntime) -> Result<(), Fail> {
     applies(&rt, rt.alloc(), "", "renameClass A B", 11, "unbuilt\n")?;
     let mut shelf = MemoryShelf::new(rt.alloc());
     for words in [
-        ["run", "I", "3"].as_slice(),
+        ["search", "I", "P"].as_slice(),
         &["team", "I", "L"],
         &["demo", "3"],
     ] {

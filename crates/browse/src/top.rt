@@ -9,6 +9,7 @@ ghost use Rattle.browse.specs.Answers.{Answers, usage};
 use crate::apply::{apply, unbuilt};
 use crate::format::format;
 use crate::load::push_line;
+use crate::run::run;
 use crate::send::send;
 use crate::status::Status;
 use command_words::{Words, words_of};
@@ -39,6 +40,11 @@ fn answer<F: Shelf>(
     match words_of(words) {
         Words::Apply { image, script } => apply(alloc, shelf, image, script, out),
         Words::Format { image } => format(alloc, shelf, image, out),
+        Words::Run {
+            image,
+            expression,
+            budget,
+        } => run(alloc, shelf, image, expression, budget, out),
         Words::Later => unbuilt(out),
         Words::NoForm => usage(out),
     }

@@ -1,7 +1,8 @@
 -- The forms of a command line's words.
 use Rattle.std.specs.Prelude.{ℕ, Bool, ◌&&◌, ◌||◌, List, [], ◌∷◌, codes, if◌then◌else◌}
+use Rattle.std.specs.Option.{option_map_or}
 use Rattle.std.specs.Str.{bytes_eq}
-use Rattle.command_words.specs.Spelling.{is_number, is_query}
+use Rattle.command_words.specs.Spelling.{is_number, number_of, is_query}
 use Rattle.command_words.specs.declared.words.Words.{Words}
 use Rattle.command_words.specs.declared.words.Words.TheVariants as words
 
@@ -11,6 +12,8 @@ pub data Form : Type 0 where
   Apply : List ℕ → List ℕ → Form
   -- `format IMAGE`
   Format : List ℕ → Form
+  -- `run IMAGE EXPRESSION` and `run IMAGE EXPRESSION BUDGET`, with the number of ticks
+  Run : List ℕ → List ℕ → ℕ → Form
   -- words in a form that is not built yet
   Later : Form
   -- words in no form
@@ -22,37 +25,45 @@ form_of_two command word =
     if bytes_eq command (codes "format") then Format word else
     (if bytes_eq command (codes "demo") && is_number 2000 word then Later else NoForm)
 
--- `run IMAGE EXPRESSION`, `search IMAGE PATTERN`, `changes IMAGE SCRIPT`, `strip IMAGE EXPRESSION` and `team IMAGE LOG`
+-- `search IMAGE PATTERN`, `changes IMAGE SCRIPT`, `strip IMAGE EXPRESSION` and `team IMAGE LOG`
 abbrev pub is_later_of_three : List ℕ → Bool
-is_later_of_three command = bytes_eq command (codes "run") || bytes_eq command (codes "search") || bytes_eq command (codes "changes") || bytes_eq command (codes "strip") || bytes_eq command (codes "team")
+is_later_of_three command = bytes_eq command (codes "search") || bytes_eq command (codes "changes") || bytes_eq command (codes "strip") || bytes_eq command (codes "team")
 
--- `apply IMAGE SCRIPT`, and the forms above
+-- `apply IMAGE SCRIPT`, `run IMAGE EXPRESSION` with 1,000,000 ticks, and the forms above
 abbrev pub form_of_three : List ℕ → List ℕ → List ℕ → Form
 form_of_three command image word =
     if bytes_eq command (codes "apply") then Apply image word else
-    (if is_later_of_three command then Later else NoForm)
+    (if bytes_eq command (codes "run") then Run image word 1000000 else
+    (if is_later_of_three command then Later else NoForm))
 
--- `run IMAGE EXPRESSION BUDGET` with a budget from 1 to 10,000,000, `find IMAGE KIND NAME`, `rewrite IMAGE PATTERN REPLACEMENT` and `strip IMAGE EXPRESSION sets`
+-- `run IMAGE EXPRESSION BUDGET` with a budget from 1 to 10,000,000
+abbrev pub run_of : List ℕ → List ℕ → List ℕ → Form
+run_of image expression budget = option_map_or (Run image expression) (number_of 10000000 budget) NoForm
+
+-- `find IMAGE KIND NAME`, `rewrite IMAGE PATTERN REPLACEMENT` and `strip IMAGE EXPRESSION sets`
 abbrev pub is_later_of_four : List ℕ → List ℕ → List ℕ → Bool
 is_later_of_four command word last =
-    (bytes_eq command (codes "run") && is_number 10000000 last)
-    || (bytes_eq command (codes "find") && is_query word last)
+    (bytes_eq command (codes "find") && is_query word last)
     || bytes_eq command (codes "rewrite")
     || (bytes_eq command (codes "strip") && bytes_eq last (codes "sets"))
 
-abbrev pub form_of_four : List ℕ → List ℕ → List ℕ → Form
-form_of_four command word last = if is_later_of_four command word last then Later else NoForm
+-- the forms of four words above
+abbrev pub form_of_four : List ℕ → List ℕ → List ℕ → List ℕ → Form
+form_of_four command image word last =
+    if bytes_eq command (codes "run") then run_of image word last else
+    (if is_later_of_four command word last then Later else NoForm)
 
 abbrev pub form_of : List (List ℕ) → Form
 form_of (command ∷ word ∷ []) = form_of_two command word
 form_of (command ∷ image ∷ word ∷ []) = form_of_three command image word
-form_of (command ∷ image ∷ word ∷ last ∷ []) = form_of_four command word last
+form_of (command ∷ image ∷ word ∷ last ∷ []) = form_of_four command image word last
 form_of words = NoForm
 
 -- the files that a form names, in the order in which they are asked for
 abbrev pub files_of : Form → List (List ℕ)
 files_of (Apply image script) = image ∷ script ∷ []
 files_of (Format image) = image ∷ []
+files_of (Run image expression budget) = image ∷ []
 files_of Later = []
 files_of NoForm = []
 
@@ -60,5 +71,6 @@ files_of NoForm = []
 abbrev pub shows : Words → Form
 shows (words.Apply image script) = Apply image.now script.now
 shows (words.Format image) = Format image.now
+shows (words.Run image expression budget) = Run image.now expression.now budget
 shows words.Later = Later
 shows words.NoForm = NoForm

@@ -1,5 +1,5 @@
 -- How the words of a command line are spelled.
-use Rattle.std.specs.Prelude.{ℕ, ◌+◌, ◌*◌, ◌-◌, ◌==◌, nat_le, Bool, false, ◌&&◌, ◌||◌, if◌then◌else◌, List, [], ◌∷◌, codes}
+use Rattle.std.specs.Prelude.{ℕ, ◌+◌, ◌*◌, ◌-◌, ◌==◌, nat_le, Bool, false, ◌&&◌, ◌||◌, if◌then◌else◌, Option, Some, None, List, [], ◌∷◌, codes}
 use Rattle.std.specs.List.{list_all}
 use Rattle.std.specs.Str.{bytes_eq}
 use Rattle.token_model.specs.Bytes.{is_between, is_digit, is_letter, is_word}
@@ -10,10 +10,18 @@ abbrev pub value_after : ℕ → List ℕ → ℕ
 value_after n [] = n
 value_after n (b ∷ s) = value_after (n * 10 + (b - 48)) s
 
+-- digits without a leading zero
+abbrev pub is_numeral : List ℕ → Bool
+is_numeral [] = false
+is_numeral (b ∷ s) = is_between 49 57 b && list_all is_digit s
+
 -- a decimal number from 1 to a greatest one, without a leading zero
 abbrev pub is_number : ℕ → List ℕ → Bool
-is_number most [] = false
-is_number most (b ∷ s) = is_between 49 57 b && (list_all is_digit s && nat_le (value_after 0 (b ∷ s)) most)
+is_number most s = is_numeral s && nat_le (value_after 0 s) most
+
+-- the value of such a number
+abbrev pub number_of : ℕ → List ℕ → Option ℕ
+number_of most s = if is_number most s then Some (value_after 0 s) else None
 
 -- letters and digits, then a period and an identifier
 abbrev pub ends_as_member : List ℕ → Bool

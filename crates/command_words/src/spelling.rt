@@ -1,9 +1,9 @@
 // How the words of a command line are spelled.
-ghost use Rattle.std.specs.Prelude.{◌≡◌, ◌-◌, nat_le, IsTrue};
+ghost use Rattle.std.specs.Prelude.{◌≡◌, ◌-◌, nat_le, IsTrue, Option, Some, None, if◌then◌else◌};
 ghost use Rattle.std.specs.List.{list_all};
 ghost use Rattle.token_model.specs.Bytes as class;
 ghost use Rattle.text_model.specs.Literals as literal;
-ghost use Rattle.command_words.specs.Spelling.{value_after, is_number, ends_as_member, is_member, takes_any_name, takes_member, is_query};
+ghost use Rattle.command_words.specs.Spelling.{value_after, is_numeral, is_number, number_of, ends_as_member, is_member, takes_any_name, takes_member, is_query};
 
 /// Whether the byte is a decimal digit.
 fn is_digit(byte: u8) -> bool
@@ -57,32 +57,48 @@ fn digit_of(byte: u8) -> u64
     u64::from(byte.saturating_sub(b'0'))
 }
 
-/// Whether the number that digits write is at most this one. No number that is kept is higher.
-fn is_at_most(digits: &[u8], most: u32) -> bool
-    ensures { result ≡ nat_le (value_after 0 digits.now) most }
+/// The number that digits write, where it is at most this one. No number that is kept is higher.
+fn value_within(digits: &[u8], most: u32) -> Option<u32>
+    ensures { result ≡ (if nat_le (value_after 0 digits.now) most then Some (value_after 0 digits.now) else None) }
 {
     let mut value = 0;
     let mut rest = digits;
     while let Some((byte, others)) = rest.split_first() {
         value = value * 10 + digit_of(*byte);
         if value > u64::from(most) {
-            return false;
+            return None;
         }
         rest = others;
     }
-    true
+    Some(value as u32)
+}
+
+/// Whether the word is digits without a leading zero.
+fn is_numeral(word: &[u8]) -> bool
+    ensures { result ≡ is_numeral word.now }
+{
+    match word.split_first() {
+        None => false,
+        Some((first, rest)) => b'1' <= *first && *first <= b'9' && are_digits(rest),
+    }
+}
+
+/// The number that the word writes, where it is a decimal number from 1 to `most` without a leading zero.
+pub(crate) fn number_of(word: &[u8], most: u32) -> Option<u32>
+    ensures { result ≡ number_of most word.now }
+{
+    if is_numeral(word) {
+        value_within(word, most)
+    } else {
+        None
+    }
 }
 
 /// Whether the word is a decimal number from 1 to `most` without a leading zero.
 pub(crate) fn is_number(word: &[u8], most: u32) -> bool
     ensures { result ≡ is_number most word.now }
 {
-    match word.split_first() {
-        None => false,
-        Some((first, rest)) => {
-            b'1' <= *first && *first <= b'9' && are_digits(rest) && is_at_most(word, most)
-        }
-    }
+    number_of(word, most).is_some()
 }
 
 /// Whether the bytes are letters and digits, then a period and an identifier.

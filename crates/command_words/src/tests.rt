@@ -19,9 +19,38 @@ fn form(words: Words<'_>) -> &'static str {
     match words {
         Words::Apply { .. } => "apply",
         Words::Format { .. } => "format",
+        Words::Run { .. } => "run",
         Words::Later => "later",
         Words::NoForm => "none",
     }
+}
+
+/// How many ticks a run has.
+fn ticks(words: Words<'_>) -> Option<u32> {
+    match words {
+        Words::Run { budget, .. } => Some(budget),
+        _ => None,
+    }
+}
+
+/// Compares the number of ticks that words give.
+fn has_ticks(rt: &impl Abort, alloc: Global, words: &[&str], wanted: u32) -> Result<(), Memory> {
+    let words = given(alloc, words)?;
+    assert!(rt; ticks(words_of(words.as_slice())) == Some(wanted));
+    Ok(())
+}
+
+#[test]
+fn runs_have_ticks(rt: HostRuntime) -> Result<(), Fail> {
+    for (words, wanted) in [
+        (["run", "I", "3"].as_slice(), 1000000),
+        (&["run", "I", "3", "1"], 1),
+        (&["run", "I", "3", "9870"], 9870),
+        (&["run", "I", "3", "10000000"], 10000000),
+    ] {
+        has_ticks(&rt, rt.alloc(), words, wanted)?;
+    }
+    Ok(())
 }
 
 /// Compares the form of words.
@@ -36,8 +65,8 @@ fn words_have_their_forms(rt: HostRuntime) -> Result<(), Fail> {
     for (words, wanted) in [
         (["apply", "I", "S"].as_slice(), "apply"),
         (&["format", "I"], "format"),
-        (&["run", "I", "3"], "later"),
-        (&["run", "I", "3", "100"], "later"),
+        (&["run", "I", "3"], "run"),
+        (&["run", "I", "3", "100"], "run"),
         (&["find", "I", "class", "?"], "later"),
         (&["search", "I", "P"], "later"),
         (&["rewrite", "I", "P", "R"], "later"),
@@ -87,7 +116,7 @@ fn numbers_have_limits(rt: HostRuntime) -> Result<(), Fail> {
         is_form(&rt, rt.alloc(), &["demo", number], wanted)?;
     }
     for (number, wanted) in [
-        ("10000000", "later"),
+        ("10000000", "run"),
         ("10000001", "none"),
         ("0", "none"),
         ("01", "none"),

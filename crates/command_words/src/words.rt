@@ -1,8 +1,8 @@
 // The words of a command line.
 ghost use Rattle.std.specs.Prelude.{◌≡◌, map, string_bytes};
-ghost use Rattle.command_words.specs.Forms.{form_of, form_of_two, form_of_three, form_of_four, is_later_of_three, is_later_of_four, shows};
+ghost use Rattle.command_words.specs.Forms.{form_of, form_of_two, form_of_three, form_of_four, run_of, is_later_of_three, is_later_of_four, shows};
 
-use crate::spelling::{is_number, is_query};
+use crate::spelling::{is_number, is_query, number_of};
 
 /// The highest number of `demo`.
 const MOST_CLASSES: u32 = 2000;
@@ -10,13 +10,28 @@ const MOST_CLASSES: u32 = 2000;
 /// The highest budget of a run, in ticks.
 const MOST_TICKS: u32 = 10000000;
 
+/// The budget of a run where none is given, in ticks.
+const USUAL_TICKS: u32 = 1000000;
+
 /// The forms of the words.
 #[derive(Clone, Copy)]
 pub enum Words<'w> {
     /// `apply IMAGE SCRIPT`.
-    Apply { image: &'w str, script: &'w str },
+    Apply {
+        image: &'w str,
+        script: &'w str,
+    },
     /// `format IMAGE`.
-    Format { image: &'w str },
+    Format {
+        image: &'w str,
+    },
+    /// `run IMAGE EXPRESSION` or `run IMAGE EXPRESSION BUDGET`.
+    Run {
+        image: &'w str,
+        expression: &'w str,
+        /// How many ticks the run has, from 1 to 10,000,000; 1,000,000 where no budget is given.
+        budget: u32,
+    },
     /// Words in a form that is not built yet.
     Later,
     /// Words in no form.
@@ -40,11 +55,7 @@ fn form_of_two<'w>(command: &str, word: &'w str) -> Words<'w>
 fn is_later_of_three(command: &str) -> bool
     ensures { result ≡ is_later_of_three command.now }
 {
-    command == "run"
-        || command == "search"
-        || command == "changes"
-        || command == "strip"
-        || command == "team"
+    command == "search" || command == "changes" || command == "strip" || command == "team"
 }
 
 /// The form that three words are in.
@@ -55,6 +66,12 @@ fn form_of_three<'w>(command: &str, image: &'w str, word: &'w str) -> Words<'w>
         Words::Apply {
             image,
             script: word,
+        }
+    } else if command == "run" {
+        Words::Run {
+            image,
+            expression: word,
+            budget: USUAL_TICKS,
         }
     } else if is_later_of_three(command) {
         Words::Later
@@ -67,17 +84,32 @@ fn form_of_three<'w>(command: &str, image: &'w str, word: &'w str) -> Words<'w>
 fn is_later_of_four(command: &str, word: &str, last: &str) -> bool
     ensures { result ≡ is_later_of_four command.now word.now last.now }
 {
-    (command == "run" && is_number(last.as_bytes(), MOST_TICKS))
-        || (command == "find" && is_query(word, last))
+    (command == "find" && is_query(word, last))
         || command == "rewrite"
         || (command == "strip" && last == "sets")
 }
 
-/// The form that four words are in.
-fn form_of_four<'w>(command: &str, word: &str, last: &str) -> Words<'w>
-    ensures { shows result ≡ form_of_four command.now word.now last.now }
+/// The form that a run with a budget is in.
+fn run_of<'w>(image: &'w str, expression: &'w str, budget: &str) -> Words<'w>
+    ensures { shows result ≡ run_of image.now expression.now budget.now }
 {
-    if is_later_of_four(command, word, last) {
+    match number_of(budget.as_bytes(), MOST_TICKS) {
+        Some(budget) => Words::Run {
+            image,
+            expression,
+            budget,
+        },
+        None => Words::NoForm,
+    }
+}
+
+/// The form that four words are in.
+fn form_of_four<'w>(command: &str, image: &'w str, word: &'w str, last: &str) -> Words<'w>
+    ensures { shows result ≡ form_of_four command.now image.now word.now last.now }
+{
+    if command == "run" {
+        run_of(image, word, last)
+    } else if is_later_of_four(command, word, last) {
         Words::Later
     } else {
         Words::NoForm
@@ -91,9 +123,12 @@ pub fn words_of<'w>(words: &'w [String]) -> Words<'w>
     match words {
         [command, word] => form_of_two(command.as_str(), word.as_str()),
         [command, image, word] => form_of_three(command.as_str(), image.as_str(), word.as_str()),
-        [command, _image, word, last] => {
-            form_of_four(command.as_str(), word.as_str(), last.as_str())
-        }
+        [command, image, word, last] => form_of_four(
+            command.as_str(),
+            image.as_str(),
+            word.as_str(),
+            last.as_str(),
+        ),
         _ => Words::NoForm,
     }
 }

@@ -1,8 +1,8 @@
 use Rattle.std.proofs.Common.{◌≡◌, ◌++◌, ◌∙◌, refl, ap, List, ℕ}
 use Rattle.class_table.specs.View.{image_of}
 use Rattle.file_model.specs.Written.{file_of}
-use Rattle.browse.specs.Answers.{Formatted}
-use Rattle.browse.proofs.Formatting.{refused_told}
+use Rattle.browse.specs.Answers.{Formatted, Refused}
+use Rattle.browse.proofs.Refusing.{refusal_told}
 use Rattle.browse.proofs.format.format_text.Goals as goal
 
 pub returns-in_ok-write_image-in-Ok : goal.returns-in_ok-write_image-in-Ok
@@ -12,4 +12,5 @@ returns-in_ok-write_image-in-Ok c =
 
 pub returns-in_ok-push_image_refusal-in-Err-Refused : goal.returns-in_ok-push_image_refusal-in-Err-Refused
 returns-in_ok-push_image_refusal-in-Err-Refused c =
-    refused_told c.args.text.now c.in-Err-Refused.chunk c.in-Err-Refused.at c.in-Err-Refused.cause c.push_image_refusal.new.out (rw c.in-Err-Refused.field-0-is at c.in-Err-Refused.ensures.err) c.in_ok-push_image_refusal-in-Err-Refused.ensures
+    let told = refusal_told c.args.text.now c.in-Err-Refused.chunk c.in-Err-Refused.at c.in-Err-Refused.cause c.push_image_refusal.new.out (rw c.in-Err-Refused.field-0-is at c.in-Err-Refused.ensures.err) c.in_ok-push_image_refusal-in-Err-Refused.ensures in
+    Refused told.0 told.1.0 refl told.1.1

@@ -1,6 +1,6 @@
 use Rattle.std.proofs.Common.{◌≡◌, ◌≤◌, length}
 use Rattle.command_words.specs.Spelling.{value_after}
-use Rattle.command_words.proofs.spelling.is_at_most.Given as goal
+use Rattle.command_words.proofs.spelling.value_within.Given as goal
 
 abbrev pub invariant-loop-byte : goal.invariant-loop-byte
 invariant-loop-byte l = record {

@@ -1,0 +1,11 @@
+use Rattle.std.proofs.Common.{sym, subst, rules}
+use Rattle.class_table.specs.Valid.{IsOrderly}
+use Rattle.class_table.proofs.KeptLemmas.{doit-added}
+use Rattle.image_doits.proofs.added.put.Goals.{in-Err, in-Ok}
+use Rattle.image_doits.proofs.added.put.Goals as goal
+
+pub returns-clause-orderly : goal.returns-clause-orderly
+returns-clause-orderly c = elim c.match-add_doit.branch [
+  | in-Err w ↦ rw w.result-is (search rules)
+  | in-Ok w ↦ rw w.result-is (subst IsOrderly (sym w.in-Ok.ensures.ok) (doit-added c.args.image.now c.requires.orderly c.args.doit c.requires.known))
+]

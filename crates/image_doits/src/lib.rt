@@ -1,0 +1,8 @@
+//! An image with one more do-it, which is given by its text.
+#![tactic(auto)]
+
+mod added;
+#[cfg(test)]
+mod tests;
+
+pub use added::add_doit;
