@@ -1,4 +1,5 @@
 mod Tests
+mod Braces
 mod Parts
 mod Sources
 mod Texts
@@ -6,3 +7,7 @@ mod Classes
 mod Methods
 mod Valid
 mod Dialects
+mod Fits
+mod Trees
+mod Reader
+mod Existing

@@ -39,6 +39,17 @@ reads_both d [] ys f h r = record { middle = f; first = Nothing; second = r }
 reads_both d (x ∷ xs) ys f h (Source {g = g} item made rest) =
     let r = reads_both d xs ys g h rest in record { middle = r.middle; first = Source item made r.first; second = r.second }
 
+pub reads_then : (d : Dialect) (xs ys : List Text) (f g h : Filing) → Reads d f xs g → Reads d g ys h → Reads d f (xs ++ ys) h
+reads_then d [] ys f g h Nothing second = second
+reads_then d (x ∷ xs) ys f g h (Source {g = k} item made rest) second = Source item made (reads_then d xs ys k g h rest second)
+
+-- chunks whose bodies hold no mark are taken as their sources are read
+pub takes_sources : (d : Dialect) (ps : List Piece) (f g : Filing) → AllByRecursion (λ (p : Piece). holds_mark p.body ≡ false) ps → Reads d f (map (λ (p : Piece). drop_blanks p.body) ps) g → TakesAll d true f ps None (Ok g)
+takes_sources d [] f g plain Nothing = Over
+takes_sources d (p ∷ ps) f g plain (Source {g = h} {x = x} item made rest) =
+    let source = drop_blanks p.body in
+    Taken (record { source = source; item = x; is_source = doubled-plain source (holds_mark-drop (blank_len p.body) p.body plain.0); is_item = item; result = made }) (takes_sources d ps h g plain.1 rest)
+
 -- outside a run of methods a source that spells a do-it is that do-it
 pub doit_item : (d : Dialect) (run : Option (RunOf Text)) (s : Text) (b : SequenceOf Text) (x : Item) → run ≡ None → s ≢ [] → SpellsDoIt d s b → IsItem d true run s x → x ≡ DoItChunk s b
 doit_item d run s b x outside some spells Empty = absurd (some refl)

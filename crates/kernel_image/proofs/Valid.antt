@@ -4,15 +4,13 @@ use Rattle.std.specs.Prelude.{codes, ◌==◌, ◌&&◌, is_some, unwrap_or, IsT
 use Rattle.std.specs.Bool.{beq}
 use Rattle.std.specs.List.{list_all, AllByRecursion}
 use Rattle.std.proofs.lemmas.Bool.{and_parts, not-true, eqb-true}
-use Rattle.std.proofs.lemmas.Simd.{map-map}
 use Rattle.rb_base.specs.Names.{text_eq}
 use Rattle.rb_base.proofs.NamesLemmas.{text_eq-refl}
 use Rattle.token_model.specs.declared.kind.Dialect.{Dialect}
 use Rattle.token_model.specs.declared.kind.Dialect.TheVariants.{Second}
 use Rattle.text_model.specs.Literals.{is_identifier}
-use Rattle.chunk_format.specs.Blank.{drop_blanks}
 use Rattle.chunk_format.specs.Left.{start_of}
-use Rattle.chunk_format.specs.Chunks.{Piece, HasChunks, holds_mark}
+use Rattle.chunk_format.specs.Chunks.{Piece, HasChunks}
 use Rattle.chunk_format.specs.declared.chunk_iter.Unended.{Unended as NoEnd}
 use Rattle.chunk_format.proofs.Unique.{HasChunks-same}
 use Rattle.grammar_model.specs.Spelling.{SpellsDoIt}
@@ -40,7 +38,7 @@ use Rattle.kernel_image.specs.KernelClasses.{kernel_classes}
 use Rattle.kernel_image.proofs.Tests.{all_tested, once_tested}
 use Rattle.kernel_image.proofs.Parts.{HasBodies, has_bodies}
 use Rattle.kernel_image.proofs.Sources.{Reads, sources_read, reads_both}
-use Rattle.kernel_image.proofs.Texts.{first_part, other_parts, kernel_bodies, method_sources, whole, is_cut, without_marks, definitions_first, runs_then}
+use Rattle.kernel_image.proofs.Texts.{first_part, other_parts, kernel_bodies, method_sources, whole, is_cut, runs_then, plain_pieces, sources_of}
 use Rattle.kernel_image.proofs.Classes.{classes_alone, classes_read}
 use Rattle.kernel_image.proofs.Methods.{IsSoFar, methods_then}
 
@@ -180,11 +178,6 @@ has_object = refl
 pub begins_images : (k : ImageOf Text) → IsSoFar k → IsBeginning k
 begins_images k h = record { root = subst (λ (cs : List (ClassOf Text)). has_class text_eq cs (codes "Object") ≡ true) (sym h.classes) has_object; no_doits = h.doits }
 
--- a fact of the items that a function makes
-all_unmapped : {X Y : Type 0} (P : Y → Type 0) (f : X → Y) (xs : List X) → AllByRecursion P (map f xs) → AllByRecursion (λ x. P (f x)) xs
-all_unmapped P f [] all = tt
-all_unmapped P f (x ∷ xs) all = (all.0, all_unmapped P f xs all.1)
-
 -- the image of the text of the kernel
 module _ (definitions : (class : ClassOf Text) → is_identifier (unwrap_or class.superclass (codes "nil")) ≡ true → is_identifier class.name ≡ true → SpellsDoIt Second (definition_text class) (definition_tree class))
     (openings : (run : RunOf Text) → is_identifier run.class ≡ true → SpellsDoIt Second (opening_text run) (opening_tree run)) where
@@ -194,12 +187,7 @@ module _ (definitions : (class : ClassOf Text) → is_identifier (unwrap_or clas
       let bodies : HasBodies (start_of prelude_text) kernel_bodies = has_bodies first_part other_parts (start_of prelude_text) (sym whole) is_cut in
       let same = HasChunks-same (start_of prelude_text) ps bodies.pieces stop None chunks bodies.chunks in
       let texts : map (λ (p : Piece). p.body) ps ≡ kernel_bodies = ap (map (λ (p : Piece). p.body)) same.0 ∙ bodies.same in
-      let plain_bodies : AllByRecursion (λ (b : Text). holds_mark b ≡ false) kernel_bodies = all_tested (λ (b : Text). holds_mark b ≡ false) (λ (b : Text). not (holds_mark b)) (λ b e. not-true (holds_mark b) e) kernel_bodies without_marks in
-      let plain_pieces : AllByRecursion (λ (p : Piece). holds_mark p.body ≡ false) ps =
-      all_unmapped (λ (b : Text). holds_mark b ≡ false) (λ (p : Piece). p.body) ps (subst (AllByRecursion (λ (b : Text). holds_mark b ≡ false)) (sym texts) plain_bodies) in
-      let sources : map (λ (p : Piece). drop_blanks p.body) ps ≡ map definition_text kernel_classes ++ method_sources =
-      sym (map-map drop_blanks (λ (p : Piece). p.body) ps) ∙ ap (map drop_blanks) texts ∙ definitions_first in
-      subst (λ (ss : List Text). Reads Second f ss end) sources (sources_read Second f end ps stop plain_pieces takes)
+      subst (λ (ss : List Text). Reads Second f ss end) (sources_of ps texts) (sources_read Second f end ps stop (plain_pieces ps texts) takes)
 
   pub kernel_known : (k : ImageOf Text) → IsKernelOf Second prelude_text k → IsSoFar k
   kernel_known k is =

@@ -1,5 +1,5 @@
 // The laws. Each function does nothing; its contract is the law.
-ghost use Rattle.std.specs.Prelude.{◌≡◌, []};
+ghost use Rattle.std.specs.Prelude.{◌≡◌, ◌⊎◌, []};
 ghost use Rattle.std.specs.List.{AllByRecursion};
 ghost use Rattle.token_model.specs.declared.kind.Dialect.{Dialect};
 ghost use Rattle.token_model.specs.declared.kind.Dialect.TheVariants.{Second};
@@ -7,17 +7,29 @@ ghost use Rattle.st_kernel.specs.KernelText.{prelude_text};
 ghost use Rattle.image_model.specs.Image.{ClassOf, ImageOf};
 ghost use Rattle.image_model.specs.Words.{text_words};
 ghost use Rattle.image_model.specs.Valid.{IsFileable, IsValid};
+ghost use Rattle.file_model.specs.Causes.{Refusal};
 ghost use Rattle.file_model.specs.Filing.{Text};
 ghost use Rattle.file_model.specs.Fileable.{reading_of};
-ghost use Rattle.file_model.specs.Reading.{IsImageOf, IsKernelOf};
+ghost use Rattle.file_model.specs.Reading.{HasRefusal, IsImageOf, IsKernelOf};
 ghost use Rattle.file_model.specs.Written.{file_of};
 ghost use Rattle.file_rereading.specs.Rereading.{IsBeginning, IsWithinLimits, KernelFirst, with_heads};
 ghost use Rattle.kernel_image.specs.KernelClasses.{kernel_classes};
 
 use file_laws::{gives_fileable_images, gives_valid_images, reads_the_same_with_braces};
+use file_model::has_one_image;
 use file_rereading::{
     keeps_the_kernel_first, reads_each_image_again, reads_what_was_written, spells_definitions,
 };
+use reread_law::{spells_the_tree_again, tells_which_trees_have_a_text};
+
+/// The text of the kernel is read to its end, in either dialect: no chunk of it is refused, and it makes an image.
+pub fn kernel_is_read()
+    ensures { (dialect : Dialect) → (kernel : ImageOf Text) × IsKernelOf dialect prelude_text kernel }
+{
+    spells_definitions();
+    tells_which_trees_have_a_text();
+    spells_the_tree_again();
+}
 
 /// The text of the kernel makes its twenty classes, in either dialect: `Object` and those below it, with their superclasses
 /// and instance variables, and nothing else.
@@ -37,6 +49,14 @@ pub fn kernel_is_valid()
 {
     spells_definitions();
     reads_the_same_with_braces();
+}
+
+/// Each text that is read behind the kernel makes an image, or one of its chunks is the first that is refused.
+pub fn every_text_is_read_or_refused()
+    ensures { (dialect : Dialect) (text : Text) → ((image : ImageOf Text) × IsImageOf dialect prelude_text text image) ⊎ ((refusal : Refusal) × HasRefusal dialect prelude_text text refusal) }
+{
+    kernel_is_read();
+    has_one_image();
 }
 
 /// The image of each file-out that is read behind the kernel is valid and can be written as a file-out and read again, and
