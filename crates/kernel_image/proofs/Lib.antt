@@ -1,0 +1,13 @@
+mod Tests
+mod Braces
+mod Parts
+mod Sources
+mod Texts
+mod Classes
+mod Methods
+mod Valid
+mod Dialects
+mod Fits
+mod Trees
+mod Reader
+mod Existing
