@@ -43,14 +43,16 @@ doit_left i v ds k b c x s s' e q h =
 -- no do-its are left
 pub doits_over : (i : ImageOf Name) (v : Value) (ds : List (DoItOf Name)) (k : ℕ) (s : Store) → length ds ≤ k → fine v s ≡ does_doits acts i (evaluates i) v (drop k ds) s
 unfolding gives
-doits_over i v [] k s l = refl
+doits_over i v [] zero s l = refl
+doits_over i v [] (suc k) s l = refl
 doits_over i v (d ∷ ds) zero s l = absurd (omega arith)
 doits_over i v (d ∷ ds) (suc k) s l = doits_over i v ds k s (omega arith)
 
 -- no do-it stands at a place
 pub doits_missing : (i : ImageOf Name) (v : Value) (ds : List (DoItOf Name)) (k : ℕ) (s : Store) → option_map body (slice_get ds k) ≡ None → fine v s ≡ does_doits acts i (evaluates i) v (drop k ds) s
 unfolding gives
-doits_missing i v [] k s e = refl
+doits_missing i v [] zero s e = refl
+doits_missing i v [] (suc k) s e = refl
 doits_missing i v (d ∷ ds) zero s e = absurd (cc)
 doits_missing i v (d ∷ ds) (suc k) s e = doits_missing i v ds k s e
 
