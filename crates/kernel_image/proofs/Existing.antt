@@ -1,5 +1,5 @@
 -- The text of the kernel is read to its end.
-use Rattle.std.proofs.Common.{◌≡◌, ◌↔◌, Bool, true, false, List, [], ◌∷◌, ◌++◌, map, find, Option, Some, None, Result, Ok, Err, refl, sym, subst, true≢false}
+use Rattle.std.proofs.Common.{◌≡◌, ◌↔◌, Bool, true, false, List, [], ◌∷◌, ◌++◌, map, find, Option, Some, None, Result, Ok, Err, refl, sym, ap, subst, ◌∙◌, true≢false}
 use Rattle.std.specs.Prelude.{codes, ◌&&◌, unwrap_or}
 use Rattle.std.specs.Fmt.{digits}
 use Rattle.std.proofs.lemmas.Bool.{and_parts}
@@ -20,9 +20,11 @@ use Rattle.file_model.specs.Changes.{RunOf}
 use Rattle.file_model.specs.Filing.{Text, Filing, Item, Blank, DoItChunk, MethodChunk, taken}
 use Rattle.file_model.specs.Reading.{IsItem, Empty, DoItRead, MethodRead, no_image, IsKernelOf}
 use Rattle.file_model.specs.Written.{definition_text}
+use Rattle.file_model.proofs.OneImage.{one_kernel}
 use Rattle.file_laws.proofs.Moves.{text_equal}
 use Rattle.file_rereading.specs.Trees.{definition_tree, opening_tree, opening_text}
 use Rattle.kernel_image.specs.KernelClasses.{kernel_classes}
+use Rattle.kernel_image.specs.KernelMethods.{row_of, kernel_methods}
 use Rattle.kernel_image.proofs.Braces.{has_no_brace, doit_in, method_in_dialect}
 use Rattle.kernel_image.proofs.Parts.{HasBodies, has_bodies}
 use Rattle.kernel_image.proofs.Sources.{Reads, Nothing, Source, reads_then, takes_sources}
@@ -57,6 +59,24 @@ abbrev can_read : Dialect → List Text → Filing → Bool
 can_read d [] f = true
 can_read d (s ∷ ss) f = is_spelled f.run s && on_ok (can_read d ss) (taken d true f (item_in f.run s))
 
+-- what they make then
+abbrev end_by : (Filing → Filing) → Filing → Result Filing Cause → Filing
+end_by p f (Ok g) = p g
+end_by p f (Err cause) = f
+
+abbrev end_of : Dialect → List Text → Filing → Filing
+end_of d [] f = f
+end_of d (s ∷ ss) f = end_by (end_of d ss) f (taken d true f (item_in f.run s))
+
+-- the image of the kernel
+pub kernel_in : Dialect → ImageOf Text
+kernel_in d = (end_of d method_sources (classes_alone kernel_classes)).image
+
+-- its methods
+pub its_methods : (d : Dialect) → map row_of (kernel_in d).methods ≡ kernel_methods
+unfolding kernel_in first_part other_parts prelude_text kernel_classes kernel_methods method_sources kernel_runs is_pseudo_variable method_in digits
+its_methods d = refl
+
 -- the methods of the kernel are read behind its classes
 reads_methods : (d : Dialect) → can_read d method_sources (classes_alone kernel_classes) ≡ true
 unfolding first_part other_parts prelude_text kernel_classes method_sources kernel_runs is_pseudo_variable method_in digits
@@ -83,30 +103,34 @@ module _ (definitions : (class : ClassOf Text) → is_identifier (unwrap_or clas
       let some = (some_text true m).1 (method_tested m parts.1) in
       MethodRead (λ e. cc) (method_in_dialect d true (b ∷ s) m plain.0 (subst (λ (t : Text). SpellsMethod Second true t m) text (canonical Second true some.0 m some.1)))
 
-  sources_end : (d : Dialect) (ss : List Text) (f : Filing) → can_read d ss f ≡ true → (g : Filing) × Reads d f ss g
-  sources_end d [] f h = (f, Nothing)
+  sources_end : (d : Dialect) (ss : List Text) (f : Filing) → can_read d ss f ≡ true → Reads d f ss (end_of d ss f)
+  sources_end d [] f h = Nothing
   sources_end d (s ∷ ss) f h = by (taken d true f (item_in f.run s)) refl (and_parts (is_spelled f.run s) (on_ok (can_read d ss) (taken d true f (item_in f.run s))) h) (λ g k. sources_end d ss g k)
     where
-      by : (r : Result Filing Cause) → taken d true f (item_in f.run s) ≡ r → (is_spelled f.run s ≡ true) × (on_ok (can_read d ss) r ≡ true) → ((g : Filing) → can_read d ss g ≡ true → (h : Filing) × Reads d g ss h) → (g : Filing) × Reads d f (s ∷ ss) g
-      by (Ok g) made parts rest = let r = rest g parts.1 in (r.0, Source (spelled_item d f.run s parts.0) (sym made) r.1)
+      by : (r : Result Filing Cause) → taken d true f (item_in f.run s) ≡ r → (is_spelled f.run s ≡ true) × (on_ok (can_read d ss) r ≡ true) → ((g : Filing) → can_read d ss g ≡ true → Reads d g ss (end_of d ss g)) → Reads d f (s ∷ ss) (end_by (end_of d ss) f r)
+      by (Ok g) made parts rest = Source (spelled_item d f.run s parts.0) (sym made) (rest g parts.1)
       by (Err cause) made parts rest = absurd (true≢false (sym parts.1))
 
-  -- the text has an image in each dialect
-  pub some_kernel : (d : Dialect) → (k : ImageOf Text) × IsKernelOf d prelude_text k
-  some_kernel d =
+  -- the text has this image in each dialect
+  pub is_kernel : (d : Dialect) → IsKernelOf d prelude_text (kernel_in d)
+  unfolding kernel_in
+  is_kernel d =
       let start : Filing = record { image = no_image; run = None; at_head = true } in
+      let end = end_of d method_sources (classes_alone kernel_classes) in
       let methods = sources_end d method_sources (classes_alone kernel_classes) (reads_methods d) in
-      let sources : Reads d start (map definition_text kernel_classes ++ method_sources) methods.0 = reads_then d (map definition_text kernel_classes) method_sources start (classes_alone kernel_classes) methods.0 (classes_made definitions d) methods.1 in
-      let bodies : HasBodies (start_of prelude_text) kernel_bodies = has_bodies first_part other_parts (start_of prelude_text) (sym whole) is_cut in (
-        methods.0.image,
-        record {
-          end = methods.0;
-          reads = record {
-            pieces = bodies.pieces;
-            end = None;
-            chunks = bodies.chunks;
-            takes = takes_sources d bodies.pieces start methods.0 (plain_pieces bodies.pieces bodies.same) (subst (λ (ss : List Text). Reads d start ss methods.0) (sym (sources_of bodies.pieces bodies.same)) sources);
-          };
-          image = refl;
-        },
-      )
+      let sources : Reads d start (map definition_text kernel_classes ++ method_sources) end = reads_then d (map definition_text kernel_classes) method_sources start (classes_alone kernel_classes) end (classes_made definitions d) methods in
+      let bodies : HasBodies (start_of prelude_text) kernel_bodies = has_bodies first_part other_parts (start_of prelude_text) (sym whole) is_cut in
+      record {
+        end = end;
+        reads = record {
+          pieces = bodies.pieces;
+          end = None;
+          chunks = bodies.chunks;
+          takes = takes_sources d bodies.pieces start end (plain_pieces bodies.pieces bodies.same) (subst (λ (ss : List Text). Reads d start ss end) (sym (sources_of bodies.pieces bodies.same)) sources);
+        };
+        image = refl;
+      }
+
+  -- and no other
+  pub kernel_rows : (d : Dialect) (k : ImageOf Text) → IsKernelOf d prelude_text k → map row_of k.methods ≡ kernel_methods
+  kernel_rows d k is = ap (λ (i : ImageOf Text). map row_of i.methods) (one_kernel d prelude_text k (kernel_in d) is (is_kernel d)) ∙ its_methods d

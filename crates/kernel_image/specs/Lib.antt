@@ -1,1 +1,2 @@
 pub mod KernelClasses
+pub mod KernelMethods

@@ -1,5 +1,5 @@
 // The laws. Each function does nothing; its contract is the law.
-ghost use Rattle.std.specs.Prelude.{◌≡◌, ◌⊎◌, []};
+ghost use Rattle.std.specs.Prelude.{◌≡◌, ◌⊎◌, [], map};
 ghost use Rattle.std.specs.List.{AllByRecursion};
 ghost use Rattle.token_model.specs.declared.kind.Dialect.{Dialect};
 ghost use Rattle.token_model.specs.declared.kind.Dialect.TheVariants.{Second};
@@ -14,6 +14,7 @@ ghost use Rattle.file_model.specs.Reading.{HasRefusal, IsImageOf, IsKernelOf};
 ghost use Rattle.file_model.specs.Written.{file_of};
 ghost use Rattle.file_rereading.specs.Rereading.{IsBeginning, IsWithinLimits, KernelFirst, with_heads};
 ghost use Rattle.kernel_image.specs.KernelClasses.{kernel_classes};
+ghost use Rattle.kernel_image.specs.KernelMethods.{row_of, kernel_methods};
 
 use file_laws::{gives_fileable_images, gives_valid_images, reads_the_same_with_braces};
 use file_model::has_one_image;
@@ -38,6 +39,16 @@ pub fn kernel_has_these_classes()
 {
     spells_definitions();
     reads_the_same_with_braces();
+}
+
+/// The text of the kernel makes these methods, in either dialect: of each class and side these selectors, in order, each with
+/// the number of its primitive where it is one.
+pub fn kernel_has_these_methods()
+    ensures { (dialect : Dialect) (kernel : ImageOf Text) → IsKernelOf dialect prelude_text kernel → map row_of kernel.methods ≡ kernel_methods }
+{
+    spells_definitions();
+    tells_which_trees_have_a_text();
+    spells_the_tree_again();
 }
 
 /// The image of the kernel's text is valid, in either dialect. No class of it has class-instance variables, and images begin
