@@ -1,5 +1,6 @@
 -- The places of classes by name.
 use Rattle.std.proofs.Common.{◌≡◌, ◌≢◌, ◌⊎◌, inl, inr, ℕ, zero, suc, ◌+◌, ◌<◌, Bool, true, false, not, cond, List, [], ◌∷◌, ◌++◌, length, take, find, position, is_some, option_map, Option, Some, None, slice_get, slice_set, get_or, nat_eq, nat_lt, refl, sym, ap, ◌∙◌, arith, true≢false}
+use Rattle.std.specs.Prelude.{◌||◌, if◌then◌else◌}
 use Rattle.std.specs.List.{position_or_len}
 use Rattle.std.specs.Option.{option_and_then}
 use Rattle.std.proofs.lemmas.Bool.{ltb-true, ltb-false, lt-ltb, le-ltb}
@@ -9,7 +10,8 @@ use Rattle.image_model.specs.Image.{ClassOf}
 use Rattle.image_model.specs.Chain.{class_named}
 use Rattle.indexmap.specs.IndexMap.{get}
 use Rattle.class_table.specs.Tables.{ClassTable}
-use Rattle.image_draft.specs.Table.{place_in, IsPlaceTable, IsNoted}
+use Rattle.file_laws.specs.Settling.{comes_first}
+use Rattle.image_draft.specs.Table.{place_in, IsPlaceTable, IsNoted, stands_first}
 use Rattle.image_draft.proofs.Numbers.{nat_equal}
 
 -- one more on both sides
@@ -37,7 +39,7 @@ pub place_cons : (x : ClassOf ℕ) (xs : List (ClassOf ℕ)) (q : ℕ) → place
 place_cons x xs q = position_cons (λ (c : ClassOf ℕ). nat_eq q c.name) x xs
 
 -- numbers are told apart both ways
-same_back : (m n : ℕ) → nat_eq m n ≡ nat_eq n m
+pub same_back : (m n : ℕ) → nat_eq m n ≡ nat_eq n m
 same_back m n = by (eqb_tells m n) (eqb_tells n m)
   where
     by : ((nat_eq m n ≡ true) × (m ≡ n)) ⊎ ((nat_eq m n ≡ false) × (m ≢ n)) → ((nat_eq n m ≡ true) × (n ≡ m)) ⊎ ((nat_eq n m ≡ false) × (n ≢ m)) → nat_eq m n ≡ nat_eq n m
@@ -137,3 +139,33 @@ table_taken before after cs i k c known noted place h r =
     λ q. noted_place before after (take i cs) c k known noted q
     ∙ ap (λ (n : ℕ). cond (is_some (place_in (take i cs) c.name)) (place_in (take i cs) q) (cond (nat_eq c.name q) (Some n) (place_in (take i cs) q))) place
     ∙ sym (place_taken cs i c h r q)
+
+-- a class stands before another where its place does
+pub first_placed : (cs : List (ClassOf ℕ)) (p n : ℕ) → stands_first (place_in cs p) (place_in cs n) ≡ comes_first nat_eq p n cs
+first_placed [] p n = refl
+first_placed (x ∷ xs) p n =
+    (λ i. stands_first (place_cons x xs p i) (place_cons x xs n i)) ∙ by (nat_eq n x.name) (nat_eq p x.name) (first_placed xs p n)
+  where
+    never : (o : Option ℕ) → stands_first (option_map suc o) (Some 0) ≡ false
+    never None = refl
+    never (Some j) = le-ltb (suc j) 0 (omega arith)
+
+    always : (o : Option ℕ) → stands_first (Some 0) (option_map suc o) ≡ true
+    always None = refl
+    always (Some k) = lt-ltb 0 (suc k) (omega arith)
+
+    later : (j k : ℕ) (b : Bool) → nat_lt j k ≡ b → nat_lt (suc j) (suc k) ≡ b
+    later j k true e = lt-ltb (suc j) (suc k) (omega (arith, ltb-true j k e))
+    later j k false e = le-ltb (suc j) (suc k) (omega (arith, ltb-false j k e))
+
+    both : (o q : Option ℕ) → stands_first (option_map suc o) (option_map suc q) ≡ stands_first o q
+    both None q = refl
+    both (Some j) None = refl
+    both (Some j) (Some k) = later j k (nat_lt j k) refl
+
+    by : (named above : Bool) → stands_first (place_in xs p) (place_in xs n) ≡ comes_first nat_eq p n xs
+        → stands_first (cond above (Some 0) (option_map suc (place_in xs p))) (cond named (Some 0) (option_map suc (place_in xs n))) ≡ (if named then false else above || comes_first nat_eq p n xs)
+    by true true rest = le-ltb 0 0 (omega arith)
+    by true false rest = never (place_in xs p)
+    by false true rest = always (place_in xs n)
+    by false false rest = both (place_in xs p) (place_in xs n) ∙ rest

@@ -6,6 +6,9 @@ pub mod Differ
 mod Ordered
 mod ClassPlaces
 mod Marks
+mod Beside
+mod Sound
+mod Seen
 pub mod MethodClasses
 pub mod Drafts
 pub mod SlotLists

@@ -24,7 +24,7 @@ use Rattle.image_draft.proofs.Numbers.{nat_itself, nat_equal}
 use Rattle.image_draft.proofs.Differ.{NamesDiffer-changed, differ_back}
 
 -- names that differ stand once
-once_of : (cs : List (ClassOf ℕ)) → NamesDiffer cs → HasNoRepeat (class_names cs)
+pub once_of : (cs : List (ClassOf ℕ)) → NamesDiffer cs → HasNoRepeat (class_names cs)
 once_of [] h j k x a b = absurd (cc)
 once_of (c ∷ cs) h zero zero x a b = refl
 once_of (c ∷ cs) h zero (suc k) x a b = let same : c.name ≡ x = cc in absurd (absent nat_eq nat_itself nat_equal cs c.name h.0 k (b ∙ ap Some (sym same)))
@@ -36,7 +36,7 @@ differ_of : (cs : List (ClassOf ℕ)) → HasNoRepeat (class_names cs) → Names
 differ_of [] h = tt
 differ_of (c ∷ cs) h = (has_stands nat_eq nat_itself nat_equal cs c.name ∙ apart nat_eq nat_itself nat_equal [] c cs h, differ_of cs (no_repeat_behind c.name (class_names cs) h))
 
-order_of : (cs : List (ClassOf ℕ)) → AreOrdered cs → AreInOrder cs
+pub order_of : (cs : List (ClassOf ℕ)) → AreOrdered cs → AreInOrder cs
 order_of cs o = record { distinct = once_of cs o.differ; before = o.before }
 
 ordered_of : (cs : List (ClassOf ℕ)) → AreInOrder cs → AreOrdered cs
@@ -53,10 +53,10 @@ IsLet cs d = first_cause (early_refusals cs d) ≡ None
 kernel_none : (cs : List (ClassOf ℕ)) (d : DefinitionOf ℕ) → IsLet cs d → is_kernel_class nat_eq cs d.name ≡ false
 kernel_none cs d none = (first_none (when (is_kernel_class nat_eq cs d.name) KernelReplaced) (when (lacks_superclass nat_eq cs d) UnknownSuperclass ∷ when (makes_cycle nat_eq cs d) Cycle ∷ []) none).0
 
-lacks_none : (cs : List (ClassOf ℕ)) (d : DefinitionOf ℕ) → IsLet cs d → lacks_superclass nat_eq cs d ≡ false
+pub lacks_none : (cs : List (ClassOf ℕ)) (d : DefinitionOf ℕ) → IsLet cs d → lacks_superclass nat_eq cs d ≡ false
 lacks_none cs d none = second_none (when (is_kernel_class nat_eq cs d.name) KernelReplaced) (when (lacks_superclass nat_eq cs d) UnknownSuperclass) (when (makes_cycle nat_eq cs d) Cycle ∷ []) none
 
-cycle_none : (cs : List (ClassOf ℕ)) (d : DefinitionOf ℕ) → IsLet cs d → makes_cycle nat_eq cs d ≡ false
+pub cycle_none : (cs : List (ClassOf ℕ)) (d : DefinitionOf ℕ) → IsLet cs d → makes_cycle nat_eq cs d ≡ false
 cycle_none cs d none = third_none (when (is_kernel_class nat_eq cs d.name) KernelReplaced) (when (lacks_superclass nat_eq cs d) UnknownSuperclass) (when (makes_cycle nat_eq cs d) Cycle) [] none
 
 -- a definition that is not refused, with the classes put behind one another

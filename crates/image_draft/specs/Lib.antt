@@ -4,5 +4,6 @@ pub mod MethodCode
 pub mod MethodSlots
 pub mod Early
 pub mod Names
+pub mod Once
 pub mod Table
 pub mod Drafted

@@ -6,9 +6,11 @@ ghost use Rattle.file_model.specs.Refusals.{comment_refusals, class_side_refusal
 ghost use Rattle.file_model.specs.Applied.{with_comment, with_class_side};
 ghost use Rattle.image_draft.specs.Early.{told};
 ghost use Rattle.image_draft.specs.Names.{NamesDiffer, AreOrdered};
+ghost use Rattle.image_draft.specs.Once.{AreSound};
 
 use crate::class_draft::ClassDraft;
 use crate::class_list::ClassList;
+use crate::kept::keeps_side;
 use crate::refusals::{comment_refusal, early_side_refusal, late_side_refusal};
 use file_faults::ImageCause;
 use rb_base::{Ids, Memory, NameId, Text};
@@ -28,7 +30,7 @@ pub fn change_comment(classes: &mut ClassList, name: NameId, comment: Text) -> O
     ensures some { is_some result ≡ is_some (first_cause (comment_refusals nat_eq classes.old name)) }
     ensures changed { IfNone result (classes.new ≡ with_comment nat_eq name comment classes.old) }
     ensures kept { IfSome result (λ _. classes.new ≡ classes.old) }
-    ensures order { AreOrdered classes.old → AreOrdered classes.new }
+    ensures sound { AreSound classes.old → AreSound classes.new }
     ensures names { (n : ℕ) → has_class nat_eq classes.new n ≡ has_class nat_eq classes.old n }
 {
     let refusal = comment_refusal(classes, name);
@@ -43,7 +45,7 @@ pub fn change_comment(classes: &mut ClassList, name: NameId, comment: Text) -> O
 fn put_comment(classes: &mut ClassList, name: NameId, comment: Text)
     requires { NamesDiffer classes.old }
     ensures changed { classes.new ≡ with_comment nat_eq name comment classes.old }
-    ensures order { AreOrdered classes.old → AreOrdered classes.new }
+    ensures sound { AreSound classes.old → AreSound classes.new }
     ensures names { (n : ℕ) → has_class nat_eq classes.new n ≡ has_class nat_eq classes.old n }
 {
     if let Some(place) = classes.place(name) {
@@ -64,24 +66,31 @@ fn put_class_side(classes: &mut ClassList, name: NameId, names: Ids)
 }
 
 /// Gives the class of a name other class-instance variables, or tells why it can not have them; then, and on want of
-/// memory, it may have them too.
+/// memory, no class may be left.
 pub fn change_class_side(
     alloc: Global,
     classes: &mut ClassList,
     name: NameId,
     names: Ids,
 ) -> Result<Option<ImageCause>, Memory>
-    requires { AreOrdered classes.old }
+    requires { AreSound classes.old }
     ensures cause { IfOk result (λ cause. told cause ≡ first_cause (class_side_refusals nat_eq classes.old name names (with_class_side nat_eq name names classes.old))) }
     ensures some { IfOk result (λ cause. is_some cause ≡ is_some (first_cause (class_side_refusals nat_eq classes.old name names (with_class_side nat_eq name names classes.old)))) }
     ensures changed { IfOk result (λ cause. IfNone cause (classes.new ≡ with_class_side nat_eq name names classes.old)) }
-    ensures order { AreOrdered classes.new }
-    ensures names { (n : ℕ) → has_class nat_eq classes.new n ≡ has_class nat_eq classes.old n }
+    ensures sound { AreSound classes.new }
+    ensures names { IfOk result (λ cause. IfNone cause ((n : ℕ) → has_class nat_eq classes.new n ≡ has_class nat_eq classes.old n)) }
 {
     let refusal = early_side_refusal(classes, name, names.as_slice());
     if refusal.is_some() {
         return Ok(refusal);
     }
-    put_class_side(classes, name, names);
-    late_side_refusal(alloc, classes, name)
+    let kept = keeps_side(classes, name, names.as_slice());
+    let mut after = classes.take_all();
+    put_class_side(&mut after, name, names);
+    let refusal = late_side_refusal(alloc, &after, name, kept)?;
+    if refusal.is_some() {
+        return Ok(refusal);
+    }
+    *classes = after;
+    Ok(None)
 }

@@ -10,6 +10,7 @@ use indexmap::IndexMap;
 use rb_base::{Ids, Memory, NameId, Text};
 use std::alloc::Global;
 use std::marker::Model;
+use std::mem::replace;
 
 /// Classes in some order, with a table of their places by name. Contracts see the list.
 #[derive(Drop)]
@@ -85,6 +86,15 @@ impl ClassList {
         ensures { result.items ≡ self }
     {
         self.items
+    }
+
+    /// Takes the classes out, and leaves none.
+    pub fn take_all(&mut self) -> ClassList
+        ensures taken { result ≡ self.old }
+        ensures left { self.new ≡ [] }
+    {
+        let none = ClassList::new(self.alloc);
+        replace(self, none)
     }
 
     /// How many classes there are.

@@ -19,8 +19,8 @@ use rb_base::{Ids, Memory, NameId, Text};
 use std::alloc::Global;
 use std::marker::Model;
 
-/// The classes while a file-out is read, in order. No two have one name, and each superclass stands before its subclasses.
-/// Contracts see the list.
+/// The classes while a file-out is read, in order. No two have one name, each superclass stands before its subclasses, and no
+/// variable stands twice on a chain. Contracts see the list.
 #[derive(Drop)]
 pub struct Classes {
     list: ClassList,
@@ -29,13 +29,13 @@ pub struct Classes {
 impl Model for Classes {
     ghost use Rattle.std.specs.Prelude.{ℕ, List};
     ghost use Rattle.image_model.specs.Image.{ClassOf};
-    ghost use Rattle.image_draft.specs.Names.{AreOrdered};
+    ghost use Rattle.image_draft.specs.Once.{AreSound};
 
     ghost Value = { List (ClassOf ℕ) };
 
     ghost view = { λ a. a.list };
 
-    ghost invariant = { λ a. AreOrdered a.list };
+    ghost invariant = { λ a. AreSound a.list };
 }
 
 impl Classes {

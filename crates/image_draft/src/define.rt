@@ -7,17 +7,18 @@ ghost use Rattle.file_model.specs.Applied.{new_class, with_definition, defined};
 ghost use Rattle.file_laws.specs.Settling as settling;
 ghost use Rattle.image_draft.specs.Early.{told, early_refusals};
 ghost use Rattle.image_draft.specs.Names.{NamesDiffer, AreOrdered};
+ghost use Rattle.image_draft.specs.Once.{AreSound};
 
 use crate::class_draft::{ClassDraft, Definition};
 use crate::class_list::ClassList;
 use crate::found::has_class;
 use crate::hierarchy::has_repeat;
+use crate::kept::kept_chains;
 use crate::order::put_behind;
 use crate::refusals::{early_refusal, is_one_class_too_many, late_refusal};
 use file_faults::ImageCause;
 use rb_base::{Ids, Memory, NameId, Text};
 use std::alloc::Global;
-use std::mem::replace;
 
 /// Appends the class of a definition.
 fn add_class(
@@ -70,10 +71,10 @@ fn put_definition(
 }
 
 /// Whether a class variable stands twice in the list of a definition.
-fn repeats_shared(definition: &Definition) -> bool
-    ensures { result ≡ hierarchy.has_repeat nat_eq definition.now.shared }
+fn repeats_shared(alloc: Global, definition: &Definition) -> Result<bool, Memory>
+    ensures { IfOk result (λ found. found ≡ hierarchy.has_repeat nat_eq definition.now.shared) }
 {
-    has_repeat(definition.shared.as_slice())
+    has_repeat(alloc, definition.shared.as_slice())
 }
 
 /// The superclass that a definition names.
@@ -81,14 +82,6 @@ fn superclass_of(definition: &Definition) -> Option<NameId>
     ensures { result ≡ definition.now.superclass }
 {
     definition.superclass
-}
-
-/// Takes the classes out, and leaves none.
-fn take_all(alloc: Global, classes: &mut ClassList) -> ClassList
-    ensures taken { result ≡ classes.old }
-    ensures left { classes.new ≡ [] }
-{
-    replace(classes, ClassList::new(alloc))
 }
 
 /// The classes in order, once the class of a name, which was there before or not, is defined with a superclass or without one.
@@ -108,50 +101,55 @@ fn in_order(
     }
 }
 
-/// Defines a class, for the first time or again, and puts the classes in order, or tells why it can not be defined; then
-/// it may be defined too, and on want of memory no class may be left.
+/// Defines a class, for the first time or again, and puts the classes in order, or tells why it can not be defined; then,
+/// and on want of memory, no class may be left.
 pub fn define_in_order(
     alloc: Global,
     classes: &mut ClassList,
     kernel: bool,
     definition: Definition,
 ) -> Result<Option<ImageCause>, Memory>
-    requires { AreOrdered classes.old }
+    requires { AreSound classes.old }
     ensures cause { IfOk result (λ cause. told cause ≡ first_cause (definition_refusals nat_eq classes.old definition (with_definition nat_eq kernel definition classes.old))) }
     ensures some { IfOk result (λ cause. is_some cause ≡ is_some (first_cause (definition_refusals nat_eq classes.old definition (with_definition nat_eq kernel definition classes.old)))) }
     ensures changed { IfOk result (λ cause. IfNone cause (classes.new ≡ defined nat_eq kernel definition classes.old)) }
-    ensures order { AreOrdered classes.new }
+    ensures sound { AreSound classes.new }
     ensures kept { IfOk result (λ cause. IfNone cause ((n : ℕ) → hierarchy.has_class nat_eq classes.old n ≡ true → hierarchy.has_class nat_eq classes.new n ≡ true)) }
 {
     if let Some(cause) = early_refusal(classes, &definition) {
         return Ok(Some(cause));
     }
     let name = name_of(&definition);
-    let repeats = repeats_shared(&definition);
+    let repeats = repeats_shared(alloc, &definition)?;
     let too_many = is_one_class_too_many(classes, name);
-    put_in_order(alloc, classes, kernel, definition)?;
-    late_refusal(alloc, classes, name, repeats, too_many)
+    let kept = kept_chains(classes, &definition);
+    let before = classes.take_all();
+    let after = put_in_order(alloc, before, kernel, definition)?;
+    let refusal = late_refusal(alloc, &after, name, repeats, too_many, kept)?;
+    if refusal.is_some() {
+        return Ok(refusal);
+    }
+    *classes = after;
+    Ok(None)
 }
 
-/// Puts the class of a definition that the classes before it do not refuse in the place of the former one, or last, and
-/// puts the classes in order; on want of memory no class is left.
+/// The classes in order with a definition that those before it do not refuse in the place of the former one, or last.
 fn put_in_order(
     alloc: Global,
-    classes: &mut ClassList,
+    classes: ClassList,
     kernel: bool,
     definition: Definition,
-) -> Result<(), Memory>
-    requires order { AreOrdered classes.old }
-    requires free { first_cause (early_refusals classes.old definition) ≡ None }
-    ensures changed { OnOk result (classes.new ≡ defined nat_eq kernel definition classes.old) }
-    ensures order { AreOrdered classes.new }
-    ensures kept { OnOk result ((n : ℕ) → hierarchy.has_class nat_eq classes.old n ≡ true → hierarchy.has_class nat_eq classes.new n ≡ true) }
+) -> Result<ClassList, Memory>
+    requires order { AreOrdered classes }
+    requires free { first_cause (early_refusals classes definition) ≡ None }
+    ensures changed { IfOk result (λ ordered. ordered ≡ defined nat_eq kernel definition classes) }
+    ensures order { IfOk result (λ ordered. AreOrdered ordered) }
+    ensures kept { IfOk result (λ ordered. (n : ℕ) → hierarchy.has_class nat_eq classes n ≡ true → hierarchy.has_class nat_eq ordered n ≡ true) }
 {
-    let mut items = take_all(alloc, classes);
     let name = name_of(&definition);
     let superclass = superclass_of(&definition);
-    let was_there = has_class(&items, name);
+    let was_there = has_class(&classes, name);
+    let mut items = classes;
     put_definition(alloc, &mut items, kernel, definition)?;
-    *classes = in_order(alloc, items, was_there, name, superclass)?;
-    Ok(())
+    in_order(alloc, items, was_there, name, superclass)
 }

@@ -1,7 +1,8 @@
 // Chains of classes while a file-out is read, and the variables on them.
-ghost use Rattle.std.specs.Prelude.{◌≡◌, false, nat_eq, option_copied, IfOk};
+ghost use Rattle.std.specs.Prelude.{◌≡◌, ◌||◌, not, false, nat_eq, option_copied, IfOk, OnOk};
 ghost use Rattle.std.specs.List.{list_any};
 ghost use Rattle.std.specs.Option.{option_map_or};
+ghost use Rattle.indexmap.specs.IndexSet.{insert_key};
 ghost use Rattle.image_model.specs.Chain.{chain_from, chain, class_of_name, superclass_of};
 ghost use Rattle.image_model.specs.Means as means;
 ghost use Rattle.file_model.specs.Hierarchy as hierarchy;
@@ -11,6 +12,7 @@ ghost use Rattle.image_draft.specs.Names.{AreOrdered};
 
 use crate::class_draft::ClassDraft;
 use crate::class_list::ClassList;
+use indexmap::IndexSet;
 use rb_base::{Memory, NameId};
 use std::alloc::Global;
 
@@ -94,25 +96,34 @@ fn chain_variables(
     Ok(names)
 }
 
-/// Whether a name stands among these.
-fn stands_among(name: NameId, names: &[NameId]) -> bool
-    ensures { result ≡ list_any (nat_eq name) names.now }
+/// Notes a name, and tells whether it is new.
+fn note(names: &mut IndexSet<usize>, name: NameId) -> Result<bool, Memory>
+    ensures new { IfOk result (λ new. new ≡ not (list_any (nat_eq name) names.old.keys)) }
+    ensures keys { OnOk result (names.new.keys ≡ insert_key nat_eq names.old.keys name) }
 {
-    names.iter().any(|other| name == *other)
+    Ok(names.insert(name.0)?)
+}
+
+/// Whether a name was noted.
+fn is_noted(name: NameId, names: &IndexSet<usize>) -> bool
+    ensures { result ≡ list_any (nat_eq name) names.now.keys }
+{
+    names.contains(&name.0)
 }
 
 /// Whether a name stands twice among these.
-pub fn has_repeat(names: &[NameId]) -> bool
-    ensures { result ≡ hierarchy.has_repeat nat_eq names.now }
+pub fn has_repeat(alloc: Global, names: &[NameId]) -> Result<bool, Memory>
+    ensures { IfOk result (λ found. found ≡ hierarchy.has_repeat nat_eq names.now) }
 {
+    let mut seen = IndexSet::new(alloc);
     let mut rest = names;
     while let Some((name, others)) = rest.split_first() {
-        if stands_among(*name, others) {
-            return true;
+        if !note(&mut seen, *name)? {
+            return Ok(true);
         }
         rest = others;
     }
-    false
+    Ok(false)
 }
 
 /// Whether a variable of a kind stands twice on the chain of a class.
@@ -125,17 +136,24 @@ fn repeats_on_chain(
     ensures { IfOk result (λ found. found ≡ hierarchy.has_repeat nat_eq (hierarchy.chain_variables nat_eq classes.now (kind_of kind) class.now)) }
 {
     let names = chain_variables(alloc, classes, kind, class)?;
-    Ok(has_repeat(&names))
+    has_repeat(alloc, &names)
 }
 
-/// Whether the superclass of a class is among names.
-fn is_under(class: &ClassDraft, names: &[NameId]) -> bool
-    ensures { result ≡ option_map_or (λ s. list_any (nat_eq s) names.now) class.now.superclass false }
+/// Whether the superclass of a class was noted.
+fn is_under(class: &ClassDraft, names: &IndexSet<usize>) -> bool
+    ensures { result ≡ option_map_or (λ s. list_any (nat_eq s) names.now.keys) class.now.superclass false }
 {
     match class.superclass {
         None => false,
-        Some(above) => stands_among(above, names),
+        Some(above) => is_noted(above, names),
     }
+}
+
+/// Whether a class is that of a name, or its superclass was noted.
+fn is_marked(name: NameId, names: &IndexSet<usize>, class: &ClassDraft) -> bool
+    ensures { result ≡ (nat_eq name class.now.name || option_map_or (λ s. list_any (nat_eq s) names.now.keys) class.now.superclass false) }
+{
+    name == class.name || is_under(class, names)
 }
 
 /// Whether a variable of a kind stands twice on the chain of a class or of one below it. Since each superclass stands
@@ -152,14 +170,14 @@ pub fn stands_twice(
     let Some(place) = classes.place(name) else {
         return Ok(false);
     };
-    let mut below = Vec::new(alloc);
+    let mut below = IndexSet::new(alloc);
     let mut rest = classes.behind(place);
     while let Some((class, others)) = rest.split_first() {
-        if name == class.name || is_under(class, &below) {
+        if is_marked(name, &below, class) {
             if repeats_on_chain(alloc, classes, kind, class)? {
                 return Ok(true);
             }
-            below.push(class.name)?;
+            note(&mut below, class.name)?;
         }
         rest = others;
     }

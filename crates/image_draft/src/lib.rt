@@ -10,6 +10,7 @@ mod define;
 mod draft;
 mod found;
 mod hierarchy;
+mod kept;
 mod method_draft;
 mod method_slots;
 mod methods;

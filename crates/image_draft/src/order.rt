@@ -4,6 +4,7 @@ ghost use Rattle.std.specs.Option.{option_map_or};
 ghost use Rattle.image_model.specs.Image.{ClassOf};
 ghost use Rattle.file_model.specs.Hierarchy as hierarchy;
 ghost use Rattle.file_laws.specs.Settling as settling;
+ghost use Rattle.image_draft.specs.Table.{stands_first};
 
 use crate::class_draft::ClassDraft;
 use crate::class_list::ClassList;
@@ -17,21 +18,22 @@ fn stands_in(name: NameId, classes: &[ClassDraft]) -> bool
     classes.iter().any(|class| name == class.name)
 }
 
+/// Whether a place stands before another; all that have a place stand before what has none.
+fn stands_first(place: Option<usize>, other: Option<usize>) -> bool
+    ensures { result ≡ stands_first place other }
+{
+    match (place, other) {
+        (None, _) => false,
+        (Some(_), None) => true,
+        (Some(first), Some(second)) => first < second,
+    }
+}
+
 /// Whether the class of one name stands before that of another.
-fn comes_first(classes: &[ClassDraft], above: NameId, name: NameId) -> bool
+fn comes_first(classes: &ClassList, above: NameId, name: NameId) -> bool
     ensures { result ≡ settling.comes_first nat_eq above name classes.now }
 {
-    let mut rest = classes;
-    while let Some((class, others)) = rest.split_first() {
-        if name == class.name {
-            return false;
-        }
-        if above == class.name {
-            return true;
-        }
-        rest = others;
-    }
-    false
+    stands_first(classes.place(above), classes.place(name))
 }
 
 /// Whether the superclass of a class is one of those that wait.
@@ -103,7 +105,7 @@ pub fn put_behind(
     let Some(above) = superclass else {
         return Ok(classes);
     };
-    if comes_first(classes.as_slice(), above, name) {
+    if comes_first(&classes, above, name) {
         return Ok(classes);
     }
     let passed = pass(alloc, classes.into_items(), name, above)?;

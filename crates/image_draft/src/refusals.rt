@@ -1,10 +1,11 @@
 // Why changes are refused.
-ghost use Rattle.std.specs.Prelude.{◌≡◌, ◌∷◌, ◌||◌, [], is_some, false, nat_eq, IfNone, IfOk};
+ghost use Rattle.std.specs.Prelude.{◌≡◌, ◌∷◌, ◌||◌, [], is_some, false, true, nat_eq, IfNone, IfOk};
 ghost use Rattle.file_model.specs.Causes.{first_cause};
 ghost use Rattle.file_model.specs.Refusals as refusals;
 ghost use Rattle.file_model.specs.Hierarchy as hierarchy;
 ghost use Rattle.file_model.specs.Hierarchy.{stands_twice};
 ghost use Rattle.image_model.specs.Means.{of_instance, of_class_side};
+ghost use Rattle.image_draft.specs.Kinds.{kind_of};
 ghost use Rattle.image_draft.specs.Names.{AreOrdered};
 ghost use Rattle.image_draft.specs.Early.{told, early_refusals, late_refusals, early_side_refusals, late_side_refusals};
 
@@ -12,6 +13,7 @@ use crate::class_draft::Definition;
 use crate::class_list::ClassList;
 use crate::found::{has_class, has_subclass, is_kernel_class};
 use crate::hierarchy::{ChainKind, stands_above, stands_twice};
+use crate::kept::{KeptChains, has_superclass};
 use file_faults::ImageCause;
 use rb_base::{Memory, NameId};
 use std::alloc::Global;
@@ -36,8 +38,23 @@ pub fn is_one_class_too_many(classes: &ClassList, name: NameId) -> bool
     !has_class(classes, name) && CLASS_LIMIT <= classes.len()
 }
 
+/// Whether the class of a definition would stand above itself: no class does that is new or keeps its superclass.
+fn makes_cycle(classes: &ClassList, definition: &Definition) -> bool
+    requires { AreOrdered classes.now }
+    ensures { result ≡ refusals.makes_cycle nat_eq classes.now definition.now }
+{
+    match classes.find(definition.name) {
+        None => false,
+        Some(class) => {
+            !has_superclass(class, definition.superclass)
+                && stands_above(classes, definition.name, definition.superclass)
+        }
+    }
+}
+
 /// Why a definition is refused by the classes before it.
 pub fn early_refusal(classes: &ClassList, definition: &Definition) -> Option<ImageCause>
+    requires { AreOrdered classes.now }
     ensures cause { told result ≡ first_cause (early_refusals classes.now definition.now) }
     ensures some { is_some result ≡ is_some (first_cause (early_refusals classes.now definition.now)) }
 {
@@ -47,7 +64,7 @@ pub fn early_refusal(classes: &ClassList, definition: &Definition) -> Option<Ima
     if lacks_superclass(classes, definition) {
         return Some(ImageCause::UnknownSuperclass);
     }
-    if stands_above(classes, definition.name, definition.superclass) {
+    if makes_cycle(classes, definition) {
         return Some(ImageCause::Cycle);
     }
     None
@@ -99,31 +116,59 @@ pub fn early_side_refusal(classes: &ClassList, name: NameId, names: &[NameId]) -
     None
 }
 
+/// Whether a variable of a kind stands twice on the chain of a class or of one below it; none does where they are kept.
+fn repeats_below(
+    alloc: Global,
+    new: &ClassList,
+    kind: ChainKind,
+    name: NameId,
+    kept: bool,
+) -> Result<bool, Memory>
+    requires order { AreOrdered new.now }
+    requires kept { kept ≡ true → stands_twice nat_eq new.now (kind_of kind) name ≡ false }
+    ensures { IfOk result (λ found. found ≡ stands_twice nat_eq new.now (kind_of kind) name) }
+{
+    if kept {
+        return Ok(false);
+    }
+    stands_twice(alloc, new, kind, name)
+}
+
 /// Whether an instance variable or a class-instance variable stands twice on the chain of a class or of one below it.
-fn repeats_on_chains(alloc: Global, new: &ClassList, name: NameId) -> Result<bool, Memory>
-    requires { AreOrdered new.now }
+fn repeats_on_chains(
+    alloc: Global,
+    new: &ClassList,
+    name: NameId,
+    kept: KeptChains,
+) -> Result<bool, Memory>
+    requires order { AreOrdered new.now }
+    requires instance { kept.instance ≡ true → stands_twice nat_eq new.now of_instance name ≡ false }
+    requires class_side { kept.class_side ≡ true → stands_twice nat_eq new.now of_class_side name ≡ false }
     ensures { IfOk result (λ found. found ≡ (stands_twice nat_eq new.now of_instance name || stands_twice nat_eq new.now of_class_side name)) }
 {
-    if stands_twice(alloc, new, ChainKind::Instance, name)? {
+    if repeats_below(alloc, new, ChainKind::Instance, name, kept.instance)? {
         return Ok(true);
     }
-    stands_twice(alloc, new, ChainKind::ClassSide, name)
+    repeats_below(alloc, new, ChainKind::ClassSide, name, kept.class_side)
 }
 
 /// Why a definition of a class of a name is refused by the classes with it, where it is known whether a class variable
-/// stands twice in its list, and whether there is a class too many.
+/// stands twice in its list, whether there is a class too many, and which variables stand on chains as they did.
 pub fn late_refusal(
     alloc: Global,
     new: &ClassList,
     name: NameId,
     repeats: bool,
     too_many: bool,
+    kept: KeptChains,
 ) -> Result<Option<ImageCause>, Memory>
-    requires { AreOrdered new.now }
+    requires order { AreOrdered new.now }
+    requires instance { kept.instance ≡ true → stands_twice nat_eq new.now of_instance name ≡ false }
+    requires class_side { kept.class_side ≡ true → stands_twice nat_eq new.now of_class_side name ≡ false }
     ensures cause { IfOk result (λ cause. told cause ≡ first_cause (late_refusals new.now name repeats too_many)) }
     ensures some { IfOk result (λ cause. is_some cause ≡ is_some (first_cause (late_refusals new.now name repeats too_many))) }
 {
-    if repeats || repeats_on_chains(alloc, new, name)? {
+    if repeats || repeats_on_chains(alloc, new, name, kept)? {
         return Ok(Some(ImageCause::VariableTwice));
     }
     if too_many {
@@ -132,17 +177,19 @@ pub fn late_refusal(
     Ok(None)
 }
 
-/// Why class-instance variables are refused by the classes with them.
+/// Why class-instance variables are refused by the classes with them, where it is known whether they are those before.
 pub fn late_side_refusal(
     alloc: Global,
     new: &ClassList,
     name: NameId,
+    kept: bool,
 ) -> Result<Option<ImageCause>, Memory>
-    requires { AreOrdered new.now }
+    requires order { AreOrdered new.now }
+    requires kept { kept ≡ true → stands_twice nat_eq new.now of_class_side name ≡ false }
     ensures cause { IfOk result (λ cause. told cause ≡ first_cause (late_side_refusals new.now name)) }
     ensures some { IfOk result (λ cause. is_some cause ≡ is_some (first_cause (late_side_refusals new.now name))) }
 {
-    if stands_twice(alloc, new, ChainKind::ClassSide, name)? {
+    if repeats_below(alloc, new, ChainKind::ClassSide, name, kept)? {
         return Ok(Some(ImageCause::VariableTwice));
     }
     Ok(None)

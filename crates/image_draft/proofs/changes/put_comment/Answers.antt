@@ -1,10 +1,10 @@
 use Rattle.std.proofs.Common.{◌≡◌, ℕ, Bool, List, Option, refl, IfSome, slice_set, nat_eq, sym, ap, subst, ◌∙◌}
 use Rattle.image_model.specs.Image.{ClassOf}
 use Rattle.file_model.specs.Hierarchy.{has_class}
-use Rattle.image_draft.specs.Names.{AreOrdered}
+use Rattle.image_draft.specs.Once.{AreSound}
 use Rattle.image_draft.proofs.Differ.{has_class-changed}
-use Rattle.image_draft.proofs.Ordered.{changed_ordered}
 use Rattle.image_draft.proofs.Places.{placed, unplaced, changed-at, changed-none}
+use Rattle.image_draft.proofs.Sound.{commented_sound}
 use Rattle.image_draft.proofs.changes.put_comment.Goals as goal
 
 pub returns-in-Some-clause-changed : goal.returns-in-Some-clause-changed
@@ -22,20 +22,18 @@ returns-in_default-clause-changed c =
     let g : ClassOf ℕ → ClassOf ℕ = λ d. record d { comment = c.args.comment } in
     sym (changed-none c.args.name g classes (unplaced c.args.name classes (sym c.place.ensures ∙ c.in_default.is)))
 
-pub returns-in-Some-clause-order : goal.returns-in-Some-clause-order
-returns-in-Some-clause-order c =
-    let g : ClassOf ℕ → ClassOf ℕ = λ d. record d { comment = c.args.comment } in
-    λ o. subst AreOrdered (sym (returns-in-Some-clause-changed c)) (changed_ordered c.args.name g (λ d. refl) (λ d. refl) c.args.classes.now o)
+pub returns-in-Some-clause-sound : goal.returns-in-Some-clause-sound
+returns-in-Some-clause-sound c =
+    λ s. subst AreSound (sym (returns-in-Some-clause-changed c)) (commented_sound c.args.name c.args.comment c.args.classes.now s)
 
 pub returns-in-Some-clause-names : goal.returns-in-Some-clause-names
 returns-in-Some-clause-names c =
     let g : ClassOf ℕ → ClassOf ℕ = λ d. record d { comment = c.args.comment } in
     λ n. ap (λ (ds : List (ClassOf ℕ)). has_class nat_eq ds n) (returns-in-Some-clause-changed c) ∙ has_class-changed c.args.name g (λ d. refl) c.args.classes.now n
 
-pub returns-in_default-clause-order : goal.returns-in_default-clause-order
-returns-in_default-clause-order c =
-    let g : ClassOf ℕ → ClassOf ℕ = λ d. record d { comment = c.args.comment } in
-    λ o. subst AreOrdered (sym (returns-in_default-clause-changed c)) (changed_ordered c.args.name g (λ d. refl) (λ d. refl) c.args.classes.now o)
+pub returns-in_default-clause-sound : goal.returns-in_default-clause-sound
+returns-in_default-clause-sound c =
+    λ s. subst AreSound (sym (returns-in_default-clause-changed c)) (commented_sound c.args.name c.args.comment c.args.classes.now s)
 
 pub returns-in_default-clause-names : goal.returns-in_default-clause-names
 returns-in_default-clause-names c =

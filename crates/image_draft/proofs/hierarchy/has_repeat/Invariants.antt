@@ -1,9 +1,10 @@
 use Rattle.std.proofs.Common.{◌≡◌, nat_eq, length}
 use Rattle.file_model.specs.Hierarchy as hierarchy
+use Rattle.image_draft.proofs.Seen.{seen_repeat}
 use Rattle.image_draft.proofs.hierarchy.has_repeat.Given as goal
 
 abbrev pub invariant-loop-name : goal.invariant-loop-name
-invariant-loop-name l = hierarchy.has_repeat nat_eq l.rest ≡ hierarchy.has_repeat nat_eq l.fn.names
+invariant-loop-name l = seen_repeat l.seen.keys l.rest ≡ hierarchy.has_repeat nat_eq l.fn.names
 
 abbrev pub decreases-loop-name : goal.decreases-loop-name
 decreases-loop-name l = length l.rest

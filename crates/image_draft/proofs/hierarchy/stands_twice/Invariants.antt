@@ -8,7 +8,7 @@ use Rattle.image_draft.proofs.hierarchy.stands_twice.Given as goal
 
 abbrev pub invariant-loop-class : goal.invariant-loop-class
 invariant-loop-class l =
-    list_any (λ (c : ClassOf _). hierarchy.has_repeat nat_eq (hierarchy.chain_variables nat_eq l.classes (kind_of l.kind) c)) (marked nat_eq l.name l.below.items l.rest)
+    list_any (λ (c : ClassOf _). hierarchy.has_repeat nat_eq (hierarchy.chain_variables nat_eq l.classes (kind_of l.kind) c)) (marked nat_eq l.name l.below.keys l.rest)
     ≡ hierarchy.stands_twice nat_eq l.classes (kind_of l.kind) l.name
 
 abbrev pub decreases-loop-class : goal.decreases-loop-class
