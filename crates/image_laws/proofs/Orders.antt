@@ -14,7 +14,7 @@ use Rattle.class_table.specs.Slots.{Slots}
 use Rattle.class_table.specs.Changing.{HasSlot, HasRoomAt, former_place, with_live}
 use Rattle.class_table.specs.Order.{without, put_at, Distinct, IsOrderOf}
 use Rattle.class_table.proofs.OrderLemmas.{position-none, position-some, any-without, any-insert, Distinct-without, Distinct-insert, gone-without}
-use Rattle.class_table.proofs.Live.{or_true, eqb-refl, eqb-equal}
+use Rattle.class_table.proofs.Live.{or_true, eqb-refl, eqb-equal, IsLive-rest}
 use Rattle.image_laws.specs.Orders.{HasOrders}
 use Rattle.image_laws.proofs.Lists.{insert-remove}
 
@@ -22,6 +22,12 @@ use Rattle.image_laws.proofs.Lists.{insert-remove}
 pub or_false : (b c : Bool) → (b || c) ≡ false → (b ≡ false) × (c ≡ false)
 or_false true c h = absurd (true≢false h)
 or_false false c h = (refl, h)
+
+-- what stands at a place of an order is live
+pub stands-live : (k : ℕ) (order : List ℕ) (p : ℕ) → slice_get order p ≡ Some k → list_any (eqb k) order ≡ true
+stands-live k [] p e = absurd (cc)
+stands-live k (j ∷ js) zero e = let same : j ≡ k = cc in ap (λ b. b || list_any (eqb k) js) (ap (eqb k) same ∙ eqb-refl k)
+stands-live k (j ∷ js) (suc p) e = IsLive-rest k j js (stands-live k js p e)
 
 module _ (k : ℕ) where
   -- a list in which k does not stand

@@ -12,29 +12,34 @@ use Rattle.rb_base.proofs.NamesLemmas.{text_eq-refl, text_eq-name_at}
 use Rattle.image_model.specs.Image.{ClassOf, EntryOf, map_class, map_entry}
 use Rattle.image_model.specs.ImageNames.{OptionNames, ClassNames}
 use Rattle.image_model.specs.Words.{text_words}
-use Rattle.image_model.specs.Valid.{ReadingOf, IsValid}
+use Rattle.image_model.specs.Valid.{ReadingOf, class_names, SuperclassesStandBefore, IsValid}
 use Rattle.image_model.specs.Grown.{IsNewClass}
 use Rattle.image_model.proofs.Lists.{all-map}
+use Rattle.image_model.proofs.ChainLemmas.{slice_get-map}
 use Rattle.class_table.specs.declared.record.ClassRec.{ClassRec}
 use Rattle.class_table.specs.declared.record.Slot.TheVariants as slot
 use Rattle.class_table.specs.Order.{without}
 use Rattle.class_table.specs.Slots.{Slots}
 use Rattle.class_table.specs.View.{live, class_name, class_of, entry_of, image_of}
-use Rattle.class_table.specs.Valid.{IsLive, IsOrderly}
+use Rattle.class_table.specs.Valid.{IsLive, IsOrderly, SuperclassesFirst}
 use Rattle.class_table.specs.Kept.{FitsClass, IsAboveNothing}
 use Rattle.class_table.specs.Changing.{with_live}
-use Rattle.class_table.proofs.Live.{or_true, eqb-equal, live-fact, there}
+use Rattle.class_table.proofs.Live.{or_true, eqb-refl, eqb-equal, live-fact, there}
 use Rattle.class_table.proofs.OrderLemmas.{any-without, any-insert, position-none}
 use Rattle.class_table.proofs.KeptLemmas.{live-all}
 use Rattle.image_laws.specs.Placed.{TellsApart, IsUnused, FollowsSuperclass, with_class_at}
 use Rattle.image_laws.specs.Orders.{HasOrders}
-use Rattle.image_laws.proofs.Orders.{still, IsOrderOf-moved, absent-without}
-use Rattle.image_laws.proofs.ViewLemmas.{class-there, class-taken_out, class-put_in}
+use Rattle.image_laws.proofs.Orders.{stands-live, still, IsOrderOf-moved, absent-without}
+use Rattle.image_laws.proofs.ViewLemmas.{live-place, class-stands, class-there, class-taken_out, class-put_in}
 use Rattle.image_laws.proofs.PlacedLemmas.{IsValid-without_class, IsValid-with_class_at}
 
 -- texts are told apart
-text_apart : TellsApart text_eq
+pub text_apart : TellsApart text_eq
 text_apart s t = ((slice_eq-Decides Decides-eqb s t (text_eq s t) refl).0, (λ e. ap (text_eq s) (sym e) ∙ text_eq-refl s))
+
+-- numbers are told apart
+pub number_apart : TellsApart eqb
+number_apart m n = (eqb-equal m n, (λ e. ap (eqb m) (sym e) ∙ eqb-refl m))
 
 module _ (s : Slots) (o : IsOrderly s) where
   orders : HasOrders s
@@ -80,6 +85,43 @@ module _ (s : Slots) (o : IsOrderly s) where
               subst (λ i. IsValid text_words r i) (sym (class-taken_out s orders k p f))
               (IsValid-without_class text_words r (image_of s) valid text_apart p (map_class (name_at s.names) (class_of s.classes c))
               (class-there s orders k p f ∙ ap (λ (x : Option ClassRec). option_map (map_class (name_at s.names)) (option_map (class_of s.classes) x)) e) unused user)
+
+  -- the live slot of the class of a name at a place
+  slot-named : (q : ℕ) (n : List ℕ) → slice_get (class_names (image_of s).classes) q ≡ Some n → (k : ℕ) × (slice_get s.class_order q ≡ Some k) × (option_map (name_at s.names) (class_name s.classes k) ≡ Some n)
+  slot-named q n e = third (slice_get-map (λ (d : ClassOf (List ℕ)). d.name) (image_of s).classes q n e)
+    where
+      first : (x : ClassOf ℕ) → name_at s.names x.name ≡ n → (c : ClassRec) × (slice_get (live s.classes s.class_order) q ≡ Some c) × (class_of s.classes c ≡ x)
+          → (k : ℕ) × (slice_get s.class_order q ≡ Some k) × (option_map (name_at s.names) (class_name s.classes k) ≡ Some n)
+      first x h found =
+          let place = live-place s.classes s.class_order q found.0 o.class_order.below found.1 in
+          (place.0, place.1, ap (λ (y : Option ClassRec). option_map (name_at s.names) (option_map (λ (d : ClassRec). d.name) y)) place.2 ∙ ap Some (ap (λ (d : ClassOf ℕ). name_at s.names d.name) found.2 ∙ h))
+
+      second : (d : ClassOf (List ℕ)) → d.name ≡ n → (x : ClassOf ℕ) × (slice_get (map (class_of s.classes) (live s.classes s.class_order)) q ≡ Some x) × (map_class (name_at s.names) x ≡ d)
+          → (k : ℕ) × (slice_get s.class_order q ≡ Some k) × (option_map (name_at s.names) (class_name s.classes k) ≡ Some n)
+      second d h found = first found.0 (ap (λ (x : ClassOf (List ℕ)). x.name) found.2 ∙ h) (slice_get-map (class_of s.classes) (live s.classes s.class_order) q found.0 found.1)
+
+      third : (d : ClassOf (List ℕ)) × (slice_get (image_of s).classes q ≡ Some d) × (d.name ≡ n) → (k : ℕ) × (slice_get s.class_order q ≡ Some k) × (option_map (name_at s.names) (class_name s.classes k) ≡ Some n)
+      third found = second found.0 found.2 (slice_get-map (map_class (name_at s.names)) (map (class_of s.classes) (live s.classes s.class_order)) q found.0 found.1)
+
+  -- where superclasses stand before their subclasses in the image, they do in the order of the live classes
+  pub superclasses-first : SuperclassesStandBefore (image_of s).classes → SuperclassesFirst s.classes s.class_order
+  superclasses-first before p k j c at e super =
+      by j (o.superclasses_live j k c (stands-live k s.class_order p at) e super) super
+    where
+      stands : slice_get (image_of s).classes p ≡ Some (map_class (name_at s.names) (class_of s.classes c))
+      stands = class-stands s orders k p at ∙ ap (λ (x : Option ClassRec). option_map (map_class (name_at s.names)) (option_map (class_of s.classes) x)) e
+
+      from : (i : ℕ) (b : ClassRec) → IsLive s.class_order i → slice_get s.classes i ≡ Some b → (q : ℕ) × (q < p) × (slice_get (class_names (image_of s).classes) q ≡ Some (name_at s.names b.name)) → (q : ℕ) × (q < p) × (slice_get s.class_order q ≡ Some i)
+      from i b l f named =
+          let place = slot-named named.0 (name_at s.names b.name) named.2 in
+          (named.0, named.1, place.1 ∙ ap Some (same-class i b l f place.0 (stands-live place.0 s.class_order named.0 place.1) place.2))
+
+      by : (i : ℕ) → IsLive s.class_order i → c.superclass ≡ Some i → (q : ℕ) × (q < p) × (slice_get s.class_order q ≡ Some i)
+      by i l h =
+          let b = there s.classes i (o.class_order.below i l) in
+          from i b.0 l b.1
+          (before p (map_class (name_at s.names) (class_of s.classes c)) (name_at s.names b.0.name) stands
+          (ap (λ (x : Option ℕ). option_map (name_at s.names) (option_and_then (class_name s.classes) x)) h ∙ ap (λ (x : Option ClassRec). option_map (name_at s.names) (option_map (λ (d : ClassRec). d.name) x)) b.1))
 
   module _ (k : ℕ) (c : ClassRec) (e : slice_get s.classes k ≡ Some c) where
     -- a valid image stays valid with a new class

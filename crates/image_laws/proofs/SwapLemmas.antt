@@ -1,5 +1,5 @@
 -- The image that slots stand for, where a record in a slot is replaced.
-use Rattle.std.proofs.Common.{◌≡◌, ◌≢◌, ◌⊎◌, inl, inr, ℕ, zero, suc, ◌<◌, ◌||◌, true, false, List, [], ◌∷◌, length, map, position, Option, None, Some, option_map, slice_get, refl, sym, ap, subst, ◌∙◌, true≢false}
+use Rattle.std.proofs.Common.{◌≡◌, ◌≢◌, ◌⊎◌, inl, inr, ℕ, zero, suc, ◌<◌, true, false, List, [], ◌∷◌, length, map, position, Option, None, Some, option_map, slice_get, refl, sym, ap, subst, ◌∙◌, true≢false}
 use Rattle.std.specs.List.{list_any, cons_option}
 use Rattle.std.specs.Option.{option_and_then, option_map_or}
 use Rattle.std.proofs.Math.ListN.{set}
@@ -28,7 +28,7 @@ use Rattle.image_laws.specs.Orders.{HasOrders}
 use Rattle.image_laws.specs.Replacing.{with_class, with_entry, with_doit, with_method_source, with_method_tree, with_doit_source, with_doit_body}
 use Rattle.image_laws.proofs.Lists.{changed_at-some}
 use Rattle.image_laws.proofs.ViewLemmas.{method-there}
-use Rattle.image_laws.proofs.Orders.{or_false, position-get, position-dead}
+use Rattle.image_laws.proofs.Orders.{or_false, stands-live, position-get, position-dead}
 
 module _ {X : Type 0} (xs : List X) (k : ℕ) (x : X) where
   -- a slot that is not in the order
@@ -52,13 +52,8 @@ module _ {X : Type 0} (xs : List X) (k : ℕ) (x : X) where
       (λ i. cons_option ((get-set_other xs k j x apart ∙ at.1) i) (live-set js p d.1 (λ q l. below q (IsLive-rest q j js l)) e i))
       ∙ sym (ap (λ (o : Option X). set (cons_option o (live xs js)) (suc p) x) at.1)
     where
-      stands : (ks : List ℕ) (q : ℕ) → slice_get ks q ≡ Some k → list_any (eqb k) ks ≡ true
-      stands [] q f = absurd (cc)
-      stands (i ∷ is) zero f = let one : i ≡ k = cc in ap (λ b. b || list_any (eqb k) is) (ap (eqb k) one ∙ eqb-refl k)
-      stands (i ∷ is) (suc q) f = IsLive-rest k i is (stands is q f)
-
       apart : k ≢ j
-      apart f = true≢false (sym (stands js p e) ∙ ap (λ (n : ℕ). list_any (eqb n) js) f ∙ d.0)
+      apart f = true≢false (sym (stands-live k js p e) ∙ ap (λ (n : ℕ). list_any (eqb n) js) f ∙ d.0)
 
 map-set : {X Y : Type 0} (f : X → Y) (xs : List X) (k : ℕ) (x : X) → map f (set xs k x) ≡ set (map f xs) k (f x)
 map-set f [] k x = refl

@@ -56,18 +56,32 @@ module _ {X : Type 0} (xs : List X) where
       let at = there xs j (below j (IsLive-first j js)) in
       ap (λ (o : Option X). slice_get (cons_option o (live xs js)) (suc p)) at.1 ∙ live-get js p k (λ i l. below i (IsLive-rest i j js l)) e
 
+  -- what the slots hold at a place stands in a slot of that place
+  pub live-place : (order : List ℕ) (p : ℕ) (x : X) → ((j : ℕ) → IsLive order j → j < length xs) → slice_get (live xs order) p ≡ Some x → (k : ℕ) × (slice_get order p ≡ Some k) × (slice_get xs k ≡ Some x)
+  live-place [] p x below e = absurd (cc)
+  live-place (j ∷ js) zero x below e =
+      let at = there xs j (below j (IsLive-first j js)) in
+      (j, refl, at.1 ∙ sym (ap (λ (o : Option X). slice_get (cons_option o (live xs js)) 0) at.1) ∙ e)
+  live-place (j ∷ js) (suc p) x below e =
+      let at = there xs j (below j (IsLive-first j js)) in
+      live-place js p x (λ i l. below i (IsLive-rest i j js l)) (sym (ap (λ (o : Option X). slice_get (cons_option o (live xs js)) (suc p)) at.1) ∙ e)
+
 get-map : {X Y : Type 0} (f : X → Y) (xs : List X) (p : ℕ) → slice_get (map f xs) p ≡ option_map f (slice_get xs p)
 get-map f [] p = refl
 get-map f (x ∷ xs) zero = refl
 get-map f (x ∷ xs) (suc p) = get-map f xs p
 
 module _ (s : Slots) (orders : HasOrders s) (k : ℕ) where
+  -- the class that stands at a place
+  pub class-stands : (p : ℕ) → slice_get s.class_order p ≡ Some k → slice_get (image_of s).classes p ≡ option_map (map_class (name_at s.names)) (class_at s k)
+  class-stands p e =
+      get-map (map_class (name_at s.names)) (number_image s).classes p
+      ∙ ap (option_map (map_class (name_at s.names))) (get-map (class_of s.classes) (live s.classes s.class_order) p ∙ ap (option_map (class_of s.classes)) (live-get s.classes s.class_order p k orders.classes.below e))
+
   module _ (p : ℕ) (e : position (eqb k) s.class_order ≡ Some p) where
     -- the class stands at its place
     pub class-there : slice_get (image_of s).classes p ≡ option_map (map_class (name_at s.names)) (class_at s k)
-    class-there =
-        get-map (map_class (name_at s.names)) (number_image s).classes p
-        ∙ ap (option_map (map_class (name_at s.names))) (get-map (class_of s.classes) (live s.classes s.class_order) p ∙ ap (option_map (class_of s.classes)) (live-get s.classes s.class_order p k orders.classes.below (position-get k s.class_order p e)))
+    class-there = class-stands p (position-get k s.class_order p e)
 
     -- the image without the class
     pub class-taken_out : image_of (with_live s (slot.Class k) None) ≡ without_class (image_of s) p

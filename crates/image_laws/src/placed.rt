@@ -2,7 +2,7 @@
 // its contract is the law.
 ghost use Rattle.std.specs.Prelude.{◌≡◌, ℕ, Bool, false, List, slice_get, Option, Some, Contains};
 ghost use Rattle.image_model.specs.Image.{ClassOf, EntryOf, ImageOf};
-ghost use Rattle.image_model.specs.Words.{WordsOf};
+ghost use Rattle.image_model.specs.Words.{WordsOf, text_words, number_words};
 ghost use Rattle.image_model.specs.Chain.{chain};
 ghost use Rattle.image_model.specs.Lookup.{lookup};
 ghost use Rattle.image_model.specs.Means.{means};
@@ -12,9 +12,15 @@ ghost use Rattle.image_laws.specs.Placed.{without_class, with_class_at, without_
 
 use image_model::Reading;
 
+/// Texts are told apart by the words of texts, and numbers by the words of numbers.
+pub fn law_told_apart()
+    ensures texts { TellsApart text_words.tests.same }
+    ensures numbers { (names : List (List ℕ)) → TellsApart (number_words names).tests.same }
+{}
+
 /// A valid image stays valid without a class that is none of the kernel, where no class is below it and no method is one
-/// of it. In the other classes chains and look-ups stay, and each
-/// other name stands for what it stood for; for look-ups the class is not `Class`, since every class is one of it.
+/// of it. In the other classes chains and look-ups stay, and each other name stands for what it stood for; for look-ups the
+/// class is not `Class`, since every class is one of it.
 pub fn law_class_unused<N, R: Reading<N>>()
     ensures valid { (w : WordsOf N) (i : ImageOf N) (p : ℕ) (c : ClassOf N) → TellsApart w.tests.same → IsValid w R.reading i →
         slice_get i.classes p ≡ Some c → c.kernel ≡ false → IsUnused i c.name → IsValid w R.reading (without_class i p) }

@@ -3,13 +3,13 @@ ghost use Rattle.std.specs.Prelude.{◌≡◌, ℕ, false, slice_get, Some, None
 ghost use Rattle.rb_base.specs.Names.{name_at};
 ghost use Rattle.image_model.specs.Image.{map_class};
 ghost use Rattle.image_model.specs.Words.{text_words};
-ghost use Rattle.image_model.specs.Valid.{IsValid};
+ghost use Rattle.image_model.specs.Valid.{SuperclassesStandBefore, IsValid};
 ghost use Rattle.image_model.specs.Grown.{IsNewClass};
 ghost use Rattle.class_table.specs.declared.record.ClassRec.{ClassRec};
 ghost use Rattle.class_table.specs.declared.record.Slot.TheVariants as slot;
 ghost use Rattle.class_table.specs.Slots.{Slots};
 ghost use Rattle.class_table.specs.View.{class_of, image_of};
-ghost use Rattle.class_table.specs.Valid.{IsLive, IsOrderly};
+ghost use Rattle.class_table.specs.Valid.{IsLive, IsOrderly, SuperclassesFirst};
 ghost use Rattle.class_table.specs.Kept.{FitsClass, IsAboveNothing};
 ghost use Rattle.class_table.specs.Changing.{with_live};
 ghost use Rattle.image_laws.specs.Placed.{FollowsSuperclass};
@@ -32,4 +32,10 @@ pub fn law_classes_valid<R: Reading<Text>>()
 pub fn law_class_orderly()
     ensures { (s : Slots) (k p : ℕ) (c : ClassRec) → IsOrderly s → slice_get s.classes k ≡ Some c → FitsClass s k c →
         IsOrderly (with_live s (slot.Class k) (Some p)) }
+{}
+
+/// In a valid image each superclass stands before its subclasses in the order of the live classes too, as
+/// `Image::tree_of` wants it.
+pub fn law_superclasses_first()
+    ensures { (s : Slots) → IsOrderly s → SuperclassesStandBefore (image_of s).classes → SuperclassesFirst s.classes s.class_order }
 {}
