@@ -1,3 +1,4 @@
 pub mod Entries
 pub mod Paying
 pub mod Taking
+pub mod Scopes

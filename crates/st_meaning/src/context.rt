@@ -1,6 +1,6 @@
 // Where code runs.
 ghost use Rattle.std.specs.Prelude.{◌≡◌, ◌++◌, ◌∷◌, [], find, option_map, IfOk};
-ghost use Rattle.std.specs.Option.{option_copied};
+ghost use Rattle.std.specs.Option.{option_copied, option_map_or};
 ghost use Rattle.rb_base.specs.Names.{text_eq};
 ghost use Rattle.run_model.specs.Store.{Slot as run_slot};
 ghost use Rattle.run_model.specs.Reading.{binding_of};
@@ -11,6 +11,7 @@ use crate::value::Value;
 use rb_base::Memory;
 use std::alloc::Global;
 use std::marker::Model;
+use std::rc::Rc;
 
 /// What a name of an environment stands for. Contracts see a `Binding` of runs.
 #[derive(Drop)]
@@ -38,24 +39,11 @@ impl Model for Binding {
     ghost view = { λ a. binding_from a.kind };
 }
 
-impl Binding {
-    /// The same once more.
-    pub fn share(&self) -> Result<Binding, Memory>
-        ensures { IfOk result (λ binding. binding ≡ self.now) }
-    {
-        let kind = match &self.kind {
-            BindingKind::Holds(value) => BindingKind::Holds(value.share()?),
-            BindingKind::InCell(cell) => BindingKind::InCell(*cell),
-        };
-        Ok(Binding { kind })
-    }
-}
-
 /// A name of an environment. Contracts see a `Slot` of runs.
 #[derive(Drop)]
-pub struct Slot {
-    pub name: SharedText,
-    pub binding: Binding,
+pub(crate) struct Slot {
+    pub(crate) name: SharedText,
+    pub(crate) binding: Binding,
 }
 
 impl Model for Slot {
@@ -67,16 +55,6 @@ impl Model for Slot {
 }
 
 impl Slot {
-    /// The same once more.
-    pub fn share(&self) -> Result<Slot, Memory>
-        ensures { IfOk result (λ slot. slot ≡ self.now) }
-    {
-        Ok(Slot {
-            name: self.name.share()?,
-            binding: self.binding.share()?,
-        })
-    }
-
     fn is_named(&self, name: &[u8]) -> bool
         ensures { result ≡ text_eq name.now self.now.name }
     {
@@ -90,12 +68,34 @@ impl Slot {
     }
 }
 
+/// The names that one sequence or block declares, and those outside it, which all that are inside share. Contracts see the
+/// slots of each, the innermost first.
+#[derive(Drop)]
+pub(crate) struct Scope {
+    // The first of a name counts.
+    slots: Vec<Slot>,
+    outer: Option<Rc<Scope>>,
+}
+
+impl Model for Scope {
+    ghost use Rattle.std.specs.Prelude.{List};
+    ghost use Rattle.run_model.specs.Store as run;
+
+    ghost Value = { List (List run.Slot) };
+
+    ghost use Rattle.std.specs.Prelude.{◌∷◌, [], length};
+    ghost use Rattle.std.specs.Option.{option_map_or};
+
+    ghost view = { λ a. a.slots.items ∷ option_map_or (λ r. r.value) a.outer [] };
+
+    ghost size = { length };
+}
+
 /// Where code runs: its environment, what `self` is, and its home, the one running of a method or do-it. Contracts see a
 /// `Frame` of runs.
 #[derive(Drop)]
 pub struct Context {
-    // Innermost names first.
-    slots: Vec<Slot>,
+    scope: Option<Rc<Scope>>,
     me: Value,
     home: usize,
     class: Option<SharedText>,
@@ -107,13 +107,26 @@ impl Model for Context {
 
     ghost Value = { run.Frame };
 
-    ghost view = { λ a. record { slots = a.slots.items; me = a.me; home = record { number = a.home; class = a.class; meta = a.meta } } };
+    ghost use Rattle.std.specs.Prelude.{List, []};
+    ghost use Rattle.std.specs.List.{flat_map};
+    ghost use Rattle.std.specs.Option.{option_map_or};
+
+    ghost view = { λ a. record { slots = flat_map (λ (s : List run.Slot). s) (option_map_or (λ r. r.value) a.scope []); me = a.me; home = record { number = a.home; class = a.class; meta = a.meta } } };
 }
 
 fn found<'a>(slots: &'a [Slot], name: &[u8]) -> Option<&'a Slot>
     ensures { option_copied result ≡ find (λ (e : run_slot). text_eq name.now e.name) slots.now }
 {
     slots.iter().find(|slot| slot.is_named(name))
+}
+
+fn shared(scope: &Option<Rc<Scope>>) -> Result<Option<Rc<Scope>>, Memory>
+    ensures { IfOk result (λ shared. option_map_or (λ r. r.value) shared [] ≡ option_map_or (λ r. r.value) scope.now []) }
+{
+    match scope {
+        Some(scope) => Ok(Some(Rc::clone(scope)?)),
+        None => Ok(None),
+    }
 }
 
 fn class_shared(class: &Option<SharedText>) -> Result<Option<SharedText>, Memory>
@@ -138,19 +151,12 @@ impl Context {
         ensures { result ≡ outermost class meta me home }
     {
         Context {
-            slots: Vec::new(alloc),
+            scope: None,
             me,
             home,
             class,
             meta,
         }
-    }
-
-    /// The environment, innermost names first.
-    pub fn slots(&self) -> &[Slot]
-        ensures { result.now ≡ self.now.slots }
-    {
-        &self.slots
     }
 
     /// What `self` is.
@@ -185,18 +191,25 @@ impl Context {
     pub fn binding(&self, name: &[u8]) -> Option<&Binding>
         ensures { option_copied result ≡ binding_of self.now name.now }
     {
-        match found(&self.slots, name) {
-            Some(slot) => Some(slot.binding()),
-            None => None,
+        let mut at = &self.scope;
+        while let Some(scope) = at {
+            let Scope { slots, outer } = scope.as_ref();
+            match found(slots, name) {
+                Some(slot) => return Some(slot.binding()),
+                None => at = outer,
+            }
         }
+        None
     }
 
-    /// The same home and `self` with another environment.
-    pub(crate) fn with_slots(&self, slots: Vec<Slot>) -> Result<Context, Memory>
-        ensures { IfOk result (λ context. context ≡ record self.now { slots = slots.items }) }
+    /// The same home and `self`, with more names inside the environment, which is shared.
+    pub(crate) fn inside(&self, alloc: Global, slots: Vec<Slot>) -> Result<Context, Memory>
+        ensures { IfOk result (λ context. context ≡ inside self.now slots.items) }
     {
+        let outer = shared(&self.scope)?;
+        let scope = Rc::new(alloc, Scope { slots, outer })?;
         Ok(Context {
-            slots,
+            scope: Some(scope),
             me: self.me.share()?,
             home: self.home,
             class: class_shared(&self.class)?,

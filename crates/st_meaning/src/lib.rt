@@ -10,14 +10,12 @@ mod names;
 mod object;
 mod slots;
 mod store;
-#[cfg(test)]
-mod tests;
 mod text;
 mod value;
 mod variables;
 mod view;
 
-pub use context::{Binding, BindingKind, Context, Slot};
+pub use context::{Binding, BindingKind, Context};
 pub use error::{RunError, RunErrorKind};
 pub use event::{Event, EventKind, Outcome, OutcomeKind};
 pub use heap::Heap;

@@ -61,13 +61,3 @@ pub(crate) fn make_cells(
     }
     Ok(())
 }
-
-/// Appends the slots once more.
-pub(crate) fn append(slots: &mut Vec<Slot>, outer: &[Slot]) -> Result<(), Memory>
-    ensures { IfOk result (λ _. slots.new.items ≡ slots.old.items ++ outer.now) }
-{
-    for slot in outer {
-        slots.push(slot.share()?)?;
-    }
-    Ok(())
-}

@@ -11,7 +11,7 @@ use crate::context::Context;
 use crate::event::Event;
 use crate::heap::Heap;
 use crate::names::SharedNames;
-use crate::slots::{append, hold, make_cells};
+use crate::slots::{hold, make_cells};
 use crate::text::SharedText;
 use crate::value::{Value, ValueKind, Values};
 use crate::variables::Variables;
@@ -256,7 +256,6 @@ impl<'p> Store<'p> {
         let mut slots = Vec::new(self.alloc);
         hold(&mut slots, names, parameters.as_slice(), arguments)?;
         make_cells(&mut slots, &mut self.cells, names, temporaries.as_slice())?;
-        append(&mut slots, outer.slots())?;
-        Ok(Rc::new(self.alloc, outer.with_slots(slots)?)?)
+        Ok(Rc::new(self.alloc, outer.inside(self.alloc, slots)?)?)
     }
 }
