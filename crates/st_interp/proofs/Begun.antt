@@ -1,33 +1,26 @@
 -- Nodes, turns of loops, and the end of the ticks.
-use Rattle.std.proofs.Common.{◌≡◌, ℕ, ◌+◌, ◌*◌, ◌<◌, ◌≤◌, List, [], ◌∷◌, ◌++◌, refl, sym, ap, ◌∙◌, arith, length, append_assoc}
-use Rattle.std.specs.Prelude.{Option, Some, None, option_map, slice_get, Bool, true, false, if◌then◌else◌}
+use Rattle.std.proofs.Common.{◌≡◌, ℕ, ◌<◌, List, [], ◌∷◌, ◌++◌, refl, sym, ap, ◌∙◌, arith, length}
+use Rattle.std.specs.Prelude.{Option, Bool, true, false, if◌then◌else◌}
 use Rattle.std.specs.Prelude.{nat_le, map, ◌-◌}
 use Rattle.std.proofs.Common.{Bor, Global}
 use Rattle.std.proofs.lemmas.Bool.{le-leb}
 use Rattle.std.specs.declared.rc.Rc.{Rc}
 use Rattle.image_model.proofs.Lists.{length-map}
 use Rattle.run_model.proofs.Depth.{evaluates-step}
-use Rattle.tree_model.specs.Tree.{TreeOf, TreesOf, trees_of, map_trees, SequenceOf, StatementsOf, no_statements}
+use Rattle.tree_model.specs.Tree.{TreeOf, TreesOf, SequenceOf, no_statements}
 use Rattle.rb_base.specs.Names.{name_at}
-use Rattle.image_model.specs.Image.{ImageOf, EntryOf}
-use Rattle.image_model.specs.Words.{text_words}
-use Rattle.image_model.specs.Lookup.{lookup, super_lookup}
-use Rattle.run_model.specs.Values.{Name, Value, nil_value, closure_value, bad_argument, non_boolean, cannot_return}
+use Rattle.image_model.specs.Image.{ImageOf}
+use Rattle.run_model.specs.Values.{Name, Value, nil_value, closure_value, non_boolean, cannot_return}
 use Rattle.run_model.specs.Shapes as run
 use Rattle.st_meaning.specs.declared.context.Context.{Context}
 use Rattle.st_meaning.specs.declared.store.Store as rust
 use Rattle.st_meaning.specs.declared.store.Closure as rust_closure
-use Rattle.run_model.specs.Store.{Frame, Store, Closure, Result, fine, leaves, returns, ends_by, out_of_ticks, lives, with_new_cells, with_closure, with_home}
-use Rattle.run_model.specs.Acts.{Act, then_do, gives, fails, and_then, with_memory, pays, goes_home, at_home, out_of_home, acts}
-use Rattle.run_model.specs.Calls.{enters}
-use Rattle.run_model.specs.Views.{class_name_of, is_meta}
-use Rattle.run_model.specs.Eval.{Evaluator, node, turn, in_place, makes_closure, chooses, takes, goes_on, sends, does_send, does_node, does_turn, returns_home, values, statements, sequence, inside, held, in_cells, outermost, enters_with, follows, does_body, does, runs_found, message, super_message, is_super, evaluates}
+use Rattle.run_model.specs.Store.{Frame, Store, Result, fine, leaves, returns, ends_by, out_of_ticks, lives, with_new_cells, with_closure, with_home}
+use Rattle.run_model.specs.Acts.{then_do, gives, fails, and_then, with_memory, pays, goes_home, at_home, out_of_home, acts}
+use Rattle.run_model.specs.Eval.{Evaluator, node, turn, in_place, makes_closure, chooses, takes, goes_on, sends, does_send, does_node, does_turn, returns_home, values, statements, sequence, inside, held, in_cells, outermost, evaluates}
 use Rattle.st_meaning.specs.StoreView.{closure_of, store_of, changed_by}
-use Rattle.st_interp.specs.declared.state.Purpose.{Purpose}
-use Rattle.st_interp.specs.declared.state.Purpose.TheVariants as purpose
 use Rattle.st_interp.specs.declared.state.Pending.{Pending}
 use Rattle.st_interp.specs.declared.state.Pending.TheVariants as pending
-use Rattle.st_program.specs.Found.{bare}
 use Rattle.st_interp.specs.Trees.{texts_at, tree_at, trees_at, statements_at, sequence_at}
 use Rattle.st_interp.specs.Shapes.{branch_from, shape_from}
 use Rattle.st_interp.specs.declared.state.Branch.{Branch}
@@ -38,7 +31,7 @@ use Rattle.st_interp.specs.declared.state.Ending.{Ending}
 use Rattle.st_interp.specs.declared.state.Ending.TheVariants as ending
 use Rattle.st_interp.specs.declared.shape.Shape.{Shape}
 use Rattle.st_interp.specs.declared.shape.Shape.TheVariants as shape
-use Rattle.st_interp.specs.Machine.{ended, returned, runs_doit, completed, completes, turns, tested, resume, plug, next_of, rest, next_load, pending_load, stack_load}
+use Rattle.st_interp.specs.Machine.{ended, returned, runs_doit, turns, tested, resume, plug, next_of, rest, next_load}
 use Rattle.st_interp.proofs.Plug.{plug_pushed}
 
 -- what comes after an ending

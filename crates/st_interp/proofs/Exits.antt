@@ -1,10 +1,10 @@
 -- What passes an exit on.
-use Rattle.std.proofs.Common.{◌≡◌, ◌≢◌, ℕ, List, Bool, true, false, cond, refl, sym, ap, ◌∙◌}
-use Rattle.std.specs.Prelude.{nat_eq, if◌then◌else◌}
+use Rattle.std.proofs.Common.{◌≡◌, ◌≢◌, ℕ, List, sym, ap, ◌∙◌}
+use Rattle.std.specs.Prelude.{if◌then◌else◌}
 use Rattle.std.proofs.lemmas.Bool.{ne_eqb, eq-eqb}
 use Rattle.image_model.specs.Image.{ImageOf}
 use Rattle.run_model.specs.Values.{Name, Value}
-use Rattle.run_model.specs.Store.{Store, Result, returns, fine, leaves, without_home}
+use Rattle.run_model.specs.Store.{Store, returns, fine, leaves, without_home}
 use Rattle.run_model.specs.Acts.{ended, out_of_home}
 use Rattle.st_meaning.specs.StoreView.{changed_by}
 use Rattle.st_interp.specs.Machine.{plug}

@@ -1,9 +1,9 @@
 -- Names that are read and assigned, case by case.
-use Rattle.std.proofs.Common.{◌≡◌, ℕ, Bool, false, cond, Option, Some, List, refl, sym, ap, ◌∙◌}
+use Rattle.std.proofs.Common.{◌≡◌, ℕ, false, cond, Some, sym, ap, ◌∙◌}
 use Rattle.image_model.specs.Image.{ImageOf}
 use Rattle.scope_model.specs.SpecialNames.{is_pseudo_variable}
 use Rattle.run_model.specs.Values.{Name, Value, not_assignable}
-use Rattle.run_model.specs.Store.{Store, Frame, Binding, in_cell, Result, fine, value_of, same_pair, value_in_cell}
+use Rattle.run_model.specs.Store.{Store, Frame, Binding, Result, fine, value_of, same_pair, value_in_cell}
 use Rattle.run_model.specs.Acts.{acts, with_memory}
 use Rattle.run_model.specs.Reading.{binding_of, reads_pseudo, reads_meaning, reads_binding, reads, assigns_binding, assigns}
 use Rattle.st_meaning.specs.BindingView.{binding_from}

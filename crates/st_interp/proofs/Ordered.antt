@@ -1,11 +1,11 @@
 -- Do-its in order, and whole runs.
-use Rattle.std.proofs.Common.{◌≡◌, ℕ, zero, suc, ◌+◌, ◌-◌, ◌≤◌, List, [], ◌∷◌, length, drop, Option, Some, None, slice_get, option_map, refl, sym, ap, ◌∙◌, arith}
+use Rattle.std.proofs.Common.{◌≡◌, ℕ, zero, suc, ◌-◌, ◌≤◌, List, [], ◌∷◌, length, drop, Option, Some, None, slice_get, option_map, refl, sym, ap, ◌∙◌, arith}
 use Rattle.image_model.specs.Image.{DoItOf, ImageOf}
 use Rattle.run_model.specs.Values.{Name, Value, nil_value, Event, Outcome}
 use Rattle.run_model.specs.Store.{Store, Exit, Result, fine, leaves, start}
-use Rattle.run_model.specs.Acts.{Act, then_do, gives, and_then, acts}
+use Rattle.run_model.specs.Acts.{then_do, gives, and_then, acts}
 use Rattle.run_model.specs.Eval.{evaluates}
-use Rattle.run_model.specs.Runs.{RunOf, doit_class, does_doit, does_doits, outcome_of, seen, comes_to_at_last, run}
+use Rattle.run_model.specs.Runs.{RunOf, doit_class, does_doits, outcome_of, seen, run}
 use Rattle.run_model.proofs.Depth.{run-evaluates}
 use Rattle.tree_model.specs.Tree.{SequenceOf}
 use Rattle.st_interp.specs.declared.state.Ending.{Ending}

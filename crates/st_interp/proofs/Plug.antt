@@ -1,43 +1,26 @@
 -- The stack, a frame at a time.
-use Rattle.std.proofs.Common.{◌≡◌, ℕ, ◌+◌, ◌*◌, ◌<◌, ◌≤◌, List, [], ◌∷◌, ◌++◌, refl, sym, ap, ◌∙◌, arith, length, append_assoc}
+use Rattle.std.proofs.Common.{◌≡◌, ℕ, ◌+◌, List, [], ◌∷◌, ◌++◌, refl, sym, ap, ◌∙◌, arith, length}
 use Rattle.std.specs.Prelude.{Option, Some, None, option_map, slice_get, Bool, true, false, if◌then◌else◌}
-use Rattle.std.specs.Prelude.{nat_le, map, ◌-◌}
-use Rattle.std.proofs.Common.{Bor, Global}
-use Rattle.std.proofs.lemmas.Bool.{leb-true}
-use Rattle.std.specs.declared.rc.Rc.{Rc}
-use Rattle.image_model.proofs.Lists.{length-map}
-use Rattle.run_model.proofs.Depth.{evaluates-step}
-use Rattle.tree_model.specs.Tree.{TreeOf, TreesOf, trees_of, map_trees, SequenceOf, StatementsOf, no_statements}
+use Rattle.std.proofs.Common.{Bor}
+use Rattle.tree_model.specs.Tree.{TreeOf, SequenceOf, StatementsOf}
 use Rattle.rb_base.specs.Names.{name_at}
 use Rattle.image_model.specs.Image.{ImageOf, EntryOf}
 use Rattle.image_model.specs.Words.{text_words}
 use Rattle.image_model.specs.Lookup.{lookup, super_lookup}
-use Rattle.run_model.specs.Values.{Name, Value, nil_value, closure_value, bad_argument, non_boolean}
-use Rattle.run_model.specs.Shapes as run
-use Rattle.st_meaning.specs.declared.context.Context.{Context}
-use Rattle.st_meaning.specs.declared.store.Store as rust
-use Rattle.st_meaning.specs.declared.store.Closure as rust_closure
-use Rattle.run_model.specs.Store.{Frame, Store, Closure, Result, fine, leaves, ends_by, out_of_ticks, with_new_cells, with_closure, with_home}
-use Rattle.run_model.specs.Acts.{Act, then_do, gives, fails, and_then, with_memory, pays, at_home, out_of_home, acts}
+use Rattle.run_model.specs.Values.{Name, Value, nil_value, bad_argument}
+use Rattle.run_model.specs.Store.{Frame, Store, Closure, Result, leaves, ends_by, with_new_cells, with_home}
+use Rattle.run_model.specs.Acts.{then_do, gives, fails, and_then, with_memory, at_home, out_of_home, acts}
 use Rattle.run_model.specs.Calls.{enters}
 use Rattle.run_model.specs.Views.{class_name_of, is_meta}
-use Rattle.run_model.specs.Eval.{Evaluator, node, turn, in_place, makes_closure, chooses, takes, goes_on, sends, does_send, does_node, does_turn, values, statements, sequence, inside, held, in_cells, outermost, enters_with, follows, does_body, does, runs_found, message, super_message, is_super, evaluates}
-use Rattle.st_meaning.specs.StoreView.{closure_of, store_of, changed_by}
+use Rattle.run_model.specs.Eval.{statements, sequence, inside, held, in_cells, outermost, enters_with, follows, does_body, does, runs_found, message, super_message, is_super, evaluates}
+use Rattle.st_meaning.specs.StoreView.{changed_by}
 use Rattle.st_interp.specs.declared.state.Purpose.{Purpose}
 use Rattle.st_interp.specs.declared.state.Purpose.TheVariants as purpose
 use Rattle.st_interp.specs.declared.state.Pending.{Pending}
 use Rattle.st_interp.specs.declared.state.Pending.TheVariants as pending
 use Rattle.st_program.specs.Found.{bare}
-use Rattle.st_interp.specs.Trees.{texts_at, tree_at, trees_at, statements_at, sequence_at}
-use Rattle.st_interp.specs.Shapes.{branch_from, shape_from}
-use Rattle.st_interp.specs.declared.state.Branch.{Branch}
-use Rattle.st_interp.specs.declared.state.Loop.{Loop}
-use Rattle.st_interp.specs.declared.state.Machine.{Machine}
-use Rattle.st_interp.specs.declared.state.Ending.{Ending}
-use Rattle.st_interp.specs.declared.state.Ending.TheVariants as ending
-use Rattle.st_interp.specs.declared.shape.Shape.{Shape}
-use Rattle.st_interp.specs.declared.shape.Shape.TheVariants as shape
-use Rattle.st_interp.specs.Machine.{ended, completed, completes, turns, tested, resume, plug, next_of, rest, next_load, pending_load, stack_load}
+use Rattle.st_interp.specs.Trees.{tree_at}
+use Rattle.st_interp.specs.Machine.{completed, resume, plug, pending_load, stack_load}
 
 pub plug_push : (i : ImageOf Name) (names : List Name) (ks : List Pending) (k : Pending) (r : Result Value) → plug i names (ks ++ k ∷ []) r ≡ plug i names ks (resume i names k r)
 unfolding plug

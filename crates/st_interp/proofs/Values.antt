@@ -1,10 +1,9 @@
 -- Values of trees in a row, cascades and truth values.
 use Rattle.std.proofs.Common.{◌≡◌, ◌≢◌, ℕ, List, [], ◌∷◌, ◌++◌, Bool, true, false, Option, Some, None, Bor, Global, refl, sym, ap, ◌∙◌, append_assoc, length, arith}
-use Rattle.std.specs.Prelude.{not}
 use Rattle.std.proofs.lemmas.List.{append-nil}
 use Rattle.std.specs.declared.rc.Rc.{Rc}
 use Rattle.rb_base.specs.Names.{name_at}
-use Rattle.tree_model.specs.Tree.{TreeOf, TreesOf}
+use Rattle.tree_model.specs.Tree.{TreeOf}
 use Rattle.st_tree.specs.declared.tree.Message.{Message}
 use Rattle.image_model.specs.Image.{ImageOf}
 use Rattle.run_model.specs.Values.{Name, Value, nil_value, true_value, false_value, int_value, char_value, string_value, symbol_value, class_value, object_value, array_value, closure_value, transcript_value, non_boolean}

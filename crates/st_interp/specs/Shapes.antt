@@ -1,5 +1,5 @@
 -- Control sends, as the program sees them.
-use Rattle.std.specs.Prelude.{List, Bool, Option, None, Some}
+use Rattle.std.specs.Prelude.{List}
 use Rattle.run_model.specs.Values.{Name, nil_value, true_value, false_value}
 use Rattle.run_model.specs.Shapes as run
 use Rattle.st_interp.specs.declared.state.Branch.{Branch}
