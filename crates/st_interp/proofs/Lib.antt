@@ -4,3 +4,4 @@ pub mod Values
 pub mod Begun
 pub mod Exits
 pub mod Ordered
+pub mod Primitives

@@ -41,7 +41,7 @@ fn is_super_node(program: &Program<'_>, node: &Node) -> bool
 }
 
 impl<'p> Machine<'p> {
-    /// Does the primitive of a number. It is not built yet, and gives up as where memory is wanted.
+    /// Does the primitive of a number.
     fn primitive(
         &mut self,
         program: &Program<'p>,

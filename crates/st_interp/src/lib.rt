@@ -1,5 +1,5 @@
 //! The machine that runs the do-its of an image, with a stack of its own: what programs do, in the sense of Smalltalk-80
-//! (Goldberg and Robson 1983), within a given number of ticks. The call that runs an image is not built yet.
+//! (Goldberg and Robson 1983). `run` tells what is seen of a run within a given number of ticks.
 #![tactic(auto)]
 
 mod calls;
@@ -9,7 +9,6 @@ mod nodes;
 mod reading;
 mod report;
 mod resuming;
-
 mod running;
 mod shape;
 mod state;

@@ -3,19 +3,19 @@ ghost use Rattle.std.specs.Prelude.{◌≡◌, IfOk, List};
 ghost use Rattle.class_table.specs.View.{image_of};
 ghost use Rattle.class_table.specs.Valid.{IsOrderly};
 ghost use Rattle.run_model.specs.Values.{Name, nil_value};
-ghost use Rattle.run_model.specs.Store.{start};
+ghost use Rattle.run_model.specs.Store.{Store as run_store, leaves, start};
 ghost use Rattle.run_model.specs.Acts.{acts};
 ghost use Rattle.run_model.specs.Eval.{evaluates};
 ghost use Rattle.run_model.specs.Runs.{does_doits, outcome_of, seen, run as run_of};
 ghost use Rattle.st_meaning.specs.StoreView.{store_of};
-ghost use Rattle.st_interp.specs.Machine.{ended};
+ghost use Rattle.st_interp.specs.Machine.{exit_of, ended};
 ghost use Rattle.st_interp.specs.Report.{report_of};
 
 use crate::report::RunReport;
 use crate::state::{Ending, Exit, Machine};
 use class_table::Image;
 use rb_base::Memory;
-use st_meaning::{Outcome, OutcomeKind, RunError, RunErrorKind, Store, Value};
+use st_meaning::{Event, Heap, Outcome, OutcomeKind, RunError, RunErrorKind, Store, Value};
 use st_program::Program;
 use std::alloc::Global;
 use std::mem;
@@ -32,7 +32,7 @@ impl<'p> Machine<'p> {
     }
 
     /// Runs the do-its of the program in order, up to the first that does not come to a value.
-    #[tactic(auto, using(crate::proofs::Ordered::doit_done, crate::proofs::Ordered::doit_left, crate::proofs::Ordered::doits_over))]
+    #[tactic(auto, using(crate::proofs::Ordered::doit_done, crate::proofs::Ordered::doit_left, crate::proofs::Ordered::doits_over, crate::proofs::Ordered::doits_missing))]
     fn run_doits(&mut self, program: &Program<'p>) -> Result<Ending, Memory>
         ensures { IfOk result (λ e. ended e (store_of program.now.names self.new.store) ≡ does_doits acts (image_of program.now) (evaluates (image_of program.now)) nil_value (image_of program.now).doits (store_of program.now.names self.old.store)) }
     {
@@ -50,32 +50,50 @@ impl<'p> Machine<'p> {
         Ok(Ending::Value(value))
     }
 
-    fn outcome(&self, ending: Ending) -> Result<Outcome, Memory>
-        ensures { IfOk result (λ outcome. (names : List Name) → outcome ≡ outcome_of (ended ending (store_of names self.now.store))) }
-    {
-        let kind = match ending {
-            Ending::Value(value) => OutcomeKind::Done(self.store.heap.view_of(&value)?),
-            Ending::Exit(Exit::Back { home: _, value: _ }) => {
-                OutcomeKind::Failed(RunError::new(RunErrorKind::CannotReturn))
-            }
-            Ending::Exit(Exit::Failed(error)) => OutcomeKind::Failed(error),
-            Ending::Exit(Exit::Spent) => OutcomeKind::Spent,
-        };
-        Ok(Outcome { kind })
-    }
-
     /// What is seen of a run that has ended.
+    #[tactic(auto, using(crate::proofs::Ordered::seen_at))]
     fn report(&mut self, ending: Ending, budget: u32) -> Result<RunReport, Memory>
         ensures { IfOk result (λ report. (names : List Name) → report_of report ≡ seen budget (ended ending (store_of names self.old.store))) }
     {
-        let outcome = self.outcome(ending)?;
+        let outcome = outcome_in(&self.store.heap, ending)?;
         let ticks = budget.saturating_sub(self.store.ticks);
-        let events = mem::replace(&mut self.store.events, Vec::new(self.store.alloc));
+        let alloc = self.store.alloc;
+        let events = taken(alloc, &mut self.store.events);
         Ok(RunReport {
             events,
             outcome,
             ticks,
         })
+    }
+}
+
+/// The events, of which none is left.
+fn taken(alloc: Global, events: &mut Vec<Event>) -> Vec<Event>
+    ensures { result.items ≡ events.old.items }
+{
+    mem::replace(events, Vec::new(alloc))
+}
+
+/// How a run comes out that left off.
+fn left_off(exit: Exit) -> Outcome
+    ensures { (s : run_store) → result ≡ outcome_of (leaves (exit_of exit) s) }
+{
+    match exit {
+        Exit::Back { home: _, value: _ } => {
+            Outcome::new(OutcomeKind::Failed(RunError::new(RunErrorKind::CannotReturn)))
+        }
+        Exit::Failed(error) => Outcome::new(OutcomeKind::Failed(error)),
+        Exit::Spent => Outcome::new(OutcomeKind::Spent),
+    }
+}
+
+/// How a run comes out.
+fn outcome_in(heap: &Heap, ending: Ending) -> Result<Outcome, Memory>
+    ensures { IfOk result (λ outcome. (s : run_store) → s.memory.heap ≡ heap.now → outcome ≡ outcome_of (ended ending s)) }
+{
+    match ending {
+        Ending::Value(value) => Ok(Outcome::new(OutcomeKind::Done(heap.view_of(&value)?))),
+        Ending::Exit(exit) => Ok(left_off(exit)),
     }
 }
 

@@ -1,1 +1,3 @@
 pub mod Capped
+pub mod Items
+pub mod Arms

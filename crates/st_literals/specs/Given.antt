@@ -1,5 +1,5 @@
 -- What comes of literals.
-use Rattle.std.specs.Prelude.{List, map, Option, Some, None, ℕ}
+use Rattle.std.specs.Prelude.{List, Option, Some, None, ℕ}
 use Rattle.rb_base.specs.Names.{name_at}
 use Rattle.tree_model.specs.Tree.{LiteralOf, LiteralsOf, literals_of, map_literal, map_literals}
 use Rattle.run_model.specs.Values.{Name, unsupported}

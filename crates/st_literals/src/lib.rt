@@ -1,6 +1,10 @@
-//! The values of literals.
+//! The values of literals: integers that numerals spell, texts, characters, truth values, `nil`, and arrays of these.
 #![tactic(auto)]
 
+mod literals;
 mod numerals;
+#[cfg(test)]
+mod tests;
 
+pub use literals::literal;
 pub use numerals::numeral;

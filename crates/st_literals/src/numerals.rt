@@ -1,9 +1,11 @@
 // Integers that numerals spell.
-ghost use Rattle.std.specs.Prelude.{◌≡◌, ◌<◌, ℕ, min, length, pos, neg_ℤ};
+ghost use Rattle.std.specs.Prelude.{◌≡◌, ◌<◌, min, length, true};
 ghost use Rattle.std.specs.List.{list_any, position_or_len};
 ghost use Rattle.std.specs.Char.{digit_value};
 ghost use Rattle.std.specs.Str.Parse.{digits_value};
-ghost use Rattle.run_model.specs.Numbers.{is_radix_mark, is_fraction_mark, unsigned_value, fitting, numeral_integer};
+ghost use Rattle.run_model.specs.Numbers.{is_radix_mark, is_fraction_mark, unsigned_value, numeral_integer};
+
+use prim_numbers::fitted;
 
 /// The value of a digit or a letter, and 36 of any other byte.
 fn digit(byte: u8) -> u64
@@ -63,8 +65,10 @@ fn has_fraction(text: &[u8]) -> bool
 }
 
 /// The place of the first `r`, and the length of the text where there is none.
+#[tactic(auto, using(crate::proofs::Capped::place_inside))]
 fn radix_place(text: &[u8]) -> usize
-    ensures { result ≡ position_or_len is_radix_mark text.now }
+    ensures place { result ≡ position_or_len is_radix_mark text.now }
+    ensures inside { list_any is_radix_mark text.now ≡ true → result < length text.now }
 {
     let mut at = 0;
     while at < text.len() {
@@ -77,7 +81,6 @@ fn radix_place(text: &[u8]) -> usize
 }
 
 /// The number that digits spell, in the base before `r` where there is one, or the greatest of 64 bits where it is greater.
-#[tactic(auto, using(crate::proofs::Capped::place_inside, crate::proofs::Capped::with_radix, crate::proofs::Capped::plain))]
 fn unsigned(text: &[u8]) -> u64
     ensures { result ≡ min (unsigned_value text.now) u64.MAX }
 {
@@ -90,7 +93,8 @@ fn unsigned(text: &[u8]) -> u64
     }
 }
 
-/// The integer that a numeral is, if it has no fraction and no exponent and is one of 64 bits.
+/// The integer that a numeral is: digits, which may follow a base and `r`, and a sign before them. `None` where it has a
+/// fraction or an exponent, or is none of 64 bits.
 pub fn numeral(text: &[u8]) -> Option<i64>
     ensures { result ≡ numeral_integer text.now }
 {
@@ -101,36 +105,10 @@ pub fn numeral(text: &[u8]) -> Option<i64>
         None => Some(0),
         Some((first, rest)) => {
             if *first == 45 {
-                negated(unsigned(rest))
+                fitted(-(unsigned(rest) as i128))
             } else {
-                positive(unsigned(text))
+                fitted(unsigned(text) as i128)
             }
         }
-    }
-}
-
-/// The number as an integer, if it is less than 2^63.
-#[tactic(auto, using(crate::proofs::Capped::fits_positive, crate::proofs::Capped::past_positive))]
-fn positive(number: u64) -> Option<i64>
-    ensures { (n : ℕ) → number ≡ min n u64.MAX → result ≡ fitting (pos n) }
-{
-    if number < 9223372036854775808 {
-        Some(number as i64)
-    } else {
-        None
-    }
-}
-
-/// The negated number as an integer, if it is at most 2^63.
-#[tactic(auto, using(crate::proofs::Capped::fits_negated, crate::proofs::Capped::past_negated))]
-fn negated(number: u64) -> Option<i64>
-    ensures { (n : ℕ) → number ≡ min n u64.MAX → result ≡ fitting (neg_ℤ (pos n)) }
-{
-    if number == 0 {
-        Some(0)
-    } else if number <= 9223372036854775808 {
-        Some(-((number - 1) as i64) - 1)
-    } else {
-        None
     }
 }
