@@ -20,7 +20,7 @@ pub(super) fn values() -> [(&'static str, &'static [u8]); 11] {
         ("Account", b"=> Account\n"),
         ("[3]", b"=> a block\n"),
         ("", b"=> nil\n"),
-        ("| a | a := 3. ^a + 4. Transcript show: 'a'", b"=> 7\n"),
+        ("| a | a := 3. ^a + 4", b"=> 7\n"),
         ("nil isNil & (3 < 4)", b"=> true\n"),
     ]
 }

@@ -1,6 +1,7 @@
 // Images, expressions and what `run` answers to them.
 
 /// An image, an expression, a number of ticks where one is given, and what `run` prints.
+#[derive(Clone, Copy)]
 pub(super) struct Run {
     /// The file-out of the image.
     pub(super) image: &'static [u8],
