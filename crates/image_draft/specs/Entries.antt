@@ -1,9 +1,7 @@
 -- The methods for which those of the program stand.
-use Rattle.std.specs.Prelude.{◌≡◌, ℕ, List, [], ◌∷◌, map, Bool, true, false, nat_eq, Some}
-use Rattle.std.specs.List.{list_any}
+use Rattle.std.specs.Prelude.{ℕ, Some}
 use Rattle.st_tree.specs.View.{method_of}
 use Rattle.image_model.specs.Image.{EntryOf}
-use Rattle.image_model.specs.Lookup.{is_method}
 use Rattle.file_model.specs.Changes.{RunOf}
 use Rattle.image_draft.specs.declared.method_draft.MethodDraft.{MethodDraft}
 

@@ -16,6 +16,9 @@ use indexmap::IndexSet;
 use rb_base::{Memory, NameId};
 use std::alloc::Global;
 
+/// How many names are compared with one another at most; where there are more, a set is faster.
+const FEW_NAMES: usize = 64;
+
 /// The kinds of variables of which no two of one name may stand on a chain.
 #[derive(Clone, Copy)]
 pub enum ChainKind {
@@ -111,8 +114,29 @@ fn is_noted(name: NameId, names: &IndexSet<usize>) -> bool
     names.contains(&name.0)
 }
 
-/// Whether a name stands twice among these.
-pub fn has_repeat(alloc: Global, names: &[NameId]) -> Result<bool, Memory>
+/// Whether a name stands among these.
+fn stands_among(name: NameId, names: &[NameId]) -> bool
+    ensures { result ≡ list_any (nat_eq name) names.now }
+{
+    names.iter().any(|other| name == *other)
+}
+
+/// Whether a name stands twice among these, which are compared with one another.
+fn repeats_among(names: &[NameId]) -> bool
+    ensures { result ≡ hierarchy.has_repeat nat_eq names.now }
+{
+    let mut rest = names;
+    while let Some((name, others)) = rest.split_first() {
+        if stands_among(*name, others) {
+            return true;
+        }
+        rest = others;
+    }
+    false
+}
+
+/// Whether a name stands twice among these, each of which is looked for among those before it.
+fn repeats_behind(alloc: Global, names: &[NameId]) -> Result<bool, Memory>
     ensures { IfOk result (λ found. found ≡ hierarchy.has_repeat nat_eq names.now) }
 {
     let mut seen = IndexSet::new(alloc);
@@ -124,6 +148,16 @@ pub fn has_repeat(alloc: Global, names: &[NameId]) -> Result<bool, Memory>
         rest = others;
     }
     Ok(false)
+}
+
+/// Whether a name stands twice among these.
+pub fn has_repeat(alloc: Global, names: &[NameId]) -> Result<bool, Memory>
+    ensures { IfOk result (λ found. found ≡ hierarchy.has_repeat nat_eq names.now) }
+{
+    if names.len() <= FEW_NAMES {
+        return Ok(repeats_among(names));
+    }
+    repeats_behind(alloc, names)
 }
 
 /// Whether a variable of a kind stands twice on the chain of a class.

@@ -80,13 +80,17 @@ fn remove_class(class: usize) -> Change {
     Change::RemoveClass(NameId(class))
 }
 
-/// Two classes, the second below the first; each change of a class.
+/// Two classes, the second below the first; each change of a class, and the second defined again: under no class, under the
+/// first, and as it is.
 fn good_changes(alloc: Global) -> Result<Vec<Change>, Memory> {
     Ok(vec![in alloc;
         define(alloc, 1, None),
         define(alloc, 2, Some(NameId(1))),
         comment(alloc, 1),
         set_class_side(alloc, 2),
+        define(alloc, 2, None),
+        define(alloc, 2, Some(NameId(1))),
+        define(alloc, 2, Some(NameId(1))),
     ]?)
 }
 

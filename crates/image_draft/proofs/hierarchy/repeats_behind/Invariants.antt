@@ -1,7 +1,7 @@
 use Rattle.std.proofs.Common.{◌≡◌, nat_eq, length}
 use Rattle.file_model.specs.Hierarchy as hierarchy
 use Rattle.image_draft.proofs.Seen.{seen_repeat}
-use Rattle.image_draft.proofs.hierarchy.has_repeat.Given as goal
+use Rattle.image_draft.proofs.hierarchy.repeats_behind.Given as goal
 
 abbrev pub invariant-loop-name : goal.invariant-loop-name
 invariant-loop-name l = seen_repeat l.seen.keys l.rest ≡ hierarchy.has_repeat nat_eq l.fn.names
