@@ -25,7 +25,7 @@ use Rattle.class_table.specs.Lending.{with_tree, with_body}
 use Rattle.class_table.proofs.OrderLemmas.{get-set_same, get-set_other, position-some}
 use Rattle.class_table.proofs.Live.{eqb-refl, IsLive-first, IsLive-rest, there}
 use Rattle.image_laws.specs.Orders.{HasOrders}
-use Rattle.image_laws.specs.Replacing.{with_class, with_entry, with_doit, with_method_source, with_method_tree, with_doit_source, with_doit_body}
+use Rattle.image_laws.specs.Replacing.{with_other_class, with_other_method, with_other_doit, with_method_source, with_method_tree, with_doit_source, with_doit_body}
 use Rattle.image_laws.proofs.Lists.{changed_at-some}
 use Rattle.image_laws.proofs.ViewLemmas.{method-there}
 use Rattle.image_laws.proofs.Orders.{or_false, stands-live, position-get, position-dead}
@@ -125,8 +125,8 @@ module _ (s : Slots) where
     }
 
     -- another class in a live slot
-    pub class-live : (p : ℕ) → HasOrders s → position (eqb k) s.class_order ≡ Some p → image_of (record s { classes = set s.classes k c }) ≡ with_class (image_of s) p (map_class (name_at s.names) (class_of s.classes c))
-    class-live p orders at = swapped (with_class (image_of s) p (map_class (name_at s.names) (class_of s.classes c))).classes (
+    pub class-live : (p : ℕ) → HasOrders s → position (eqb k) s.class_order ≡ Some p → image_of (record s { classes = set s.classes k c }) ≡ with_other_class (image_of s) p (map_class (name_at s.names) (class_of s.classes c))
+    class-live p orders at = swapped (with_other_class (image_of s) p (map_class (name_at s.names) (class_of s.classes c))).classes (
         ap (λ (cs : List ClassRec). map (map_class (name_at s.names)) (map (class_of s.classes) cs)) (live-set s.classes k c s.class_order p orders.classes.distinct orders.classes.below (position-get k s.class_order p at))
         ∙ ap (map (map_class (name_at s.names))) (map-set (class_of s.classes) (live s.classes s.class_order) p c)
         ∙ map-set (map_class (name_at s.names)) (map (class_of s.classes) (live s.classes s.class_order)) p (class_of s.classes c))
@@ -137,7 +137,7 @@ module _ (s : Slots) where
 
   module _ (k : ℕ) where
     -- another method in a live slot
-    pub method-live : (p : ℕ) (m : MethodRec) → HasOrders s → position (eqb k) s.method_order ≡ Some p → image_of (record s { methods = set s.methods k m }) ≡ with_entry (image_of s) p (map_entry (name_at s.names) (entry_of s.classes m))
+    pub method-live : (p : ℕ) (m : MethodRec) → HasOrders s → position (eqb k) s.method_order ≡ Some p → image_of (record s { methods = set s.methods k m }) ≡ with_other_method (image_of s) p (map_entry (name_at s.names) (entry_of s.classes m))
     method-live p m orders at = ap (λ (ms : List (EntryOf (List ℕ))). record (image_of s) { methods = ms }) (
         ap (λ (ms : List MethodRec). map (map_entry (name_at s.names)) (map (entry_of s.classes) ms)) (live-set s.methods k m s.method_order p orders.methods.distinct orders.methods.below (position-get k s.method_order p at))
         ∙ ap (map (map_entry (name_at s.names))) (map-set (entry_of s.classes) (live s.methods s.method_order) p m)
@@ -155,7 +155,7 @@ module _ (s : Slots) where
         let found = there s.methods k (orders.methods.below k (position-some k s.method_order p (sym at)).2) in
         ap (λ (ms : List MethodRec). image_of (record s { methods = ms })) (changed_at-some g s.methods k found.0 found.1)
         ∙ method-live p (g found.0) orders at
-        ∙ ap (with_entry (image_of s) p) (same found.0)
+        ∙ ap (with_other_method (image_of s) p) (same found.0)
         ∙ sym (ap (λ (ms : List (EntryOf (List ℕ))). record (image_of s) { methods = ms }) (changed_at-some h (image_of s).methods p (map_entry (name_at s.names) (entry_of s.classes found.0))
         (method-there s orders k p at ∙ ap (λ (o : Option MethodRec). option_map (map_entry (name_at s.names)) (option_map (entry_of s.classes) o)) found.1)))
 
@@ -167,7 +167,7 @@ module _ (s : Slots) where
 
   module _ (n : ℕ) where
     -- another do-it of a number
-    pub doit-swapped : (d : DoIt) → image_of (record s { doits = set s.doits n d }) ≡ with_doit (image_of s) n (map_doit (name_at s.names) (doit_of d))
+    pub doit-swapped : (d : DoIt) → image_of (record s { doits = set s.doits n d }) ≡ with_other_doit (image_of s) n (map_doit (name_at s.names) (doit_of d))
     doit-swapped d = ap (λ (ds : List (DoItOf (List ℕ))). record (image_of s) { doits = ds }) (
         ap (map (map_doit (name_at s.names))) (map-set doit_of s.doits n d)
         ∙ map-set (map_doit (name_at s.names)) (map doit_of s.doits) n (doit_of d))

@@ -5,16 +5,16 @@ use Rattle.image_model.specs.Image.{ClassOf, EntryOf, DoItOf, ImageOf}
 use Rattle.class_table.specs.Changing.{changed_at}
 
 -- the image with another class at a place
-abbrev pub with_class : {N : Type 0} → ImageOf N → ℕ → ClassOf N → ImageOf N
-with_class i p c = record i { classes = slice_set i.classes p c }
+abbrev pub with_other_class : {N : Type 0} → ImageOf N → ℕ → ClassOf N → ImageOf N
+with_other_class i p c = record i { classes = slice_set i.classes p c }
 
 -- the image with another method at a place
-abbrev pub with_entry : {N : Type 0} → ImageOf N → ℕ → EntryOf N → ImageOf N
-with_entry i p m = record i { methods = slice_set i.methods p m }
+abbrev pub with_other_method : {N : Type 0} → ImageOf N → ℕ → EntryOf N → ImageOf N
+with_other_method i p m = record i { methods = slice_set i.methods p m }
 
 -- the image with another do-it at a place
-abbrev pub with_doit : {N : Type 0} → ImageOf N → ℕ → DoItOf N → ImageOf N
-with_doit i n d = record i { doits = slice_set i.doits n d }
+abbrev pub with_other_doit : {N : Type 0} → ImageOf N → ℕ → DoItOf N → ImageOf N
+with_other_doit i n d = record i { doits = slice_set i.doits n d }
 
 -- the image with another source of the method at a place
 abbrev pub with_method_source : {N : Type 0} → ImageOf N → ℕ → List ℕ → ImageOf N

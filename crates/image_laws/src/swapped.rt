@@ -16,13 +16,13 @@ ghost use Rattle.class_table.specs.View.{class_of, entry_of, doit_of, image_of};
 ghost use Rattle.class_table.specs.Changing.{former_place, with_source};
 ghost use Rattle.class_table.specs.Lending.{with_tree, with_body};
 ghost use Rattle.image_laws.specs.Orders.{HasOrders};
-ghost use Rattle.image_laws.specs.Replacing.{with_class, with_entry, with_doit, with_method_source, with_method_tree, with_doit_source, with_doit_body};
+ghost use Rattle.image_laws.specs.Replacing.{with_other_class, with_other_method, with_other_doit, with_method_source, with_method_tree, with_doit_source, with_doit_body};
 
 /// Another record in the slot of a class stands at the slot's place in the image, where it has the same name; nothing
 /// else changes, and nothing at all where the slot is not live.
 pub fn law_classes_swapped()
     ensures live { (s : Slots) (k p : ℕ) (former c : ClassRec) → HasOrders s → former_place s (slot.Class k) ≡ Some p → slice_get s.classes k ≡ Some former → c.name ≡ former.name →
-        image_of (record s { classes = slice_set s.classes k c }) ≡ with_class (image_of s) p (map_class (name_at s.names) (class_of s.classes c)) }
+        image_of (record s { classes = slice_set s.classes k c }) ≡ with_other_class (image_of s) p (map_class (name_at s.names) (class_of s.classes c)) }
     ensures not_live { (s : Slots) (k : ℕ) (former c : ClassRec) → former_place s (slot.Class k) ≡ None → slice_get s.classes k ≡ Some former → c.name ≡ former.name →
         image_of (record s { classes = slice_set s.classes k c }) ≡ image_of s }
 {}
@@ -31,7 +31,7 @@ pub fn law_classes_swapped()
 /// all where the slot is not live. The same holds of its source and its tree alone.
 pub fn law_methods_swapped()
     ensures live { (s : Slots) (k p : ℕ) (m : MethodRec) → HasOrders s → former_place s (slot.Method k) ≡ Some p →
-        image_of (record s { methods = slice_set s.methods k m }) ≡ with_entry (image_of s) p (map_entry (name_at s.names) (entry_of s.classes m)) }
+        image_of (record s { methods = slice_set s.methods k m }) ≡ with_other_method (image_of s) p (map_entry (name_at s.names) (entry_of s.classes m)) }
     ensures not_live { (s : Slots) (k : ℕ) (m : MethodRec) → former_place s (slot.Method k) ≡ None →
         image_of (record s { methods = slice_set s.methods k m }) ≡ image_of s }
     ensures source { (s : Slots) (k p : ℕ) (text : List ℕ) → HasOrders s → former_place s (slot.Method k) ≡ Some p →
@@ -44,7 +44,7 @@ pub fn law_methods_swapped()
 /// and its body alone.
 pub fn law_doits_swapped()
     ensures whole { (s : Slots) (n : ℕ) (d : DoIt) →
-        image_of (record s { doits = slice_set s.doits n d }) ≡ with_doit (image_of s) n (map_doit (name_at s.names) (doit_of d)) }
+        image_of (record s { doits = slice_set s.doits n d }) ≡ with_other_doit (image_of s) n (map_doit (name_at s.names) (doit_of d)) }
     ensures source { (s : Slots) (n : ℕ) (text : List ℕ) →
         image_of (with_source s (place.DoIt n) text) ≡ with_doit_source (image_of s) n text }
     ensures body { (s : Slots) (n : ℕ) (body : Sequence) →

