@@ -24,7 +24,7 @@ left-part g no_trees us j u e = absurd (nothing-there u e)
 left-part g (more_trees t ts) us zero u e = e
 left-part g (more_trees t ts) us (suc j) u e = left-part g ts us j u e
 
-module _ (f : NameMaps) where
+module _ (f : NameMaps) (owner : Name) where
   -- as many nodes
   count-changed : (to : NewNames) (k : ℕ) (ts : TreesOf Name) → count (changed_trees to f.selector k ts) ≡ count ts
   count-changed to k no_trees = refl
@@ -32,7 +32,7 @@ module _ (f : NameMaps) where
 
   -- what a name means at a path is mapped
   abbrev At : NewNames → MeantAt → MeantAt → List ℕ → Name → Type 0
-  At to before after path n = IsMappedAt f (before path n) n (after path (to path n)) (to path n)
+  At to before after path n = IsMappedAt f owner (before path n) n (after path (to path n)) (to path n)
 
   -- so it is at each node below a node that reads or assigns a name
   abbrev Below : NewNames → MeantAt → MeantAt → TreeOf Name → Type 0
@@ -66,7 +66,7 @@ module _ (f : NameMaps) where
 
   mutual
     -- a node
-    changed-tree : (t : TreeOf Name) (to : NewNames) (before after : MeantAt) → Below to before after t → resolved after (changed to f.selector t) ≡ mapped_tree f (resolved before t)
+    changed-tree : (t : TreeOf Name) (to : NewNames) (before after : MeantAt) → Below to before after t → resolved after (changed to f.selector t) ≡ mapped_tree f owner (resolved before t)
     changed-tree (var n) to before after h = ap reading (h [] (var n) n refl refl).read
     changed-tree (literal l) to before after h = refl
     changed-tree (send r s args) to before after h =
@@ -85,25 +85,25 @@ module _ (f : NameMaps) where
         let k = below-children to before after (return t) h in
         ap returning (changed-tree t (further 0 to) (below 0 before) (below 0 after) (first-below to before after t no_trees 0 k))
 
-    changed-trees : (ts : TreesOf Name) (to : NewNames) (before after : MeantAt) (k : ℕ) → Among to before after ts k → resolved_trees after k (changed_trees to f.selector k ts) ≡ mapped_trees f (resolved_trees before k ts)
+    changed-trees : (ts : TreesOf Name) (to : NewNames) (before after : MeantAt) (k : ℕ) → Among to before after ts k → resolved_trees after k (changed_trees to f.selector k ts) ≡ mapped_trees f owner (resolved_trees before k ts)
     changed-trees no_trees to before after k h = refl
     changed-trees (more_trees t ts) to before after k h =
         λ i. more_nodes (changed-tree t (further k to) (below k before) (below k after) (first-below to before after t ts k h) i) (changed-trees ts to before after (suc k) (others-below to before after t ts k h) i)
 
-    changed-messages : (ms : MessagesOf Name) (to : NewNames) (before after : MeantAt) (k : ℕ) → Among to before after (all_arguments ms) k → resolved_messages after k (changed_messages to f.selector k ms) ≡ mapped_messages f (resolved_messages before k ms)
+    changed-messages : (ms : MessagesOf Name) (to : NewNames) (before after : MeantAt) (k : ℕ) → Among to before after (all_arguments ms) k → resolved_messages after k (changed_messages to f.selector k ms) ≡ mapped_messages f owner (resolved_messages before k ms)
     changed-messages no_messages to before after k h = refl
     changed-messages (more_messages s args ms) to before after k h =
         λ i. more_sends (f.selector s) (changed-trees args to before after k (first-message to before after args (all_arguments ms) k h) i)
         ((ap (λ c. resolved_messages after (k + c) (changed_messages to f.selector (k + count args) ms)) (count-changed to k args)
         ∙ changed-messages ms to before after (k + count args) (other-messages to before after args (all_arguments ms) k h)) i)
 
-    changed-lines : (ss : StatementsOf Name) (to : NewNames) (before after : MeantAt) (k : ℕ) → Among to before after (statement_trees ss) k → resolved_statements after k (changed_statements to f.selector k ss) ≡ mapped_statements f (resolved_statements before k ss)
+    changed-lines : (ss : StatementsOf Name) (to : NewNames) (before after : MeantAt) (k : ℕ) → Among to before after (statement_trees ss) k → resolved_statements after k (changed_statements to f.selector k ss) ≡ mapped_statements f owner (resolved_statements before k ss)
     changed-lines no_statements to before after k h = refl
     changed-lines (more_statements c t ss) to before after k h =
         λ i. more_lines (changed-tree t (further k to) (below k before) (below k after) (first-below to before after t (statement_trees ss) k h) i) (changed-lines ss to before after (suc k) (others-below to before after t (statement_trees ss) k h) i)
 
   -- a scope
-  pub changed-scope : (scope : ScopeOf Name) (to : NewNames) (before after : MeantAt) → MeaningsAreMapped f to scope before after → resolved_scope after (changed_scope to f.selector scope) ≡ mapped_code f (resolved_scope before scope)
+  pub changed-scope : (scope : ScopeOf Name) (to : NewNames) (before after : MeantAt) → MeaningsAreMapped f owner to scope before after → resolved_scope after (changed_scope to f.selector scope) ≡ mapped_code f owner (resolved_scope before scope)
   changed-scope scope to before after h =
       λ i. record {
         parameters = length-map (to []) scope.arguments i;

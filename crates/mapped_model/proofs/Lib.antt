@@ -3,8 +3,16 @@ mod LookupsMapped
 mod ValuesMapped
 mod PrimitivesMapped
 mod ShapesMapped
+mod Objects
+mod OwnShapes
+mod Homes
 mod StoresMapped
+mod HeldActs
+mod PrimitivesKeep
+mod Everywhere
+mod Suited
 mod RunsMapped
+mod Agreeing
 mod Widened
 mod MatchedByMaps
 mod ChangedLemmas

@@ -52,13 +52,13 @@ changed_scope to selector s = record {
   statements = changed_statements to selector 0 s.statements;
 }
 
--- what a name means after, and its place, are what it meant before with the maps put on it: where it is read, and where it is assigned
-pub record IsMappedAt (f : NameMaps) (before : Meant) (n : Name) (after : Meant) (m : Name) : Type 0 where
-  pub read : reference_of after.meaning after.place m ≡ mapped_reference f (reference_of before.meaning before.place n)
-  pub assigned : target_of after.meaning after.place m ≡ mapped_target f (target_of before.meaning before.place n)
+-- in code of a class, what a name means after, and its place, are what it meant before with the maps put on it: where it is read, and where it is assigned
+pub record IsMappedAt (f : NameMaps) (c : Name) (before : Meant) (n : Name) (after : Meant) (m : Name) : Type 0 where
+  pub read : reference_of after.meaning after.place m ≡ mapped_reference f c (reference_of before.meaning before.place n)
+  pub assigned : target_of after.meaning after.place m ≡ mapped_target f c (target_of before.meaning before.place n)
 
 -- so it is at each node of a scope that reads or assigns a name
-abbrev pub MeaningsAreMapped : NameMaps → NewNames → ScopeOf Name → MeantAt → MeantAt → Type 0
-MeaningsAreMapped f to scope before after =
+abbrev pub MeaningsAreMapped : NameMaps → Name → NewNames → ScopeOf Name → MeantAt → MeantAt → Type 0
+MeaningsAreMapped f c to scope before after =
     (path : List ℕ) (t : TreeOf Name) (n : Name) → part_among (statement_trees scope.statements) path ≡ Some t → name_used t ≡ Some n →
-    IsMappedAt f (before path n) n (after path (to path n)) (to path n)
+    IsMappedAt f c (before path n) n (after path (to path n)) (to path n)

@@ -1,5 +1,6 @@
 pub mod NameMaps
 pub mod MappedImages
 pub mod MappedRuns
+pub mod OwnVariables
 pub mod NamesInUse
 pub mod ChangedTrees

@@ -9,37 +9,48 @@ ghost use Rattle.run_model.specs.Matched.{AreMatched};
 ghost use Rattle.resolved_model.specs.Resolving.{MeantAt, resolved_scope};
 ghost use Rattle.resolved_model.specs.ResolvedImages.{ResolvedImage, resolved_image};
 ghost use Rattle.resolved_model.specs.ResolvedRuns.{resolved_run_to, resolved_run};
-ghost use Rattle.mapped_model.specs.NameMaps.{NameMaps, IsOneToOne, KeepsWords};
+ghost use Rattle.mapped_model.specs.NameMaps.{NameMaps, IsOneToOne, IsSameInAllClasses, KeepsWords};
 ghost use Rattle.mapped_model.specs.MappedImages.{mapped_code, mapped_image};
 ghost use Rattle.mapped_model.specs.MappedRuns.{mapped_run};
 ghost use Rattle.mapped_model.specs.ChangedTrees.{NewNames, changed_scope, MeaningsAreMapped};
-ghost use Rattle.mapped_model.specs.NamesInUse.{NamesInUse, IsOneToOneOn, HasWords, UsesOnly};
+ghost use Rattle.mapped_model.specs.NamesInUse.{NamesInUse, IsOneToOneOn, IsOneToOneAcross, HasWords, UsesOnly, AreInherited};
 
 /// The run of an image whose names are mapped is the mapped run of the image: with the depth of a run, and with any other.
-/// The maps are one to one on all names, and keep those of which the language itself speaks.
+/// The maps are one to one on all names, and keep those of which the language itself speaks. Each instance variable and
+/// class-instance variable is called the same after in all classes; or each class has the variables of its superclass and
+/// calls them the same after, and code has no variables but those of its class.
 pub fn law_mapped_runs()
-    ensures run { (f : NameMaps) (i : ResolvedImage) (n : ℕ) → IsOneToOne f → KeepsWords f →
+    ensures run { (f : NameMaps) (i : ResolvedImage) (n : ℕ) → IsOneToOne f → KeepsWords f → IsSameInAllClasses f →
         resolved_run (mapped_image f i) n ≡ mapped_run f (resolved_run i n) }
-    ensures any_depth { (f : NameMaps) (i : ResolvedImage) (d n : ℕ) → IsOneToOne f → KeepsWords f →
+    ensures any_depth { (f : NameMaps) (i : ResolvedImage) (d n : ℕ) → IsOneToOne f → KeepsWords f → IsSameInAllClasses f →
         resolved_run_to (mapped_image f i) d n ≡ mapped_run f (resolved_run_to i d n) }
-    ensures images { (f : NameMaps) (i j : ImageOf Name) (n : ℕ) → IsOneToOne f → KeepsWords f →
+    ensures images { (f : NameMaps) (i j : ImageOf Name) (n : ℕ) → IsOneToOne f → KeepsWords f → IsSameInAllClasses f →
         resolved_image j ≡ mapped_image f (resolved_image i) → run j n ≡ mapped_run f (run i n) }
+    ensures run_by_class { (f : NameMaps) (u : NamesInUse) (i : ResolvedImage) (n : ℕ) → IsOneToOne f → KeepsWords f → UsesOnly u i →
+        AreInherited u f i → resolved_run (mapped_image f i) n ≡ mapped_run f (resolved_run i n) }
+    ensures any_depth_by_class { (f : NameMaps) (u : NamesInUse) (i : ResolvedImage) (d n : ℕ) → IsOneToOne f → KeepsWords f →
+        UsesOnly u i → AreInherited u f i → resolved_run_to (mapped_image f i) d n ≡ mapped_run f (resolved_run_to i d n) }
 {}
 
 /// An image is matched, up to a renaming, by each image whose resolved names are its own with the renaming's maps put on
 /// them. The maps are one to one on the names in use, which are those of the image and those of which the language itself
-/// speaks; the latter stay. An instance variable is called the same after in all classes, and so is a class-instance
-/// variable.
+/// speaks; the latter stay. Of instance variables and class-instance variables they are one to one in each class, which has
+/// the variables of its superclass and calls them the same after, so that classes of different chains may call them
+/// differently; or they are one to one throughout, and the same in all classes.
 pub fn law_matched_by_maps()
-    ensures { (r : Renaming) (f : NameMaps) (u : NamesInUse) (i j : ImageOf Name) →
+    ensures by_class { (r : Renaming) (f : NameMaps) (u : NamesInUse) (i j : ImageOf Name) →
         ((c : Name) → f.class c ≡ class_image r c) → ((s : Name) → f.selector s ≡ selector_image r s) →
-        IsOneToOneOn u f → HasWords u → KeepsWords f → UsesOnly u (resolved_image i) →
+        IsOneToOneOn u f → HasWords u → KeepsWords f → UsesOnly u (resolved_image i) → AreInherited u f (resolved_image i) →
+        resolved_image j ≡ mapped_image f (resolved_image i) → AreMatched i j r }
+    ensures same_in_all_classes { (r : Renaming) (f : NameMaps) (u : NamesInUse) (i j : ImageOf Name) →
+        ((c : Name) → f.class c ≡ class_image r c) → ((s : Name) → f.selector s ≡ selector_image r s) →
+        IsOneToOneOn u f → IsOneToOneAcross u f → HasWords u → KeepsWords f → IsSameInAllClasses f → UsesOnly u (resolved_image i) →
         resolved_image j ≡ mapped_image f (resolved_image i) → AreMatched i j r }
 {}
 
 /// A method or do-it in which names are changed at their places is, once its names are resolved, the one before with the
 /// maps put on it, if what each node reads or assigns means after what it meant before with the maps put on it.
 pub fn law_changed_names()
-    ensures { (f : NameMaps) (to : NewNames) (scope : ScopeOf Name) (before after : MeantAt) → MeaningsAreMapped f to scope before after →
-        resolved_scope after (changed_scope to f.selector scope) ≡ mapped_code f (resolved_scope before scope) }
+    ensures { (f : NameMaps) (c : Name) (to : NewNames) (scope : ScopeOf Name) (before after : MeantAt) → MeaningsAreMapped f c to scope before after →
+        resolved_scope after (changed_scope to f.selector scope) ≡ mapped_code f c (resolved_scope before scope) }
 {}
