@@ -16,3 +16,6 @@ mod Agreeing
 mod Widened
 mod MatchedByMaps
 mod ChangedLemmas
+mod NamesFound
+mod OwnResolved
+mod NamesOfImagesHold

@@ -1,6 +1,6 @@
 -- Maps that are one to one on the names in use, made one to one on all names.
 use Rattle.std.proofs.Common.{◌≡◌, ℕ, suc, ◌+◌, ◌≤◌, ◌<◌, List, [], ◌∷◌, ◌++◌, length, refl, sym, ap, ◌∙◌, arith}
-use Rattle.std.specs.Prelude.{Bool, true, false, ◌||◌, if◌then◌else◌, IsTrue, replicate}
+use Rattle.std.specs.Prelude.{Bool, true, ◌||◌, if◌then◌else◌, IsTrue, replicate}
 use Rattle.std.specs.List.{AllByRecursion, list_any}
 use Rattle.std.proofs.lemmas.Bool.{false≢true}
 use Rattle.scope_model.specs.SpecialNames.{one_block_selectors, two_block_selectors, loop_selectors}
@@ -14,6 +14,7 @@ use Rattle.run_model.proofs.Finite.{by_cases, and-true_right}
 use Rattle.run_model.proofs.RenamingLemmas.{text-same, pair-same, pair-refl}
 use Rattle.mapped_model.specs.NameMaps.{NameMaps, IsOneToOne, IsSameInAllClasses, KeepsWords}
 use Rattle.mapped_model.specs.NamesInUse.{NamesInUse, IsAmong, IsAmongPairs, IsOneToOneOn, IsOneToOneAcross, HasWords}
+use Rattle.mapped_model.proofs.Tests.{or_right}
 use Rattle.mapped_model.proofs.Agreeing.{AgreesOn}
 
 -- a thing that is in use is mapped, and another is taken away from all these
@@ -36,11 +37,6 @@ module _ {X Y : Type 0} (used : X → Bool) (m away : X → Y) where
       (λ t. by_cases (used y)
       (λ u. absurd (new u (sym (widened-in y u) ∙ sym e ∙ ap (λ b. if b then m x else away x) t)))
       (λ u. apart (sym (ap (λ b. if b then m x else away x) t) ∙ e ∙ ap (λ b. if b then m y else away y) u)))
-
--- true with anything
-or_true : (a b : Bool) → b ≡ true → (a || b) ≡ true
-or_true true b e = refl
-or_true false b e = e
 
 -- how long all things are together
 abbrev total : {X : Type 0} → (X → ℕ) → List X → ℕ
@@ -73,7 +69,7 @@ pair-second [] k t = t
 pair-second (j ∷ us) k t =
     by_cases (same_pair k j)
     (λ e. ap (λ b. b || among_seconds us k.1) (and-true_right (text_eq k.0 j.0) (text_eq k.1 j.1) e))
-    (λ e. or_true (text_eq k.1 j.1) (among_seconds us k.1) (pair-second us k (sym (ap (λ b. b || among_pairs us k) e) ∙ t)))
+    (λ e. or_right (text_eq k.1 j.1) (among_seconds us k.1) (pair-second us k (sym (ap (λ b. b || among_pairs us k) e) ∙ t)))
 
 -- a variable of which it is the name
 second-pair : (us : List OfClass) (x : Name) → IsTrue (among_seconds us x) → (k : OfClass) × (k.1 ≡ x) × IsTrue (among_pairs us k)
@@ -81,7 +77,7 @@ second-pair [] x t = absurd (false≢true t)
 second-pair (j ∷ us) x t =
     by_cases (text_eq x j.1)
     (λ e. (j, sym (text-same x j.1 e), ap (λ b. b || among_pairs us j) (pair-refl j)))
-    (λ e. let k = second-pair us x (sym (ap (λ b. b || among_seconds us x) e) ∙ t) in (k.0, k.1, or_true (same_pair k.0 j) (among_pairs us k.0) k.2))
+    (λ e. let k = second-pair us x (sym (ap (λ b. b || among_seconds us x) e) ∙ t) in (k.0, k.1, or_right (same_pair k.0 j) (among_pairs us k.0) k.2))
 
 -- so many zeros
 abbrev zeros : ℕ → Name

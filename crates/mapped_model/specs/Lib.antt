@@ -3,4 +3,5 @@ pub mod MappedImages
 pub mod MappedRuns
 pub mod OwnVariables
 pub mod NamesInUse
+pub mod NamesOfImages
 pub mod ChangedTrees

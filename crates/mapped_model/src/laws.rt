@@ -1,5 +1,6 @@
 // Laws of mapped names. Each function does nothing; its contract is the law, for all images whose names are texts.
 ghost use Rattle.std.specs.Prelude.{◌≡◌, ℕ};
+ghost use Rattle.std.specs.List.{AllByRecursion};
 ghost use Rattle.scope_model.specs.Scope.{ScopeOf};
 ghost use Rattle.image_model.specs.Image.{ImageOf};
 ghost use Rattle.run_model.specs.Values.{Name};
@@ -13,6 +14,7 @@ ghost use Rattle.mapped_model.specs.NameMaps.{NameMaps, IsOneToOne, IsSameInAllC
 ghost use Rattle.mapped_model.specs.MappedImages.{mapped_code, mapped_image};
 ghost use Rattle.mapped_model.specs.MappedRuns.{mapped_run};
 ghost use Rattle.mapped_model.specs.ChangedTrees.{NewNames, changed_scope, MeaningsAreMapped};
+ghost use Rattle.mapped_model.specs.NamesOfImages.{names_in, CallsAsAbove, HasOrderedClasses};
 ghost use Rattle.mapped_model.specs.NamesInUse.{NamesInUse, IsOneToOneOn, IsOneToOneAcross, HasWords, UsesOnly, AreInherited};
 
 /// The run of an image whose names are mapped is the mapped run of the image: with the depth of a run, and with any other.
@@ -45,6 +47,22 @@ pub fn law_matched_by_maps()
     ensures same_in_all_classes { (r : Renaming) (f : NameMaps) (u : NamesInUse) (i j : ImageOf Name) →
         ((c : Name) → f.class c ≡ class_image r c) → ((s : Name) → f.selector s ≡ selector_image r s) →
         IsOneToOneOn u f → IsOneToOneAcross u f → HasWords u → KeepsWords f → IsSameInAllClasses f → UsesOnly u (resolved_image i) →
+        resolved_image j ≡ mapped_image f (resolved_image i) → AreMatched i j r }
+{}
+
+/// An image has no names but those of its lists, and among these are those of which the language itself speaks. Each class
+/// has the variables of its superclass, if the classes of the image have names of their own, none of them empty, and each
+/// superclass stands before its subclasses; so it is matched, up to a renaming, by each image whose resolved names are its
+/// own with maps put on them that are one to one on these lists, and by which a class calls the variables that its
+/// superclass has as that does.
+pub fn law_matched_images()
+    ensures names { (i : ImageOf Name) → UsesOnly (names_in i) (resolved_image i) }
+    ensures words { (i : ImageOf Name) → HasWords (names_in i) }
+    ensures inherited { (f : NameMaps) (i : ImageOf Name) → HasOrderedClasses i → AllByRecursion (CallsAsAbove i f) i.classes →
+        AreInherited (names_in i) f (resolved_image i) }
+    ensures matched { (r : Renaming) (f : NameMaps) (i j : ImageOf Name) →
+        ((c : Name) → f.class c ≡ class_image r c) → ((s : Name) → f.selector s ≡ selector_image r s) →
+        HasOrderedClasses i → IsOneToOneOn (names_in i) f → KeepsWords f → AllByRecursion (CallsAsAbove i f) i.classes →
         resolved_image j ≡ mapped_image f (resolved_image i) → AreMatched i j r }
 {}
 
