@@ -19,3 +19,4 @@ mod ChangedLemmas
 mod NamesFound
 mod OwnResolved
 mod NamesOfImagesHold
+mod ChangedImageLemmas

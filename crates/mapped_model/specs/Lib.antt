@@ -5,3 +5,4 @@ pub mod OwnVariables
 pub mod NamesInUse
 pub mod NamesOfImages
 pub mod ChangedTrees
+pub mod ChangedImages

@@ -15,6 +15,7 @@ ghost use Rattle.mapped_model.specs.MappedImages.{mapped_code, mapped_image};
 ghost use Rattle.mapped_model.specs.MappedRuns.{mapped_run};
 ghost use Rattle.mapped_model.specs.ChangedTrees.{NewNames, changed_scope, MeaningsAreMapped};
 ghost use Rattle.mapped_model.specs.NamesOfImages.{names_in, CallsAsAbove, HasOrderedClasses};
+ghost use Rattle.mapped_model.specs.ChangedImages.{IsChangedImage};
 ghost use Rattle.mapped_model.specs.NamesInUse.{NamesInUse, IsOneToOneOn, IsOneToOneAcross, HasWords, UsesOnly, AreInherited};
 
 /// The run of an image whose names are mapped is the mapped run of the image: with the depth of a run, and with any other.
@@ -71,4 +72,15 @@ pub fn law_matched_images()
 pub fn law_changed_names()
     ensures { (f : NameMaps) (c : Name) (to : NewNames) (scope : ScopeOf Name) (before after : MeantAt) → MeaningsAreMapped f c to scope before after →
         resolved_scope after (changed_scope to f.selector scope) ≡ mapped_code f c (resolved_scope before scope) }
+{}
+
+/// An image in which names are changed at their places, of methods and do-its, and mapped, of classes, is once its names
+/// are resolved the one before with the maps put on it, if what each node reads or assigns means after what it meant
+/// before with the maps put on it. So it matches the one before, as `law_matched_images` says.
+pub fn law_changed_images()
+    ensures resolved { (f : NameMaps) (i j : ImageOf Name) → IsChangedImage f i j → resolved_image j ≡ mapped_image f (resolved_image i) }
+    ensures matched { (r : Renaming) (f : NameMaps) (i j : ImageOf Name) →
+        ((c : Name) → f.class c ≡ class_image r c) → ((s : Name) → f.selector s ≡ selector_image r s) →
+        HasOrderedClasses i → IsOneToOneOn (names_in i) f → KeepsWords f → AllByRecursion (CallsAsAbove i f) i.classes →
+        IsChangedImage f i j → AreMatched i j r }
 {}
