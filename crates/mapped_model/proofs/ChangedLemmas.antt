@@ -5,7 +5,6 @@ use Rattle.image_model.proofs.Lists.{length-map}
 use Rattle.tree_model.specs.Tree.{TreeOf, var, literal, send, cascade, assign, block, brace, return, TreesOf, no_trees, more_trees, MessagesOf, no_messages, more_messages, StatementsOf, no_statements, more_statements}
 use Rattle.tree_model.specs.Path.{append, count, nth, part_at, all_arguments, statement_trees, children}
 use Rattle.scope_model.specs.Scope.{ScopeOf}
-use Rattle.image_model.specs.Uses.{name_used}
 use Rattle.run_model.specs.Values.{Name}
 use Rattle.resolved_model.specs.ResolvedTrees.{reading, sending, cascading, assigning, block_of, brace_of, returning, more_nodes, more_sends, more_lines}
 use Rattle.resolved_model.specs.Resolving.{MeantAt, below, resolved, resolved_trees, resolved_messages, resolved_statements, resolved_scope}
@@ -31,43 +30,43 @@ module _ (f : NameMaps) (owner : Name) where
   count-changed to k (more_trees t ts) = ap (λ c. c + 1) (count-changed to (suc k) ts)
 
   -- what a name means at a path is mapped
-  abbrev At : NewNames → MeantAt → MeantAt → List ℕ → Name → Type 0
-  At to before after path n = IsMappedAt f owner (before path n) n (after path (to path n)) (to path n)
+  abbrev At : NewNames → MeantAt → MeantAt → List ℕ → TreeOf Name → Type 0
+  At to before after path u = IsMappedAt f owner (before path) (after path) (to path) u
 
   -- so it is at each node below a node that reads or assigns a name
   abbrev Below : NewNames → MeantAt → MeantAt → TreeOf Name → Type 0
-  Below to before after t = (path : List ℕ) (u : TreeOf Name) (n : Name) → part_at t path ≡ Some u → name_used u ≡ Some n → At to before after path n
+  Below to before after t = (path : List ℕ) (u : TreeOf Name) → part_at t path ≡ Some u → At to before after path u
 
   -- and at each below nodes to which the steps from k on lead
   abbrev Among : NewNames → MeantAt → MeantAt → TreesOf Name → ℕ → Type 0
-  Among to before after ts k = (j m : ℕ) (path : List ℕ) (u : TreeOf Name) (n : Name) → m ≡ k + j → option_and_then (λ c. part_at c path) (nth ts j) ≡ Some u → name_used u ≡ Some n → At to before after (m ∷ path) n
+  Among to before after ts k = (j m : ℕ) (path : List ℕ) (u : TreeOf Name) → m ≡ k + j → option_and_then (λ c. part_at c path) (nth ts j) ≡ Some u → At to before after (m ∷ path) u
 
   -- the nodes right below a node
   below-children : (to : NewNames) (before after : MeantAt) (t : TreeOf Name) → Below to before after t → Among to before after (children t) 0
-  below-children to before after t h j m path u n e q r =
+  below-children to before after t h j m path u e q =
       let here : j ≡ m = omega (arith, e) in
-      subst (λ x. At to before after (x ∷ path) n) here (h (j ∷ path) u n q r)
+      subst (λ x. At to before after (x ∷ path) u) here (h (j ∷ path) u q)
 
   -- the first of nodes
   first-below : (to : NewNames) (before after : MeantAt) (t : TreeOf Name) (ts : TreesOf Name) (k : ℕ) → Among to before after (more_trees t ts) k → Below (further k to) (below k before) (below k after) t
-  first-below to before after t ts k h path u n q r = h 0 k path u n (omega arith) q r
+  first-below to before after t ts k h path u q = h 0 k path u (omega arith) q
 
   -- the other nodes
   others-below : (to : NewNames) (before after : MeantAt) (t : TreeOf Name) (ts : TreesOf Name) (k : ℕ) → Among to before after (more_trees t ts) k → Among to before after ts (suc k)
-  others-below to before after t ts k h j m path u n e q r = h (suc j) m path u n (omega (arith, e)) q r
+  others-below to before after t ts k h j m path u e q = h (suc j) m path u (omega (arith, e)) q
 
   -- the arguments of the first message
   first-message : (to : NewNames) (before after : MeantAt) (ts us : TreesOf Name) (k : ℕ) → Among to before after (append ts us) k → Among to before after ts k
-  first-message to before after ts us k h j m path u n e q r = h j m path u n e (left-part (λ c. part_at c path) ts us j u q) r
+  first-message to before after ts us k h j m path u e q = h j m path u e (left-part (λ c. part_at c path) ts us j u q)
 
   -- the arguments of the other messages
   other-messages : (to : NewNames) (before after : MeantAt) (ts us : TreesOf Name) (k : ℕ) → Among to before after (append ts us) k → Among to before after us (k + count ts)
-  other-messages to before after ts us k h j m path u n e q r = h (count ts + j) m path u n (omega (arith, e)) (ap (option_and_then (λ c. part_at c path)) (nth-right ts us j) ∙ q) r
+  other-messages to before after ts us k h j m path u e q = h (count ts + j) m path u (omega (arith, e)) (ap (option_and_then (λ c. part_at c path)) (nth-right ts us j) ∙ q)
 
   mutual
     -- a node
     changed-tree : (t : TreeOf Name) (to : NewNames) (before after : MeantAt) → Below to before after t → resolved after (changed to f.selector t) ≡ mapped_tree f owner (resolved before t)
-    changed-tree (var n) to before after h = ap reading (h [] (var n) n refl refl).read
+    changed-tree (var n) to before after h = ap reading ((h [] (var n) refl).read n refl)
     changed-tree (literal l) to before after h = refl
     changed-tree (send r s args) to before after h =
         let k = below-children to before after (send r s args) h in
@@ -77,7 +76,7 @@ module _ (f : NameMaps) (owner : Name) where
         λ i. cascading (changed-tree r (further 0 to) (below 0 before) (below 0 after) (first-below to before after r (all_arguments ms) 0 k) i) (changed-messages ms to before after 1 (others-below to before after r (all_arguments ms) 0 k) i)
     changed-tree (assign n t) to before after h =
         let k = below-children to before after (assign n t) h in
-        λ i. assigning ((h [] (assign n t) n refl refl).assigned i) (changed-tree t (further 0 to) (below 0 before) (below 0 after) (first-below to before after t no_trees 0 k) i)
+        λ i. assigning ((h [] (assign n t) refl).assigned n t refl i) (changed-tree t (further 0 to) (below 0 before) (below 0 after) (first-below to before after t no_trees 0 k) i)
     changed-tree (block ps ts ss e) to before after h =
         λ i. block_of (length-map (to []) ps i) (length-map (to []) ts i) (changed-lines ss to before after 0 (below-children to before after (block ps ts ss e) h) i)
     changed-tree (brace ts) to before after h = ap brace_of (changed-trees ts to before after 0 (below-children to before after (brace ts) h))
@@ -109,5 +108,5 @@ module _ (f : NameMaps) (owner : Name) where
         parameters = length-map (to []) scope.arguments i;
         temporaries = length-map (to []) scope.temporaries i;
         statements = changed-lines scope.statements to before after 0
-            (λ j m path u n e q r. let here : j ≡ m = omega (arith, e) in subst (λ x. At to before after (x ∷ path) n) here (h (j ∷ path) u n q r)) i;
+            (λ j m path u e q. let here : j ≡ m = omega (arith, e) in subst (λ x. At to before after (x ∷ path) u) here (h (j ∷ path) u q)) i;
       }
