@@ -1,6 +1,6 @@
 -- Images whose runs are mapped are matched by a renaming.
 use Rattle.std.proofs.Common.{◌≡◌, ℕ, suc, ◌≤◌, List, [], ◌∷◌, refl, sym, ap, ◌∙◌, arith}
-use Rattle.std.specs.Prelude.{map, get_or, drop}
+use Rattle.std.specs.Prelude.{Bool, map, get_or, drop}
 use Rattle.image_model.specs.Image.{ImageOf}
 use Rattle.run_model.specs.Values.{Name, Atom, nil_atom, true_atom, false_atom, int_atom, char_atom, string_atom, symbol_atom, class_atom, object_atom, array_atom, block_atom, transcript_atom, View, one, items, Event, shown, printed, RunError, does_not_understand, cannot_return, non_boolean, undeclared_name, not_assignable, unsupported, reflective, overflow, divide_by_zero, bad_index, bad_argument, wrong_arity, too_long, user_error, Outcome, done, failed, spent}
 use Rattle.run_model.specs.Runs.{RunOf, run}
@@ -10,16 +10,20 @@ use Rattle.run_model.proofs.MatchedLemmas.{matched-renamed}
 use Rattle.resolved_model.specs.ResolvedImages.{resolved_image}
 use Rattle.resolved_model.specs.ResolvedRuns.{resolved_run}
 use Rattle.resolved_model.proofs.RunLemmas.{run-resolved}
-use Rattle.mapped_model.specs.NameMaps.{NameMaps, IsOneToOne, KeepsWords}
+use Rattle.mapped_model.specs.NameMaps.{NameMaps, IsOneToOne, IsSameInAllClasses, KeepsWords}
 use Rattle.mapped_model.specs.MappedImages.{mapped_image}
 use Rattle.mapped_model.specs.MappedRuns.{mapped_atom, mapped_view, mapped_event, mapped_error, mapped_outcome, mapped_run}
-use Rattle.mapped_model.specs.NamesInUse.{NamesInUse, IsOneToOneOn, HasWords, UsesOnly}
+use Rattle.mapped_model.specs.NamesInUse.{NamesInUse, IsOneToOneOn, IsOneToOneAcross, HasWords, HasInstance, HasClassSide, UsesOnly, AreInherited}
+use Rattle.mapped_model.proofs.Homes.{IsSuited}
+use Rattle.mapped_model.proofs.Suited.{AnyOf, AnyOn, alike-suited, inherited-suited}
 use Rattle.mapped_model.proofs.RunsMapped.{run-after}
-use Rattle.mapped_model.proofs.Widened.{enough, widened, widened-single, widened-words, image-in, widened-agrees}
+use Rattle.mapped_model.proofs.Agreeing.{image-in, inherited-in}
+use Rattle.mapped_model.proofs.Widened.{enough, widened, widened-single, widened-words, widened-on, widened-agrees, widened_alike, alike-words, alike-same, alike-on, alike-single}
 
--- the runs of an image whose resolved names are mapped
-pub run-mapped : (f : NameMaps) (i j : ImageOf Name) (n : ℕ) → IsOneToOne f → KeepsWords f → resolved_image j ≡ mapped_image f (resolved_image i) → run j n ≡ mapped_run f (run i n)
-run-mapped f i j n single keeps e = sym (run-resolved j n) ∙ ap (λ x. resolved_run x n) e ∙ run-after f single keeps (resolved_image i) n ∙ ap (mapped_run f) (run-resolved i n)
+-- the runs of an image whose resolved names are mapped, where what is found suits
+pub run-mapped : (f : NameMaps) (Instance : Name → Name → Type 0) (ClassSide : Name → Bool → Name → Type 0) (i j : ImageOf Name) (n : ℕ) → IsOneToOne f → KeepsWords f → IsSuited f Instance ClassSide (resolved_image i) → resolved_image j ≡ mapped_image f (resolved_image i) → run j n ≡ mapped_run f (run i n)
+run-mapped f Instance ClassSide i j n single keeps suited e =
+    sym (run-resolved j n) ∙ ap (λ x. resolved_run x n) e ∙ run-after f single keeps Instance ClassSide (resolved_image i) suited n ∙ ap (mapped_run f) (run-resolved i n)
 
 -- the name in what is seen of a value
 abbrev atom_name : Atom → Name
@@ -125,12 +129,25 @@ module _ (r : Renaming) (f g : NameMaps) (classes : (c : Name) → f.class c ≡
       agree-list_events es e = agree-list (mapped_event f) (mapped_event g) (renamed_event r) agree-event es e
 
 -- an image is matched by one whose resolved names are its own, mapped one to one on those in use
-pub matched-mapped : (r : Renaming) (f : NameMaps) (u : NamesInUse) (i j : ImageOf Name) → ((c : Name) → f.class c ≡ class_image r c) → ((s : Name) → f.selector s ≡ selector_image r s) → IsOneToOneOn u f → HasWords u → KeepsWords f → UsesOnly u (resolved_image i) → resolved_image j ≡ mapped_image f (resolved_image i) → AreMatched i j r
-matched-mapped r f u i j classes selectors single has keeps uses e =
+pub matched-mapped : (r : Renaming) (f : NameMaps) (u : NamesInUse) (i j : ImageOf Name) → ((c : Name) → f.class c ≡ class_image r c) → ((s : Name) → f.selector s ≡ selector_image r s) → IsOneToOneOn u f → HasWords u → KeepsWords f → UsesOnly u (resolved_image i) → AreInherited u f (resolved_image i) → resolved_image j ≡ mapped_image f (resolved_image i) → AreMatched i j r
+matched-mapped r f u i j classes selectors single has keeps uses inherited e =
     let a = enough u f in
     let after : (n : ℕ) → enough u f ≤ n → (k : ℕ) → run j k ≡ mapped_run (widened u f n) (run i k) =
-    λ n le k. run-mapped (widened u f n) i j k (widened-single u f single n le) (widened-words u f has keeps n) (e ∙ sym (image-in u f n (resolved_image i) uses)) in
+    λ n le k. run-mapped (widened u f n) (HasInstance u) (HasClassSide u) i j k (widened-single u f single n le) (widened-words u f has keeps n)
+    (inherited-suited u (widened u f n) (resolved_image i) uses (inherited-in u f (widened u f n) (widened-on u f n) (resolved_image i).classes inherited)) (e ∙ sym (image-in u f (widened u f n) (widened-on u f n) (resolved_image i) uses)) in
     matched-renamed i j r
     (λ k. agree-run r (widened u f a) (widened u f (suc a))
+    (λ c q. sym (classes c) ∙ sym (widened-agrees u.classes f.class a c q)) (λ s q. sym (selectors s) ∙ sym (widened-agrees u.selectors f.selector a s q))
+    (run i k) (run j k) (after a (omega arith) k) (after (suc a) (omega arith) k))
+
+-- the same where variables are called the same in all classes
+pub matched-alike : (r : Renaming) (f : NameMaps) (u : NamesInUse) (i j : ImageOf Name) → ((c : Name) → f.class c ≡ class_image r c) → ((s : Name) → f.selector s ≡ selector_image r s) → IsOneToOneOn u f → IsOneToOneAcross u f → HasWords u → KeepsWords f → IsSameInAllClasses f → UsesOnly u (resolved_image i) → resolved_image j ≡ mapped_image f (resolved_image i) → AreMatched i j r
+matched-alike r f u i j classes selectors single across has keeps alike uses e =
+    let a = enough u f in
+    let after : (n : ℕ) → enough u f ≤ n → (k : ℕ) → run j k ≡ mapped_run (widened_alike u f n) (run i k) =
+    λ n le k. run-mapped (widened_alike u f n) AnyOf AnyOn i j k (alike-single u f alike single across n le) (alike-words u f has keeps n)
+    (alike-suited (widened_alike u f n) (alike-same u f n) (resolved_image i)) (e ∙ sym (image-in u f (widened_alike u f n) (alike-on u f alike n) (resolved_image i) uses)) in
+    matched-renamed i j r
+    (λ k. agree-run r (widened_alike u f a) (widened_alike u f (suc a))
     (λ c q. sym (classes c) ∙ sym (widened-agrees u.classes f.class a c q)) (λ s q. sym (selectors s) ∙ sym (widened-agrees u.selectors f.selector a s q))
     (run i k) (run j k) (after a (omega arith) k) (after (suc a) (omega arith) k))

@@ -11,20 +11,20 @@ use Rattle.mapped_model.specs.MappedImages.{mapped_tree, mapped_trees, mapped_co
 use Rattle.mapped_model.proofs.Tests.{mapped-word}
 use Rattle.mapped_model.proofs.ValuesMapped.{mapped_value}
 
-module _ (f : NameMaps) where
+module _ (f : NameMaps) (owner : Name) where
   -- a branch
   abbrev pub mapped_branch : ResolvedBranch → ResolvedBranch
-  mapped_branch (runs_code c) = runs_code (mapped_code f c)
+  mapped_branch (runs_code c) = runs_code (mapped_code f owner c)
   mapped_branch (gives_just v) = gives_just (mapped_value f v)
 
   -- a shape
   abbrev pub mapped_shape : ResolvedShape → ResolvedShape
   mapped_shape (chooses_way a b) = chooses_way (mapped_branch a) (mapped_branch b)
-  mapped_shape (repeats sense a b) = repeats sense (mapped_code f a) (mapped_code f b)
+  mapped_shape (repeats sense a b) = repeats sense (mapped_code f owner a) (mapped_code f owner b)
   mapped_shape as_message = as_message
 
   -- a plain block
-  plain-after : (t : ResolvedTree) → plain_code (mapped_tree f t) ≡ option_map (mapped_code f) (plain_code t)
+  plain-after : (t : ResolvedTree) → plain_code (mapped_tree f owner t) ≡ option_map (mapped_code f owner) (plain_code t)
   plain-after (block_of zero ts ss) = refl
   plain-after (block_of (suc p) ts ss) = refl
   plain-after (reading r) = refl
@@ -36,46 +36,46 @@ module _ (f : NameMaps) where
   plain-after (returning t) = refl
 
   -- one plain block
-  one-after : (args : ResolvedTrees) → one_code (mapped_trees f args) ≡ option_map (mapped_code f) (one_code args)
+  one-after : (args : ResolvedTrees) → one_code (mapped_trees f owner args) ≡ option_map (mapped_code f owner) (one_code args)
   one-after no_nodes = refl
   one-after (more_nodes t no_nodes) = plain-after t
   one-after (more_nodes t (more_nodes u us)) = refl
 
   -- the shape by one block that there may be
-  one-shape : (o : Option ResolvedCode) (go : ResolvedCode → ResolvedShape) → ((b : ResolvedCode) → go (mapped_code f b) ≡ mapped_shape (go b)) → unwrap_or (option_map go (option_map (mapped_code f) o)) as_message ≡ mapped_shape (unwrap_or (option_map go o) as_message)
+  one-shape : (o : Option ResolvedCode) (go : ResolvedCode → ResolvedShape) → ((b : ResolvedCode) → go (mapped_code f owner b) ≡ mapped_shape (go b)) → unwrap_or (option_map go (option_map (mapped_code f owner) o)) as_message ≡ mapped_shape (unwrap_or (option_map go o) as_message)
   one-shape (Some b) go h = h b
   one-shape None go h = refl
 
   -- the shape by two blocks that there may be
-  two-shape : (o p : Option ResolvedCode) (go : ResolvedCode → ResolvedCode → ResolvedShape) → ((a b : ResolvedCode) → go (mapped_code f a) (mapped_code f b) ≡ mapped_shape (go a b)) →
-      unwrap_or (option_map (λ (x : ResolvedCode × ResolvedCode). go x.0 x.1) (option_and_then (λ a. option_map (λ b. (a, b)) (option_map (mapped_code f) p)) (option_map (mapped_code f) o))) as_message
+  two-shape : (o p : Option ResolvedCode) (go : ResolvedCode → ResolvedCode → ResolvedShape) → ((a b : ResolvedCode) → go (mapped_code f owner a) (mapped_code f owner b) ≡ mapped_shape (go a b)) →
+      unwrap_or (option_map (λ (x : ResolvedCode × ResolvedCode). go x.0 x.1) (option_and_then (λ a. option_map (λ b. (a, b)) (option_map (mapped_code f owner) p)) (option_map (mapped_code f owner) o))) as_message
       ≡ mapped_shape (unwrap_or (option_map (λ (x : ResolvedCode × ResolvedCode). go x.0 x.1) (option_and_then (λ a. option_map (λ b. (a, b)) p) o)) as_message)
   two-shape (Some a) (Some b) go h = h a b
   two-shape (Some a) None go h = refl
   two-shape None p go h = refl
 
   -- a send with one block
-  with_code-after : (args : ResolvedTrees) (go : ResolvedCode → ResolvedShape) → ((b : ResolvedCode) → go (mapped_code f b) ≡ mapped_shape (go b)) → with_code (mapped_trees f args) go ≡ mapped_shape (with_code args go)
+  with_code-after : (args : ResolvedTrees) (go : ResolvedCode → ResolvedShape) → ((b : ResolvedCode) → go (mapped_code f owner b) ≡ mapped_shape (go b)) → with_code (mapped_trees f owner args) go ≡ mapped_shape (with_code args go)
   with_code-after args go h = ap (λ o. unwrap_or (option_map go o) as_message) (one-after args) ∙ one-shape (one_code args) go h
 
   -- a send with two blocks
-  with_codes-after : (args : ResolvedTrees) (go : ResolvedCode → ResolvedCode → ResolvedShape) → ((a b : ResolvedCode) → go (mapped_code f a) (mapped_code f b) ≡ mapped_shape (go a b)) → with_codes (mapped_trees f args) go ≡ mapped_shape (with_codes args go)
+  with_codes-after : (args : ResolvedTrees) (go : ResolvedCode → ResolvedCode → ResolvedShape) → ((a b : ResolvedCode) → go (mapped_code f owner a) (mapped_code f owner b) ≡ mapped_shape (go a b)) → with_codes (mapped_trees f owner args) go ≡ mapped_shape (with_codes args go)
   with_codes-after no_nodes go h = refl
   with_codes-after (more_nodes t us) go h =
-      ap (λ o. unwrap_or (option_map (λ (x : ResolvedCode × ResolvedCode). go x.0 x.1) (option_and_then (λ a. option_map (λ b. (a, b)) (one_code (mapped_trees f us))) o)) as_message) (plain-after t)
-      ∙ ap (λ p. unwrap_or (option_map (λ (x : ResolvedCode × ResolvedCode). go x.0 x.1) (option_and_then (λ a. option_map (λ b. (a, b)) p) (option_map (mapped_code f) (plain_code t)))) as_message) (one-after us)
+      ap (λ o. unwrap_or (option_map (λ (x : ResolvedCode × ResolvedCode). go x.0 x.1) (option_and_then (λ a. option_map (λ b. (a, b)) (one_code (mapped_trees f owner us))) o)) as_message) (plain-after t)
+      ∙ ap (λ p. unwrap_or (option_map (λ (x : ResolvedCode × ResolvedCode). go x.0 x.1) (option_and_then (λ a. option_map (λ b. (a, b)) p) (option_map (mapped_code f owner) (plain_code t)))) as_message) (one-after us)
       ∙ two-shape (plain_code t) (one_code us) go h
 
   -- a loop
-  with_repeat-after : (r : ResolvedTree) (args : ResolvedTrees) (sense : Bool) → with_repeat (mapped_tree f r) (mapped_trees f args) sense ≡ mapped_shape (with_repeat r args sense)
+  with_repeat-after : (r : ResolvedTree) (args : ResolvedTrees) (sense : Bool) → with_repeat (mapped_tree f owner r) (mapped_trees f owner args) sense ≡ mapped_shape (with_repeat r args sense)
   with_repeat-after r args sense =
-      ap (λ o. unwrap_or (option_map (λ a. with_code (mapped_trees f args) (λ b. repeats sense a b)) o) as_message) (plain-after r)
+      ap (λ o. unwrap_or (option_map (λ a. with_code (mapped_trees f owner args) (λ b. repeats sense a b)) o) as_message) (plain-after r)
       ∙ by (plain_code r)
     where
-      by : (o : Option ResolvedCode) → unwrap_or (option_map (λ a. with_code (mapped_trees f args) (λ b. repeats sense a b)) (option_map (mapped_code f) o)) as_message ≡ mapped_shape (unwrap_or (option_map (λ a. with_code args (λ b. repeats sense a b)) o) as_message)
-      by (Some a) = ap (λ o. unwrap_or (option_map (λ b. repeats sense (mapped_code f a) b) o) as_message) (one-after args) ∙ blocks (one_code args)
+      by : (o : Option ResolvedCode) → unwrap_or (option_map (λ a. with_code (mapped_trees f owner args) (λ b. repeats sense a b)) (option_map (mapped_code f owner) o)) as_message ≡ mapped_shape (unwrap_or (option_map (λ a. with_code args (λ b. repeats sense a b)) o) as_message)
+      by (Some a) = ap (λ o. unwrap_or (option_map (λ b. repeats sense (mapped_code f owner a) b) o) as_message) (one-after args) ∙ blocks (one_code args)
         where
-          blocks : (o : Option ResolvedCode) → unwrap_or (option_map (λ b. repeats sense (mapped_code f a) b) (option_map (mapped_code f) o)) as_message ≡ mapped_shape (unwrap_or (option_map (λ b. repeats sense a b) o) as_message)
+          blocks : (o : Option ResolvedCode) → unwrap_or (option_map (λ b. repeats sense (mapped_code f owner a) b) (option_map (mapped_code f owner) o)) as_message ≡ mapped_shape (unwrap_or (option_map (λ b. repeats sense a b) o) as_message)
           blocks (Some b) = refl
           blocks None = refl
       by None = refl
@@ -89,7 +89,7 @@ module _ (f : NameMaps) where
       by false = q
 
   -- whether a node is `super`
-  pub super-after : (t : ResolvedTree) → reads_super (mapped_tree f t) ≡ reads_super t
+  pub super-after : (t : ResolvedTree) → reads_super (mapped_tree f owner t) ≡ reads_super t
   super-after (reading (of_word n)) = refl
   super-after (reading (of_local k)) = refl
   super-after (reading (of_instance_variable n)) = refl
@@ -112,7 +112,7 @@ module _ (f : NameMaps) where
     word w e s = mapped-word f.selector single.selector w e s
 
     -- the shape of a send
-    pub shape-after : (s : Name) (r : ResolvedTree) (args : ResolvedTrees) → resolved_shape (f.selector s) (mapped_tree f r) (mapped_trees f args) ≡ mapped_shape (resolved_shape s r args)
+    pub shape-after : (s : Name) (r : ResolvedTree) (args : ResolvedTrees) → resolved_shape (f.selector s) (mapped_tree f owner r) (mapped_trees f owner args) ≡ mapped_shape (resolved_shape s r args)
     unfolding resolved_shape
     shape-after s r args =
         if-shape (text_eq s (codes "ifTrue:")) _ _ _ _ _ (word _ keeps.one_block.0 s) (with_code-after args _ (λ b. refl))

@@ -9,14 +9,14 @@ use Rattle.run_model.specs.Store.{Binding, holds, in_cell, Memory, Store, Exit, 
 use Rattle.run_model.specs.Acts.{gives, fails, goes_home, with_memory, tells, pays, ended, out_of_home, stops}
 use Rattle.resolved_model.specs.ResolvedActs.{ResolvedFrame, ResolvedClosure, ResolvedAct, beside, goes_on_with, followed_by, in_home, looks_at, keeps}
 use Rattle.mapped_model.specs.NameMaps.{NameMaps}
-use Rattle.mapped_model.specs.MappedImages.{mapped_code}
+use Rattle.mapped_model.specs.MappedImages.{class_or_none, mapped_code}
 use Rattle.mapped_model.specs.MappedRuns.{mapped_event, mapped_error}
 use Rattle.mapped_model.proofs.ValuesMapped.{mapped_value, mapped_heap}
 
 module _ (f : NameMaps) where
   -- a class-instance variable of a class
   abbrev pub mapped_side : Name × Name → Name × Name
-  mapped_side k = (f.class k.0, f.class_side k.1)
+  mapped_side k = (f.class k.0, f.class_side k)
 
   -- a memory
   abbrev pub mapped_memory : Memory → Memory
@@ -44,7 +44,7 @@ module _ (f : NameMaps) where
 
   -- a closure
   abbrev pub mapped_closure : ResolvedClosure → ResolvedClosure
-  mapped_closure c = record { code = mapped_code f c.code; frame = mapped_frame c.frame }
+  mapped_closure c = record { code = mapped_code f (class_or_none c.frame.home.class) c.code; frame = mapped_frame c.frame }
 
   -- an exit
   abbrev pub mapped_exit : Exit → Exit
@@ -137,7 +137,7 @@ module _ (f : NameMaps) where
   returned-by h k v s false = refl
 
   -- what comes out of a home
-  home-by : (h : ℕ) (x : Result Value) → out_of_home h (mapped_end (mapped_value f) x) ≡ mapped_end (mapped_value f) (out_of_home h x)
+  pub home-by : (h : ℕ) (x : Result Value) → out_of_home h (mapped_end (mapped_value f) x) ≡ mapped_end (mapped_value f) (out_of_home h x)
   home-by h (fine v s) = refl
   home-by h (leaves (returns k v) s) = returned-by h k v s (nat_eq k h)
   home-by h (leaves (ends_by e) s) = refl

@@ -10,6 +10,11 @@ use Rattle.run_model.specs.Store.{value_of, with_value, same_pair}
 use Rattle.run_model.proofs.Finite.{by_cases}
 use Rattle.run_model.proofs.RenamingLemmas.{text-same, pair-same, pair-refl}
 
+-- true with anything
+pub or_right : (a b : Bool) → b ≡ true → (a || b) ≡ true
+or_right true b e = refl
+or_right false b e = e
+
 -- a test of equality after one-to-one changes
 test-mapped : {X : Type 0} (same : X → X → Bool) → ((x y : X) → same x y ≡ true → x ≡ y) → ((x : X) → same x x ≡ true) → (g : X → X) → ((x y : X) → g x ≡ g y → x ≡ y) → (x y : X) → same (g x) (g y) ≡ same x y
 test-mapped same eq rf g one x y =

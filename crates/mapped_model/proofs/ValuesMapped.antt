@@ -21,7 +21,7 @@ module _ (f : NameMaps) where
 
   -- an object
   abbrev pub mapped_object : Object → Object
-  mapped_object o = record { class = f.class o.class; fields = map (λ e. (f.instance e.0, mapped_value e.1)) o.fields }
+  mapped_object o = record { class = f.class o.class; fields = map (λ e. (f.instance (o.class, e.0), mapped_value e.1)) o.fields }
 
   -- a heap
   abbrev pub mapped_heap : Heap → Heap

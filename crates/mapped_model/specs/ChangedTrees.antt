@@ -3,7 +3,6 @@ use Rattle.std.specs.Prelude.{◌≡◌, ℕ, suc, ◌+◌, List, [], ◌∷◌,
 use Rattle.tree_model.specs.Tree.{TreeOf, var, literal, send, cascade, assign, block, brace, return, TreesOf, no_trees, more_trees, MessagesOf, no_messages, more_messages, StatementsOf, no_statements, more_statements}
 use Rattle.tree_model.specs.Path.{count, part_among, statement_trees}
 use Rattle.scope_model.specs.Scope.{ScopeOf}
-use Rattle.image_model.specs.Uses.{name_used}
 use Rattle.run_model.specs.Values.{Name}
 use Rattle.resolved_model.specs.Resolving.{Meant, MeantAt, reference_of, target_of}
 use Rattle.mapped_model.specs.NameMaps.{NameMaps}
@@ -52,13 +51,12 @@ changed_scope to selector s = record {
   statements = changed_statements to selector 0 s.statements;
 }
 
--- what a name means after, and its place, are what it meant before with the maps put on it: where it is read, and where it is assigned
-pub record IsMappedAt (f : NameMaps) (before : Meant) (n : Name) (after : Meant) (m : Name) : Type 0 where
-  pub read : reference_of after.meaning after.place m ≡ mapped_reference f (reference_of before.meaning before.place n)
-  pub assigned : target_of after.meaning after.place m ≡ mapped_target f (target_of before.meaning before.place n)
+-- in code of a class, what the name of a node means after, and its place, are what it meant before with the maps put on it: where the node reads it, and where the node assigns it
+pub record IsMappedAt (f : NameMaps) (c : Name) (before after : Name → Meant) (to : Name → Name) (t : TreeOf Name) : Type 0 where
+  pub read : (n : Name) → t ≡ var n → reference_of (after (to n)).meaning (after (to n)).place (to n) ≡ mapped_reference f c (reference_of (before n).meaning (before n).place n)
+  pub assigned : (n : Name) (u : TreeOf Name) → t ≡ assign n u → target_of (after (to n)).meaning (after (to n)).place (to n) ≡ mapped_target f c (target_of (before n).meaning (before n).place n)
 
--- so it is at each node of a scope that reads or assigns a name
-abbrev pub MeaningsAreMapped : NameMaps → NewNames → ScopeOf Name → MeantAt → MeantAt → Type 0
-MeaningsAreMapped f to scope before after =
-    (path : List ℕ) (t : TreeOf Name) (n : Name) → part_among (statement_trees scope.statements) path ≡ Some t → name_used t ≡ Some n →
-    IsMappedAt f (before path n) n (after path (to path n)) (to path n)
+-- so it is at each node of a scope
+abbrev pub MeaningsAreMapped : NameMaps → Name → NewNames → ScopeOf Name → MeantAt → MeantAt → Type 0
+MeaningsAreMapped f c to scope before after =
+    (path : List ℕ) (t : TreeOf Name) → part_among (statement_trees scope.statements) path ≡ Some t → IsMappedAt f c (before path) (after path) (to path) t
