@@ -20,3 +20,4 @@ mod NamesFound
 mod OwnResolved
 mod NamesOfImagesHold
 mod ChangedImageLemmas
+mod RenamedVariableLemmas

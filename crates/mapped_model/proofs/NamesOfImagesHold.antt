@@ -75,7 +75,7 @@ module _ (i : ImageOf Name) where
       (λ e. let rest = own-pair kind d n c ns (sym (ap (λ b. b || list_any (same_pair (d, n)) (map (λ y. (c.name, y)) ns)) e) ∙ t) in (rest.0, or_right (text_eq n x) (list_any (text_eq n) ns) rest.1))
 
   -- a variable of a class is one of its chain
-  pair-out : (kind : VariableKind) (d n : Name) (cs : List (ClassOf Name)) → IsTrue (list_any (same_pair (d, n)) (flat_map (variables_with i kind) cs)) → IsAmong (variables_along i kind d) n
+  pub pair-out : (kind : VariableKind) (d n : Name) (cs : List (ClassOf Name)) → IsTrue (list_any (same_pair (d, n)) (flat_map (variables_with i kind) cs)) → IsAmong (variables_along i kind d) n
   pair-out kind d n [] t = absurd (false≢true t)
   pair-out kind d n (c ∷ cs) t =
       any-either (same_pair (d, n)) (variables_with i kind c) (flat_map (variables_with i kind) cs) t
@@ -104,7 +104,7 @@ module _ (i : ImageOf Name) where
         less q = omega (arith, q)
 
     -- the chain of a class is it, and then the chain of its superclass
-    chain-step : (j : ℕ) (c : ClassOf Name) → slice_get i.classes j ≡ Some c → chain text_eq i.classes (Some c.name) ≡ c ∷ chain text_eq i.classes c.superclass
+    pub chain-step : (j : ℕ) (c : ClassOf Name) → slice_get i.classes j ≡ Some c → chain text_eq i.classes (Some c.name) ≡ c ∷ chain text_eq i.classes c.superclass
     chain-step j c e = ap (chain_from text_eq i.classes) (named-found i.classes ordered.distinct j c e) ∙ chain_from-step text_eq text_eq-refl i.classes ordered.before j c e
 
     -- what the superclass of a class has, the class has

@@ -6,3 +6,4 @@ pub mod NamesInUse
 pub mod NamesOfImages
 pub mod ChangedTrees
 pub mod ChangedImages
+pub mod RenamedVariables

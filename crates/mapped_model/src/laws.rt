@@ -3,6 +3,7 @@ ghost use Rattle.std.specs.Prelude.{◌≡◌, ℕ};
 ghost use Rattle.std.specs.List.{AllByRecursion};
 ghost use Rattle.scope_model.specs.Scope.{ScopeOf};
 ghost use Rattle.image_model.specs.Image.{ImageOf};
+ghost use Rattle.image_model.specs.Means.{of_instance, of_class_side};
 ghost use Rattle.run_model.specs.Values.{Name};
 ghost use Rattle.run_model.specs.Runs.{run};
 ghost use Rattle.run_model.specs.Renamings.{Renaming, class_image, selector_image};
@@ -16,6 +17,7 @@ ghost use Rattle.mapped_model.specs.MappedRuns.{mapped_run};
 ghost use Rattle.mapped_model.specs.ChangedTrees.{NewNames, changed_scope, MeaningsAreMapped};
 ghost use Rattle.mapped_model.specs.NamesOfImages.{names_in, CallsAsAbove, HasOrderedClasses};
 ghost use Rattle.mapped_model.specs.ChangedImages.{IsChangedImage};
+ghost use Rattle.mapped_model.specs.RenamedVariables.{MayBeRenamed, with_instance_renamed, with_class_side_renamed};
 ghost use Rattle.mapped_model.specs.NamesInUse.{NamesInUse, IsOneToOneOn, IsOneToOneAcross, HasWords, UsesOnly, AreInherited};
 
 /// The run of an image whose names are mapped is the mapped run of the image: with the depth of a run, and with any other.
@@ -83,4 +85,16 @@ pub fn law_changed_images()
         ((c : Name) → f.class c ≡ class_image r c) → ((s : Name) → f.selector s ≡ selector_image r s) →
         HasOrderedClasses i → IsOneToOneOn (names_in i) f → KeepsWords f → AllByRecursion (CallsAsAbove i f) i.classes →
         IsChangedImage f i j → AreMatched i j r }
+{}
+
+/// An image is matched, with classes and selectors as they are, by each in which an instance variable or a class-instance
+/// variable of one class is renamed, in it and in the classes below, and all else is called as before. The superclass of
+/// the class has no variable of the old name, and neither the class nor one below has one of the new name.
+pub fn law_renamed_variable()
+    ensures instance { (r : Renaming) (i j : ImageOf Name) (c old new : Name) →
+        ((d : Name) → class_image r d ≡ d) → ((s : Name) → selector_image r s ≡ s) → HasOrderedClasses i →
+        MayBeRenamed i of_instance c old new → IsChangedImage (with_instance_renamed i c old new) i j → AreMatched i j r }
+    ensures class_side { (r : Renaming) (i j : ImageOf Name) (c old new : Name) →
+        ((d : Name) → class_image r d ≡ d) → ((s : Name) → selector_image r s ≡ s) → HasOrderedClasses i →
+        MayBeRenamed i of_class_side c old new → IsChangedImage (with_class_side_renamed i c old new) i j → AreMatched i j r }
 {}

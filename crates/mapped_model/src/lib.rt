@@ -5,5 +5,6 @@
 mod laws;
 
 pub use laws::{
-    law_changed_images, law_changed_names, law_mapped_runs, law_matched_by_maps, law_matched_images,
+    law_changed_images, law_changed_names, law_mapped_runs, law_matched_by_maps,
+    law_matched_images, law_renamed_variable,
 };
