@@ -9,7 +9,7 @@ folder=$(mktemp -d)
 trap 'rm -rf "$folder"' EXIT
 ticks=${1:-10000000}
 
-# A chain of ten classes with one method each, and a counter at its foot.
+# A chain of ten classes with one method each, and at its foot two more: one sets a class variable of the uppermost class, one goes ever deeper.
 awk 'BEGIN {
     above = "Object"
     for (n = 1; n <= 10; n++) {
@@ -17,7 +17,7 @@ awk 'BEGIN {
         printf "!C%d methodsFor: '"'b'"'!\nm%d: x\n\t| t |\n\tt := x + 1.\n\tv%d := t.\n\t^t! !\n", n, n, n
         above = "C" n
     }
-    printf "!C10 methodsFor: '"'b'"'!\nvalueAt: x\n\tS1 := x.\n\t^self! !\n"
+    printf "!C10 methodsFor: '"'b'"'!\nvalueAt: x\n\tS1 := x.\n\t^self!\n\ndown: x\n\t^self down: x + 1! !\n"
 }' > "$folder/image.st"
 
 while IFS='|' read -r name expression; do
@@ -33,5 +33,6 @@ shared|| c | c := C10 new. [true] whileTrue: [c valueAt: 1]
 blocks|| b i | b := [:x | x + 1]. i := 0. [true] whileTrue: [i := b value: i]
 closures|| i | i := 0. [true] whileTrue: [i := [:x | x + 1] value: i]
 deep|| b | b := nil. b := [:n | b value: n + 1]. b value: 0
+deeper|C10 new down: 0
 texts|| s | s := 'abc'. [true] whileTrue: [s = 'abd']
 END
