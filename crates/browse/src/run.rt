@@ -63,7 +63,10 @@ fn run_expression(
 {
     let mut image = image;
     match add_doit(alloc, expression, &mut image) {
-        Ok(()) => print_run(alloc, &image, budget, out),
+        Ok(()) => {
+            image.reindex()?;
+            print_run(alloc, &image, budget, out)
+        }
         Err(fault) => {
             push_expression_refusal(alloc, fault, out)?;
             Ok(Status::ScriptText)
