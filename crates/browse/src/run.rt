@@ -49,21 +49,20 @@ fn print_run(alloc: Global, image: &Image, budget: u32, out: &mut Text) -> Resul
     Ok(status_of(&report.outcome))
 }
 
-/// The answer to an expression.
+/// The answer to an expression, which is put behind the do-its of the image.
 fn run_expression(
     alloc: Global,
-    image: Image,
+    image: &mut Image,
     expression: &[u8],
     budget: u32,
     out: &mut Text,
 ) -> Result<Status, Memory>
-    requires orderly { IsOrderly image }
+    requires orderly { IsOrderly image.old }
     requires empty { out.old ≡ [] }
-    ensures { IfOk result (λ status. RunsIn (image_of image) expression.now budget status out.new) }
+    ensures { IfOk result (λ status. RunsIn (image_of image.old) expression.now budget status out.new) }
 {
-    let mut image = image;
-    match add_doit(alloc, expression, &mut image) {
-        Ok(()) => print_run(alloc, &image, budget, out),
+    match add_doit(alloc, expression, image) {
+        Ok(()) => print_run(alloc, image, budget, out),
         Err(fault) => {
             push_expression_refusal(alloc, fault, out)?;
             Ok(Status::ScriptText)
@@ -83,7 +82,10 @@ fn run_text(
     ensures { IfOk result (λ status. Runs text.now expression.now budget status out.new) }
 {
     match read_image(alloc, text) {
-        Ok(image) => run_expression(alloc, image, expression, budget, out),
+        Ok(image) => {
+            let mut image = image;
+            run_expression(alloc, &mut image, expression, budget, out)
+        }
         Err(ImageFault::Refused { chunk, at, cause }) => {
             push_image_refusal(alloc, chunk, at, cause, out)?;
             Ok(Status::ImageText)
