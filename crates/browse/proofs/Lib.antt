@@ -1,3 +1,4 @@
+pub mod Outcomes
 pub mod Loading
 pub mod OneAnswer
 pub mod Judging

@@ -31,13 +31,19 @@ fn status_of(outcome: &Outcome) -> Status
     }
 }
 
-/// Runs the image and appends what is printed of the run.
-fn print_run(alloc: Global, image: &Image, budget: u32, out: &mut Text) -> Result<Status, Memory>
-    requires orderly { IsOrderly image.now }
+/// Runs the image, of which classes and methods are found by tables then, and appends what is printed of the run.
+fn print_run(
+    alloc: Global,
+    image: &mut Image,
+    budget: u32,
+    out: &mut Text,
+) -> Result<Status, Memory>
+    requires orderly { IsOrderly image.old }
     requires empty { out.old ≡ [] }
-    ensures status { IfOk result (λ status. status ≡ status_of (runs.run (image_of image.now) budget).outcome) }
-    ensures text { OnOk result (out.new ≡ runs.printed_run (image_of image.now) budget) }
+    ensures status { IfOk result (λ status. status ≡ status_of (runs.run (image_of image.old) budget).outcome) }
+    ensures text { OnOk result (out.new ≡ runs.printed_run (image_of image.old) budget) }
 {
+    image.reindex()?;
     let report = st_interp::run(alloc, image, budget)?;
     write_run(
         alloc,
@@ -49,24 +55,20 @@ fn print_run(alloc: Global, image: &Image, budget: u32, out: &mut Text) -> Resul
     Ok(status_of(&report.outcome))
 }
 
-/// The answer to an expression.
+/// The answer to an expression, which is put behind the do-its of the image.
 fn run_expression(
     alloc: Global,
-    image: Image,
+    image: &mut Image,
     expression: &[u8],
     budget: u32,
     out: &mut Text,
 ) -> Result<Status, Memory>
-    requires orderly { IsOrderly image }
+    requires orderly { IsOrderly image.old }
     requires empty { out.old ≡ [] }
-    ensures { IfOk result (λ status. RunsIn (image_of image) expression.now budget status out.new) }
+    ensures { IfOk result (λ status. RunsIn (image_of image.old) expression.now budget status out.new) }
 {
-    let mut image = image;
-    match add_doit(alloc, expression, &mut image) {
-        Ok(()) => {
-            image.reindex()?;
-            print_run(alloc, &image, budget, out)
-        }
+    match add_doit(alloc, expression, image) {
+        Ok(()) => print_run(alloc, image, budget, out),
         Err(fault) => {
             push_expression_refusal(alloc, fault, out)?;
             Ok(Status::ScriptText)
@@ -86,7 +88,10 @@ fn run_text(
     ensures { IfOk result (λ status. Runs text.now expression.now budget status out.new) }
 {
     match read_image(alloc, text) {
-        Ok(image) => run_expression(alloc, image, expression, budget, out),
+        Ok(image) => {
+            let mut image = image;
+            run_expression(alloc, &mut image, expression, budget, out)
+        }
         Err(ImageFault::Refused { chunk, at, cause }) => {
             push_image_refusal(alloc, chunk, at, cause, out)?;
             Ok(Status::ImageText)

@@ -13,4 +13,4 @@ returns-in_ok-write_image-in-Ok c =
 pub returns-in_ok-push_image_refusal-in-Err-Refused : goal.returns-in_ok-push_image_refusal-in-Err-Refused
 returns-in_ok-push_image_refusal-in-Err-Refused c =
     let told = refusal_told c.args.text.now c.in-Err-Refused.chunk c.in-Err-Refused.at c.in-Err-Refused.cause c.push_image_refusal.new.out (rw c.in-Err-Refused.field-0-is at c.in-Err-Refused.ensures.err) c.in_ok-push_image_refusal-in-Err-Refused.ensures in
-    Refused told.0 told.1.0 refl told.1.1
+    Refused told.0 told.1 refl told.2

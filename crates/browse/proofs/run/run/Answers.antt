@@ -5,5 +5,5 @@ use Rattle.browse.proofs.run.run.Goals as goal
 pub returns-in-Ok-clause-answered : goal.returns-in-Ok-clause-answered
 returns-in-Ok-clause-answered g c =
     let loaded = rw c.in-Ok.is at c.in_ok-bytes.ensures.loaded in
-    let answered = rw c.as_slice.ensures.value at c.run_text.ensures in
+    let answered = rw (c.as_slice.ensures.value, c.as_bytes.ensures.value) at c.run_text.ensures in
     IfOk-weaker c.run_text.result _ _ (λ status done. Given _ loaded.0 done) answered
