@@ -1,4 +1,4 @@
-use Rattle.std.proofs.Common.{◌≡◌, ◌++◌, ◌∙◌, refl, ap, List, ℕ}
+use Rattle.std.proofs.Common.{◌++◌, ◌∙◌, refl, ap, List, ℕ}
 use Rattle.class_table.specs.View.{image_of}
 use Rattle.file_model.specs.Written.{file_of}
 use Rattle.browse.specs.Answers.{Formatted, Refused}
