@@ -2,11 +2,7 @@
 # Makes large file-outs in a folder of its own and times `format` of the built program on each (./build makes it). It is no test:
 # it prints, for each input, its bytes, the status, the seconds of processor time and the greatest memory in megabytes.
 set -eu
-top=$(cd "$(dirname "$0")/.." && pwd)
-program=$top/crates/browse_program/out/browse_program
-[ -x "$program" ] || { echo "bench: build the program first: ./build" >&2; exit 1; }
-folder=$(mktemp -d)
-trap 'rm -rf "$folder"' EXIT
+. "$(dirname "$0")/program.sh"
 most=4194304
 
 # A class with methods of ordinary code, over and over, up to 4 MB.

@@ -2,11 +2,7 @@
 # Times `run` of the built program over loops that take all the ticks that a run may have (./build makes the program). It is no test: it
 # prints, for each loop, the status, the seconds of processor time, the nanoseconds a tick and the greatest memory in megabytes.
 set -eu
-top=$(cd "$(dirname "$0")/.." && pwd)
-program=$top/crates/browse_program/out/browse_program
-[ -x "$program" ] || { echo "bench: build the program first: ./build" >&2; exit 1; }
-folder=$(mktemp -d)
-trap 'rm -rf "$folder"' EXIT
+. "$(dirname "$0")/program.sh"
 ticks=${1:-10000000}
 
 # A chain of ten classes with one method each, and at its foot two more: one sets a class variable of the uppermost class, one goes ever deeper.
