@@ -1,10 +1,7 @@
 -- The examples are as the definitions have them.
-use Rattle.std.proofs.Common.{◌≡◌, List, [], ◌∷◌, Result, map, refl}
+use Rattle.std.proofs.Common.{◌≡◌, List, [], ◌∷◌, map, refl}
 use Rattle.scope_model.specs.SpecialNames.{is_pseudo_variable}
 use Rattle.st_kernel.specs.Selectors.{is_reserved_selector}
-use Rattle.image_model.specs.Image.{ImageOf}
-use Rattle.file_model.specs.Causes.{Cause}
-use Rattle.file_model.specs.Filing.{Text}
 use Rattle.file_model.specs.Written.{file_of}
 use Rattle.file_model.specs.Examples.{Row, result_of, AllMade, accepted, refusals, written_image, written_text}
 

@@ -5,7 +5,7 @@ use Rattle.tree_model.specs.Tree.{MethodOf}
 use Rattle.image_model.specs.Image.{ClassOf, EntryOf, ImageOf}
 use Rattle.image_model.specs.Lookup.{is_method}
 use Rattle.file_model.specs.Causes.{Cause, unless}
-use Rattle.file_model.specs.Changes.{DefinitionOf, ChangeOf, Define, Comment, SetClassSide, RemoveMethod, RemoveClass, RunOf}
+use Rattle.file_model.specs.Changes.{DefinitionOf, ChangeOf, Define, DefineAt, Comment, SetClassSide, RemoveMethod, RemoveClass, RunOf}
 use Rattle.file_model.specs.Hierarchy.{has_class, settled}
 use Rattle.file_model.specs.Refusals.{has_method, definition_refusals, comment_refusals, class_side_refusals, removal_refusals, class_removal_refusals, method_refusals}
 
@@ -68,6 +68,9 @@ abbrev pub changed : {N : Type 0} → (N → N → Bool) → Bool → ChangeOf N
 changed same kernel (Define d) i =
     unless (definition_refusals same i.classes d (with_definition same kernel d i.classes))
     (record i { classes = defined same kernel d i.classes })
+changed same kernel (DefineAt d k) i =
+    unless (definition_refusals same i.classes d (with_definition same kernel d i.classes))
+    (record i { classes = with_definition same kernel d i.classes })
 changed same kernel (Comment n text) i =
     unless (comment_refusals same i.classes n) (record i { classes = with_comment same n text i.classes })
 changed same kernel (SetClassSide n names) i =

@@ -14,6 +14,8 @@ pub record DefinitionOf (N : Type 0) : Type 0 where
 pub data ChangeOf (N : Type 0) : Type 0 where
   -- a class is defined, for the first time or again
   Define : DefinitionOf N → ChangeOf N
+  -- a class is defined, for the first time or again, and a place is stated for it; the order of classes stays
+  DefineAt : DefinitionOf N → ℕ → ChangeOf N
   -- a class has another comment
   Comment : N → List ℕ → ChangeOf N
   -- a class has other class-instance variables
@@ -22,6 +24,15 @@ pub data ChangeOf (N : Type 0) : Type 0 where
   RemoveMethod : N → Bool → N → ChangeOf N
   -- a class is removed with its methods
   RemoveClass : N → ChangeOf N
+
+-- the same change, with a place stated for the class that it defines
+abbrev pub stated_at : {N : Type 0} → ℕ → ChangeOf N → ChangeOf N
+stated_at k (Define d) = DefineAt d k
+stated_at k (DefineAt d j) = DefineAt d k
+stated_at k (Comment n t) = Comment n t
+stated_at k (SetClassSide n ns) = SetClassSide n ns
+stated_at k (RemoveMethod c meta s) = RemoveMethod c meta s
+stated_at k (RemoveClass n) = RemoveClass n
 
 -- the methods that follow are of this class, this side and this protocol
 pub record RunOf (N : Type 0) : Type 0 where
@@ -42,6 +53,7 @@ map_definition f d = record {
 -- the same change with each name changed
 abbrev pub map_change : {M N : Type 0} → (M → N) → ChangeOf M → ChangeOf N
 map_change f (Define d) = Define (map_definition f d)
+map_change f (DefineAt d k) = DefineAt (map_definition f d) k
 map_change f (Comment c t) = Comment (f c) t
 map_change f (SetClassSide c ns) = SetClassSide (f c) (map f ns)
 map_change f (RemoveMethod c meta s) = RemoveMethod (f c) meta (f s)

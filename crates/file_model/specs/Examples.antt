@@ -1,15 +1,16 @@
 -- Some chunks, one after the other, and the image that they make or the cause of their refusal, as file-outs have them.
-use Rattle.std.specs.Prelude.{◌≡◌, ℕ, List, [], ◌∷◌, ◌++◌, replicate, flat_map, Bool, true, false, codes, Option, Some, None, Result, Ok, Err}
+use Rattle.std.specs.Prelude.{◌≡◌, List, [], ◌∷◌, ◌++◌, replicate, flat_map, Bool, true, false, codes, Some, None, Result, Ok, Err}
 use Rattle.std.specs.Result.{result_map_both}
 use Rattle.token_model.specs.declared.kind.Dialect.{Dialect}
 use Rattle.token_model.specs.declared.kind.Dialect.TheVariants.{First, Second}
 use Rattle.tree_model.specs.Tree.{str, symbol, TreeOf, var, literal, send, trees_of, no_trees, no_statements, more_statements, SequenceOf, MethodOf}
-use Rattle.grammar_model.specs.Checks.{Fault, TooDeep}
+use Rattle.grammar_model.specs.Checks.{TooDeep}
 use Rattle.image_model.specs.Image.{ClassOf, EntryOf, DoItOf, ImageOf}
 use Rattle.file_model.specs.Causes.{Cause, UnknownSuperclass, Cycle, VariableTwice, KernelReplaced, UnknownClass, TooMany, PoolsNotEmpty, UnknownDefinition, Syntax}
-use Rattle.file_model.specs.Changes.{RunOf}
 use Rattle.file_model.specs.Forms.{definition_selector}
-use Rattle.file_model.specs.Filing.{Text, Filing, Item, Blank, DoItChunk, MethodChunk, Faulty, taken}
+use Rattle.file_model.specs.Places.{placed}
+use Rattle.rb_base.specs.Names.{text_eq}
+use Rattle.file_model.specs.Filing.{Text, Filing, begun, Item, Blank, DoItChunk, MethodChunk, Faulty, taken}
 
 -- what is left to take, once a chunk is taken
 abbrev pub and_then : (Filing → Result Filing Cause) → Result Filing Cause → Result Filing Cause
@@ -35,8 +36,8 @@ row d i xs r = record { dialect = d; before = i; chunks = xs; after = r }
 -- what the chunks of a row make by the definition
 abbrev pub result_of : Row → Result (ImageOf Text) Cause
 result_of r =
-    result_map_both (λ (f : Filing). f.image) (λ cause. cause)
-    (all_taken r.dialect r.chunks (record { image = r.before; run = None; at_head = true }))
+    result_map_both (λ (f : Filing). placed text_eq f.places f.image) (λ cause. cause)
+    (all_taken r.dialect r.chunks (begun r.before))
 
 -- each row is as the definition has it
 abbrev pub AllMade : List Row → Type 0

@@ -1,5 +1,5 @@
 -- Which images are valid and fileable: those that file-outs are texts of.
-use Rattle.std.specs.Prelude.{◌≡◌, ◌≢◌, ℕ, List, [], Bool, false, IsTrue}
+use Rattle.std.specs.Prelude.{◌≡◌, ◌≢◌, ℕ, List, [], false, IsTrue}
 use Rattle.token_model.specs.declared.kind.Dialect.{Dialect}
 use Rattle.tree_model.specs.Tree.{SequenceOf}
 use Rattle.chunk_format.specs.Blank.{HasNoLeadingBlank}

@@ -1,14 +1,17 @@
 -- What a chunk outside a run of methods says, judged by the tree that it spells.
-use Rattle.std.specs.Prelude.{ℕ, List, [], ◌∷◌, Bool, true, false, not, ◌&&◌, ◌||◌, if◌then◌else◌, codes, Option, Some, None}
-use Rattle.std.specs.Option.{option_map, option_map_or}
+use Rattle.std.specs.Prelude.{ℕ, List, [], ◌∷◌, Bool, true, false, not, nat_eq, ◌&&◌, if◌then◌else◌, codes, Option, Some, None}
+use Rattle.std.specs.List.{starts_with}
+use Rattle.std.specs.Option.{option_map, option_map_or, option_and_then}
 use Rattle.rb_base.specs.Names.{text_eq}
 use Rattle.token_model.specs.declared.kind.Dialect.{Dialect}
 use Rattle.token_model.specs.declared.kind.Dialect.TheVariants.{First, Second}
 use Rattle.tree_model.specs.Tree.{LiteralOf, number, str, symbol, char, array, bytes, word, TreeOf, var, literal, send, cascade, assign, block, brace, return, TreesOf, no_trees, more_trees, StatementsOf, no_statements, more_statements, SequenceOf}
+use Rattle.run_model.specs.Numbers.{numeral_integer}
 use Rattle.st_kernel.specs.Selectors.{is_reserved_selector}
 use Rattle.file_model.specs.Words.{words_of, may_name, may_name_all, is_blank_string}
 use Rattle.file_model.specs.Causes.{Cause, PoolsNotEmpty, UnknownDefinition, when, first_cause}
-use Rattle.file_model.specs.Changes.{ChangeOf, Define, Comment, SetClassSide, RemoveMethod, RemoveClass, RunOf}
+use Rattle.file_model.specs.Changes.{ChangeOf, Define, Comment, SetClassSide, RemoveMethod, RemoveClass, stated_at, RunOf}
+use Rattle.file_model.specs.Numerals.{place_in}
 
 -- What a chunk says.
 pub data Form : Type 0 where
@@ -18,18 +21,23 @@ pub data Form : Type 0 where
   Changes : ChangeOf (List ℕ) → Form
   -- methods follow
   Opens : RunOf (List ℕ) → Form
+  -- methods follow, and a place is stated for the first of them
+  OpensAt : RunOf (List ℕ) → ℕ → Form
+  -- methods and classes go to the places that were stated for them
+  Settles : Form
   -- it is refused, whatever was read before
   Refuses : Cause → Form
 
--- An argument of a message: a symbol, a string, or anything else.
+-- An argument of a message: a symbol, a string, a numeral, or anything else.
 pub data Argument : Type 0 where
   Symbol : List ℕ → Argument
   String : List ℕ → Argument
+  Numeral : List ℕ → Argument
   Other : Argument
 
 -- a literal as an argument
 abbrev pub argument_of_literal : LiteralOf (List ℕ) → Argument
-argument_of_literal (number t) = Other
+argument_of_literal (number t) = Numeral t
 argument_of_literal (str t) = String t
 argument_of_literal (symbol t) = Symbol t
 argument_of_literal (char b) = Other
@@ -160,6 +168,35 @@ abbrev pub subclass_form : Bool → List ℕ → Bool → Option DefinitionStrin
 subclass_form kernel p false (Some d) = definition_form kernel p d
 subclass_form kernel p meta o = no_form
 
+-- the strings of a definition and the numeral behind them
+pub record PlacedStrings : Type 0 where
+  pub strings : DefinitionStrings
+  pub numeral : List ℕ
+
+-- those of the arguments, where they are such
+abbrev pub placed_strings : List Argument → Option PlacedStrings
+placed_strings (Symbol n ∷ String i ∷ String s ∷ String p ∷ String k ∷ Numeral t ∷ []) =
+    Some (record { strings = record { name = n; instance = i; shared = s; pools = p; category = k }; numeral = t })
+placed_strings xs = None
+
+-- a place is stated for the class that is defined
+abbrev pub at_place : ℕ → Form → Form
+at_place k Evaluates = Evaluates
+at_place k (Changes c) = Changes (stated_at k c)
+at_place k (Opens r) = Opens r
+at_place k (OpensAt r j) = OpensAt r j
+at_place k Settles = Settles
+at_place k (Refuses cause) = Refuses cause
+
+-- a definition of a class under another at the place that a numeral states
+abbrev pub placed_form : Bool → List ℕ → PlacedStrings → Form
+placed_form kernel p x = option_map_or (λ k. at_place k (definition_form kernel p x.strings)) (place_in x.numeral) no_form
+
+-- `P subclass: #N instanceVariableNames: '..' classVariableNames: '..' poolDictionaries: '..' category: '..' at: n`
+abbrev pub placed_subclass_form : Bool → List ℕ → Bool → Option PlacedStrings → Form
+placed_subclass_form kernel p false (Some x) = placed_form kernel p x
+placed_subclass_form kernel p meta o = no_form
+
 -- `N comment: '..'`
 abbrev pub comment_form : List ℕ → Bool → Argument → Form
 comment_form n false (String t) = Changes (Comment n t)
@@ -169,6 +206,11 @@ comment_form n meta x = no_form
 abbrev pub run_form : List ℕ → Bool → Argument → Form
 run_form n meta (String t) = Opens (record { class = n; meta = meta; protocol = t })
 run_form n meta x = no_form
+
+-- `N methodsFor: '..' at: n` and `N class methodsFor: '..' at: n`
+abbrev pub placed_run_form : List ℕ → Bool → List Argument → Form
+placed_run_form n meta (String t ∷ Numeral k ∷ []) = option_map_or (OpensAt (record { class = n; meta = meta; protocol = t })) (place_in k) no_form
+placed_run_form n meta xs = no_form
 
 -- `N removeSelector: #s` and `N class removeSelector: #s`
 abbrev pub removal_form : List ℕ → Bool → Argument → Form
@@ -204,13 +246,62 @@ other_form n meta s x =
     else if is_reserved_selector s then no_form
     else Evaluates
 
+-- the selector of a definition with a place
+abbrev pub placed_definition_selector : List ℕ
+placed_definition_selector = codes "subclass:instanceVariableNames:classVariableNames:poolDictionaries:category:at:"
+
+-- whether a message is one to `Smalltalk`
+abbrev pub is_to_system : Sent → Bool
+is_to_system m = not m.meta && text_eq m.class (codes "Smalltalk")
+
+-- whether a message is one to `Smalltalk` by which a do-it is replaced, by its first keyword
+abbrev pub replaces_doit : Sent → Bool
+replaces_doit m = is_to_system m && starts_with nat_eq m.selector (codes "replaceDoIt:")
+
+-- what a message says that neither defines a class without a place nor sets variables; a do-it is not replaced by what it says but as a chunk, so here such a message is in no form
+abbrev pub further_form : Bool → Sent → Form
+further_form kernel m =
+    if text_eq m.selector placed_definition_selector then placed_subclass_form kernel m.class m.meta (placed_strings m.arguments)
+    else if text_eq m.selector (codes "methodsFor:at:") then placed_run_form m.class m.meta m.arguments
+    else if is_to_system m && text_eq m.selector (codes "settlePlaces") then Settles
+    else if replaces_doit m then no_form
+    else other_form m.class m.meta m.selector (the_argument m.arguments)
+
 -- what a message to a class says
 abbrev pub sent_form : Dialect → Bool → Sent → Form
 sent_form d kernel m =
     if text_eq m.selector definition_selector then subclass_form kernel m.class m.meta (definition_strings m.arguments)
     else if text_eq m.selector (codes "instanceVariableNames:") then class_side_form d m.class m.meta (the_argument m.arguments)
-    else other_form m.class m.meta m.selector (the_argument m.arguments)
+    else further_form kernel m
 
 -- what a chunk says that spells this tree, in the text of the kernel or in a user's; what is no such message is a do-it
 abbrev pub form_of : Dialect → Bool → SequenceOf (List ℕ) → Form
 form_of d kernel b = option_map_or (sent_form d kernel) (sent_of b b.temporaries) Evaluates
+
+-- the do-it of a number, counted from 1 and spelled by a numeral, gets another source
+pub record Replacement : Type 0 where
+  pub numeral : List ℕ
+  pub source : List ℕ
+
+-- the replacement that arguments state: an integer and a string
+abbrev pub stated_replacement : List Argument → Option Replacement
+stated_replacement (Numeral t ∷ String s ∷ []) = option_map (λ z. record { numeral = t; source = s }) (numeral_integer t)
+stated_replacement xs = None
+
+-- the replacement that a message to `Smalltalk` states
+abbrev pub replacement_sent : Sent → Option Replacement
+replacement_sent m =
+    if is_to_system m && text_eq m.selector (codes "replaceDoIt:with:") then stated_replacement m.arguments else None
+
+-- `Smalltalk replaceDoIt: n with: '..'`
+abbrev pub replacement_in : SequenceOf (List ℕ) → Option Replacement
+replacement_in b = option_and_then replacement_sent (sent_of b b.temporaries)
+
+-- whether a chunk that says this is a do-it
+abbrev pub is_doit : Form → Bool
+is_doit Evaluates = true
+is_doit (Changes c) = false
+is_doit (Opens r) = false
+is_doit (OpensAt r k) = false
+is_doit Settles = false
+is_doit (Refuses cause) = false

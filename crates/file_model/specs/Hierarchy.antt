@@ -1,9 +1,9 @@
 -- Which classes stand above and below a class, and the order of classes.
-use Rattle.std.specs.Prelude.{ℕ, zero, suc, List, [], ◌∷◌, ◌++◌, length, filter, find, Bool, true, false, not, ◌||◌, if◌then◌else◌, is_some, Option, Some}
+use Rattle.std.specs.Prelude.{ℕ, zero, suc, List, [], ◌∷◌, ◌++◌, length, filter, find, Bool, true, false, ◌||◌, if◌then◌else◌, is_some, Some}
 use Rattle.std.specs.List.{list_any, flat_map}
 use Rattle.std.specs.Option.{option_map_or}
 use Rattle.image_model.specs.Image.{ClassOf}
-use Rattle.image_model.specs.Chain.{class_named, chain_from, chain}
+use Rattle.image_model.specs.Chain.{class_named, chain_from}
 use Rattle.image_model.specs.Means.{VariableKind, variables}
 
 -- whether there is a class of a name

@@ -1,10 +1,12 @@
 pub mod Words
 pub mod Causes
 pub mod Changes
+pub mod Numerals
 pub mod Forms
 pub mod Hierarchy
 pub mod Refusals
 pub mod Applied
+pub mod Places
 pub mod Filing
 pub mod Reading
 pub mod Written

@@ -1,6 +1,5 @@
 -- When a chunk that is in a form is refused: the conditions in the order in which they are judged.
 use Rattle.std.specs.Prelude.{ℕ, List, [], ◌∷◌, length, Bool, false, not, ◌&&◌, ◌||◌, ◌==◌, nat_le, is_some}
-use Rattle.std.specs.List.{list_any}
 use Rattle.std.specs.Option.{option_map_or}
 use Rattle.image_model.specs.Image.{ClassOf, EntryOf, ImageOf}
 use Rattle.image_model.specs.Chain.{chain}

@@ -1,5 +1,5 @@
 -- Names in the strings of a file-out.
-use Rattle.std.specs.Prelude.{ℕ, List, [], ◌∷◌, filter, length, Bool, not, ◌&&◌, ◌||◌, ◌==◌, codes}
+use Rattle.std.specs.Prelude.{ℕ, List, filter, length, Bool, not, ◌&&◌, ◌||◌, ◌==◌, codes}
 use Rattle.std.specs.List.{slice_split, list_all}
 use Rattle.rb_base.specs.Names.{text_eq}
 use Rattle.chunk_format.specs.Blank.{is_blank}

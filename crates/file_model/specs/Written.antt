@@ -1,7 +1,6 @@
 -- The text of an image, as a file-out.
 use Rattle.std.specs.Prelude.{ℕ, List, [], ◌∷◌, ◌++◌, filter, take, drop, length, Bool, not, ◌&&◌, ◌==◌, if◌then◌else◌, codes, flat_map, unwrap_or, Option, Some, None}
 use Rattle.std.specs.Bool.{beq}
-use Rattle.std.specs.Option.{option_map_or}
 use Rattle.rb_base.specs.Names.{text_eq}
 use Rattle.rb_base.specs.Doubling.{doubled}
 use Rattle.text_model.specs.Pieces.{pieces_joined}
