@@ -1,22 +1,25 @@
 -- What the first dialect reads, the second reads alike.
 use Rattle.std.proofs.Common.{◌≡◌, ◌⊎◌, inl, inr, ℕ, Bool, true, false, not, cond, List, [], ◌∷◌, length, filter, Option, Some, None, Result, Ok, Err, refl, sym, ap, ◌∙◌, true≢false}
-use Rattle.std.specs.Prelude.{◌==◌, ◌&&◌, if◌then◌else◌, codes}
+use Rattle.std.specs.Prelude.{◌==◌, ◌&&◌, ◌||◌, if◌then◌else◌, codes}
 use Rattle.std.specs.List.{list_all, slice_split, onto_first}
 use Rattle.std.specs.Option.{option_map_or}
 use Rattle.rb_base.specs.Names.{text_eq}
 use Rattle.token_model.specs.declared.kind.Dialect.TheVariants.{First, Second}
 use Rattle.tree_model.specs.Tree.{SequenceOf}
-use Rattle.chunk_format.specs.Blank.{is_blank}
+use Rattle.chunk_format.specs.Blank.{is_blank, blank_len}
 use Rattle.chunk_format.specs.Chunks.{Piece}
 use Rattle.chunk_format.specs.declared.chunk_iter.Unended.{Unended as NoEnd}
 use Rattle.grammar_model.proofs.Dialects.{doit_second, method_second}
 use Rattle.image_model.specs.Image.{ImageOf, DoItOf}
 use Rattle.file_model.specs.Words.{may_name, words_of, is_blank_string, may_name_all}
-use Rattle.file_model.specs.Causes.{Cause, UnknownDefinition, Syntax}
+use Rattle.file_model.specs.Causes.{Cause, UnknownDefinition, when, unless, Syntax}
 use Rattle.file_model.specs.Changes.{RunOf, SetClassSide}
-use Rattle.file_model.specs.Forms.{Argument, Symbol, String, Other, Form, Evaluates, Changes, no_form, Sent, sent_of, definition_selector, definition_strings, the_argument, subclass_form, class_side_form, other_form, sent_form, form_of}
-use Rattle.file_model.specs.Filing.{Text, Filing, Item, Blank, DoItChunk, MethodChunk, Faulty, form_taken, taken}
-use Rattle.file_model.specs.Reading.{IsItem, Empty, DoItRead, DoItFault, MethodRead, MethodFault, Takes, TakesAll, Over, Taken, ReadsText, IsImageOf}
+use Rattle.file_model.specs.Forms.{Argument, Symbol, String, Numeral, Other, Form, Evaluates, Changes, no_form, Sent, sent_of, definition_selector, definition_strings, the_argument, subclass_form, class_side_form, further_form, sent_form, form_of, is_doit}
+use Rattle.file_model.specs.Filing.{Text, Filing, Item, Blank, DoItChunk, ReplacementChunk, MethodChunk, Faulty, goes_on, form_taken, has_doit, replacement_refusals, with_replaced, taken}
+use Rattle.file_model.specs.Reading.{IsItem, Empty, DoItRead, ReplacementRead, ReplacementFault, DoItFault, MethodRead, MethodFault, Takes, TakesAll, Over, Taken, ReadsText, IsImageOf}
+use Rattle.file_model.specs.Places.{opened_at}
+use Rattle.file_laws.proofs.Refused.{allowed}
+use Rattle.file_laws.proofs.Taking.{not_false}
 
 -- a string of blanks has no words
 pub no_words : (s : List ℕ) → list_all is_blank s ≡ true → filter (λ (w : List ℕ). not (length w == 0)) (slice_split is_blank s) ≡ []
@@ -40,9 +43,11 @@ class_side_either n true (String s) = by (is_blank_string s) refl
     by true e = inl (ap (λ (t : Bool). if t then Changes (SetClassSide n (words_of s)) else no_form) (e ∙ sym (names_of_blanks s e)))
     by false e = inr (ap (λ (t : Bool). if t then Changes (SetClassSide n (words_of s)) else no_form) e)
 class_side_either n true (Symbol s) = inl refl
+class_side_either n true (Numeral s) = inl refl
 class_side_either n true Other = inl refl
 class_side_either n false (String s) = inl refl
 class_side_either n false (Symbol s) = inl refl
+class_side_either n false (Numeral s) = inl refl
 class_side_either n false Other = inl refl
 
 -- messages to classes in both dialects
@@ -53,7 +58,7 @@ sent_either kernel m = by (text_eq m.selector definition_selector) (text_eq m.se
     first = subclass_form kernel m.class m.meta (definition_strings m.arguments)
 
     last : Form
-    last = other_form m.class m.meta m.selector (the_argument m.arguments)
+    last = further_form kernel m
 
     by : (a b : Bool) → (class_side_form First m.class m.meta (the_argument m.arguments) ≡ class_side_form Second m.class m.meta (the_argument m.arguments)) ⊎ (class_side_form First m.class m.meta (the_argument m.arguments) ≡ no_form)
         → ((if a then first else (if b then class_side_form First m.class m.meta (the_argument m.arguments) else last)) ≡ (if a then first else (if b then class_side_form Second m.class m.meta (the_argument m.arguments) else last)))
@@ -86,11 +91,26 @@ taken_alike kernel f g (DoItChunk source b) e = by (form_either kernel b)
       where
         differ : ◌≡◌ {A = Result Filing Cause} (Ok g) (Err UnknownDefinition) → ⊥
         differ h = cc
+taken_alike kernel f g (ReplacementChunk r b) e = by (form_either kernel b)
+  where
+    new : Filing
+    new = goes_on (opened_at None f.places) None (with_replaced f.image r.numeral (record { source = r.source; body = b }))
+
+    by : (form_of First kernel b ≡ form_of Second kernel b) ⊎ (form_of First kernel b ≡ no_form) → Ok g ≡ unless (replacement_refusals Second kernel f.image r b) (goes_on (opened_at None f.places) None (with_replaced f.image r.numeral (record { source = r.source; body = b })))
+    by (inl same) =
+        e
+        ∙ ap (λ (x : Form). unless (when (not (has_doit f.image r.numeral)) UnknownDefinition ∷ when (length r.source == 0 || not (blank_len r.source == 0)) UnknownDefinition ∷ when (not (is_doit x)) UnknownDefinition ∷ []) (goes_on (opened_at None f.places) None (with_replaced f.image r.numeral (record { source = r.source; body = b })))) same
+    by (inr none) = absurd (true≢false (sym (not_false (is_doit (form_of First kernel b)) (allowed (replacement_refusals First kernel f.image r b) new g (sym e)).none.1.1.0) ∙ ap is_doit none))
 
 -- what is read in the first dialect is read alike in the second
 item_alike : (kernel : Bool) (f g : Filing) (run : Option (RunOf Text)) (source : Text) (x : Item) → IsItem First kernel run source x → Ok g ≡ taken First kernel f x → IsItem Second kernel run source x
 item_alike kernel f g run source x Empty e = Empty
-item_alike kernel f g run source x (DoItRead n s) e = DoItRead n (doit_second source _ s)
+item_alike kernel f g run source x (DoItRead n s none) e = DoItRead n (doit_second source _ s) none
+item_alike kernel f g run source x (ReplacementRead {r = r} n s states t) e = ReplacementRead n (doit_second source _ s) states (doit_second r.source _ t)
+item_alike kernel f g run source x (ReplacementFault {fault = fault} n s states h) e = absurd (differ e)
+  where
+    differ : ◌≡◌ {A = Result Filing Cause} (Ok g) (Err (Syntax fault)) → ⊥
+    differ k = cc
 item_alike kernel f g run source x (DoItFault {fault = fault} n h) e = absurd (differ e)
   where
     differ : ◌≡◌ {A = Result Filing Cause} (Ok g) (Err (Syntax fault)) → ⊥

@@ -1,11 +1,9 @@
 -- What stays true of an image while the chunks of a user's file-out are read.
-use Rattle.std.proofs.Common.{◌≡◌, ◌≢◌, ◌⊎◌, inl, inr, ◌<◌, Bool, true, false, not, cond, List, [], ◌∷◌, ◌++◌, length, map, filter, find, Option, Some, None, Ok, Contains, refl, sym, ap, subst, ◌∙◌, true≢false, arith}
+use Rattle.std.proofs.Common.{◌≡◌, ◌<◌, Bool, true, false, not, cond, List, [], ◌∷◌, ◌++◌, length, map, filter, find, Option, Some, None, Ok, Contains, refl, sym, ap, subst, ◌∙◌, true≢false, arith}
 use Rattle.std.specs.Prelude.{◌&&◌, ◌||◌, ◌==◌, ◌↔◌, is_some, if◌then◌else◌, IsTrue, codes}
 use Rattle.std.specs.List.{AllByRecursion}
 use Rattle.std.specs.Option.{option_map_or}
 use Rattle.std.specs.List.Sorted.{IsPermutation}
-use Rattle.std.proofs.Math.Dec.{eqb}
-use Rattle.std.proofs.lemmas.Bool.Decides.{eqb_tells}
 use Rattle.std.proofs.lemmas.List.{map-append}
 use Rattle.std.proofs.lemmas.List.Elements.{Contains-append_left}
 use Rattle.std.proofs.lemmas.List.Sorted.{IsPermutation-map, Contains-permutation}
@@ -19,26 +17,27 @@ use Rattle.image_model.specs.Replaced.{KeepsHierarchy}
 use Rattle.image_model.specs.Valid.{HasNoRepeat, HasClass, SuperclassesStandBefore, DefinesOnceOnChain, class_names}
 use Rattle.image_model.specs.Words.{text_words}
 use Rattle.image_model.proofs.ChainLemmas.{slice_get-map}
-use Rattle.image_model.proofs.Ends.{contains-place, place-contains, filter-end}
+use Rattle.image_model.proofs.Ends.{contains-place, place-contains}
 use Rattle.file_model.specs.Causes.{Condition, when, first_cause, KernelReplaced, UnknownSuperclass, Cycle, VariableTwice, TooMany, UnknownClass}
-use Rattle.file_model.specs.Changes.{DefinitionOf, ChangeOf, Define, Comment, SetClassSide, RemoveMethod, RemoveClass, RunOf}
+use Rattle.file_model.specs.Changes.{DefinitionOf, ChangeOf, Define, DefineAt, Comment, SetClassSide, RemoveMethod, RemoveClass, RunOf}
 use Rattle.file_model.specs.Filing.{Text}
 use Rattle.file_model.specs.Hierarchy.{has_class, is_kernel_class, has_subclass, has_repeat, stands_twice, settled}
 use Rattle.file_model.specs.Refusals.{lacks_superclass, makes_cycle, is_one_class_too_many, is_kernel_method, is_one_method_too_many, has_method, definition_refusals, comment_refusals, class_side_refusals, removal_refusals, class_removal_refusals, method_refusals}
 use Rattle.file_model.specs.Applied.{new_class, class_again, changed_class, with_definition, with_comment, with_class_side, defined, without_class, without_method, is_of_class, changed, entry_in, with_method, method_added}
-use Rattle.file_laws.specs.Settling.{IsTakenInTurn}
+use Rattle.file_laws.specs.Orders.{unplaced}
 use Rattle.file_laws.proofs.Beside.{all_changed, changed_beside, new_beside}
 use Rattle.file_laws.proofs.Chains.{or_false, once_tested, once_checked, once_moved, once_kept, once_without, stays_at}
-use Rattle.file_laws.proofs.KernelOrder.{of_kernel, kernel_settled}
-use Rattle.file_laws.proofs.KernelPart.{is_of_kernel, unfiltered, filter_without, filter_replaced, user_classes, user_methods, user_class_methods, kernel_with_method}
+use Rattle.file_laws.proofs.KernelClasses.{kernel_changed}
+use Rattle.file_laws.proofs.KernelOrder.{of_kernel}
+use Rattle.file_laws.proofs.KernelPart.{is_of_kernel, filter_without, user_classes, user_methods, user_class_methods, kernel_with_method}
 use Rattle.file_laws.proofs.Methods.{IsOnce, once_changed, once_added}
 use Rattle.file_laws.proofs.Moves.{text_equal, All-weaker}
-use Rattle.file_laws.proofs.Named.{MayName, IsNamed, IsGoodDefinition, IsGood, all_moved, not_false, named_changed, hierarchy_kept}
+use Rattle.file_laws.proofs.Named.{MayName, IsNamed, IsGoodDefinition, IsGood, all_moved, named_changed, hierarchy_kept}
 use Rattle.file_laws.proofs.Redefined.{again_settled, name_at_place, stands_place}
-use Rattle.file_laws.proofs.Refused.{first_none, second_none, third_none, unless_none}
+use Rattle.file_laws.proofs.Refused.{first_none, second_none, third_none, unless_none, unless_ok}
+use Rattle.file_laws.proofs.Taking.{not_false}
 use Rattle.file_laws.proofs.Repeats.{names_changed, there_stands}
-use Rattle.file_laws.proofs.Settled.{turn_of}
-use Rattle.file_laws.proofs.Sound.{unless_ok, All-filter, All-last, All-replaced}
+use Rattle.file_laws.proofs.Sound.{All-filter, All-last, All-replaced}
 
 -- a class without a superclass is `Object`, no other one is, and it is one of the kernel
 pub record IsRight (c : ClassOf Text) : Type 0 where
@@ -64,15 +63,14 @@ pub record IsKept (k i : ImageOf Text) : Type 0 where
   pub kernel_methods : filter is_of_kernel i.methods ≡ k.methods
 
 -- what is known of the classes alone
-pub record IsKeptClasses (kernel cs : List (ClassOf Text)) : Type 0 where
+pub record IsKeptClasses (cs : List (ClassOf Text)) : Type 0 where
   pub right : AllByRecursion IsRight cs
   pub instance : AllByRecursion (DefinesOnceOnChain text_eq cs of_instance) cs
   pub class_side : AllByRecursion (DefinesOnceOnChain text_eq cs of_class_side) cs
   pub shared : AllByRecursion (λ (c : ClassOf Text). HasNoRepeat c.shared) cs
-  pub kernel_classes : filter of_kernel cs ≡ kernel
 
-classes_kept : (k i : ImageOf Text) → IsKept k i → IsKeptClasses k.classes i.classes
-classes_kept k i h = record { right = h.right; instance = h.instance; class_side = h.class_side; shared = h.shared; kernel_classes = h.kernel_classes }
+classes_kept : (k i : ImageOf Text) → IsKept k i → IsKeptClasses i.classes
+classes_kept k i h = record { right = h.right; instance = h.instance; class_side = h.class_side; shared = h.shared }
 
 -- a fact of each class and another of it
 both : (P Q : ClassOf Text → Type 0) (cs : List (ClassOf Text)) → AllByRecursion P cs → AllByRecursion Q cs → AllByRecursion (λ (c : ClassOf Text). P c × Q c) cs
@@ -84,11 +82,11 @@ pub there_contains : (cs : List (ClassOf Text)) (n : Text) → has_class text_eq
 there_contains cs n h = let place = stands_place text_eq text_eq-refl text_equal n cs (there_stands text_eq text_eq-refl text_equal cs n h) in place-contains (class_names cs) place.0 n place.2
 
 -- the classes of methods are there where as many names are
-homes_kept : (cs ds : List (ClassOf Text)) (ms : List (EntryOf Text)) → ((n : Text) → Contains (class_names cs) n → Contains (class_names ds) n) → AllByRecursion (HasClass cs) ms → AllByRecursion (HasClass ds) ms
+pub homes_kept : (cs ds : List (ClassOf Text)) (ms : List (EntryOf Text)) → ((n : Text) → Contains (class_names cs) n → Contains (class_names ds) n) → AllByRecursion (HasClass cs) ms → AllByRecursion (HasClass ds) ms
 homes_kept cs ds ms wider homes = All-weaker (HasClass cs) (HasClass ds) ms (λ m h. (h.0, h.1, wider h.0 h.2)) homes
 
 -- a definition of a class that is not one of the kernel
-module _ (kernel : List (ClassOf Text)) (kernel_before : SuperclassesStandBefore kernel) (x : DefinitionOf Text) (good : IsGoodDefinition x) (i : ImageOf Text) (named : IsNamed i) (h : IsKeptClasses kernel i.classes) (none : first_cause (definition_refusals text_eq i.classes x (with_definition text_eq false x i.classes)) ≡ None) where
+module _ (x : DefinitionOf Text) (good : IsGoodDefinition x) (i : ImageOf Text) (named : IsNamed i) (h : IsKeptClasses i.classes) (none : first_cause (definition_refusals text_eq i.classes x (with_definition text_eq false x i.classes)) ≡ None) where
   abbrev mid : List (ClassOf Text)
   mid = with_definition text_eq false x i.classes
 
@@ -165,7 +163,7 @@ module _ (kernel : List (ClassOf Text)) (kernel_before : SuperclassesStandBefore
     put : mid ≡ again
     put = ap (λ (b : Bool). if b then again else i.classes ++ new_class false x ∷ []) there
 
-    again_kept : IsKeptClasses kernel again
+    again_kept : IsKeptClasses again
     again_kept = record {
       right = all_changed IsRight x.name (class_again x) i.classes (each i.classes h.right users);
       instance = once_checked x.name again i.classes (changed_beside x.name (class_again x) (λ c. refl) i.classes named.before there) of_instance h.instance
@@ -173,7 +171,6 @@ module _ (kernel : List (ClassOf Text)) (kernel_before : SuperclassesStandBefore
       class_side = once_checked x.name again i.classes (changed_beside x.name (class_again x) (λ c. refl) i.classes named.before there) of_class_side h.class_side
           (subst (λ (cs : List (ClassOf Text)). stands_twice text_eq cs of_class_side x.name ≡ false) put nothing_twice.1);
       shared = all_changed (λ (c : ClassOf Text). HasNoRepeat c.shared) x.name (class_again x) i.classes (lists i.classes h.shared);
-      kernel_classes = filter_replaced of_kernel (λ (c : ClassOf Text). text_eq x.name c.name) (class_again x) (λ c. refl) i.classes (All-weaker _ _ i.classes (λ c user same. inl (user same)) users) ∙ h.kernel_classes;
     }
       where
         each : (cs : List (ClassOf Text)) → AllByRecursion IsRight cs → AllByRecursion (λ (c : ClassOf Text). text_eq x.name c.name ≡ true → of_kernel c ≡ false) cs → AllByRecursion (λ (c : ClassOf Text). IsRight c × (text_eq x.name c.name ≡ true → IsRight (class_again x c))) cs
@@ -184,11 +181,8 @@ module _ (kernel : List (ClassOf Text)) (kernel_before : SuperclassesStandBefore
         lists [] all = tt
         lists (c ∷ cs) all = ((all.0, (λ same. once_tested x.shared nothing_twice.2)), lists cs all.1)
 
-    mid_kept : IsKeptClasses kernel mid
-    mid_kept = subst (IsKeptClasses kernel) (sym put) again_kept
-
-    in_order : defined text_eq false x i.classes ≡ settled text_eq mid
-    in_order = ap (λ (b : Bool). if b then settled text_eq mid else mid) there
+    mid_kept : IsKeptClasses mid
+    mid_kept = subst IsKeptClasses (sym put) again_kept
 
     mid_distinct : HasNoRepeat (class_names mid)
     mid_distinct = subst (λ (cs : List (ClassOf Text)). HasNoRepeat (class_names cs)) (sym put) (subst HasNoRepeat (sym (names_changed text_eq text_eq-refl text_equal x.name (class_again x) (λ c. refl) i.classes)) named.distinct)
@@ -196,13 +190,12 @@ module _ (kernel : List (ClassOf Text)) (kernel_before : SuperclassesStandBefore
     moved : IsPermutation mid (defined text_eq false x i.classes)
     moved = (again_settled text_eq text_eq-refl text_equal i.classes x good.above false (record { before = named.before; distinct = named.distinct; there = there; under = good.under; above_there = above_there; no_cycle = no_cycle })).same
 
-    again_defined : HasNoRepeat (class_names (defined text_eq false x i.classes)) → IsKeptClasses kernel (defined text_eq false x i.classes)
+    again_defined : HasNoRepeat (class_names (defined text_eq false x i.classes)) → IsKeptClasses (defined text_eq false x i.classes)
     again_defined still = record {
       right = all_moved IsRight mid (defined text_eq false x i.classes) moved mid_kept.right;
       instance = once_moved mid (defined text_eq false x i.classes) moved mid_distinct still of_instance mid_kept.instance;
       class_side = once_moved mid (defined text_eq false x i.classes) moved mid_distinct still of_class_side mid_kept.class_side;
       shared = all_moved (λ (c : ClassOf Text). HasNoRepeat c.shared) mid (defined text_eq false x i.classes) moved mid_kept.shared;
-      kernel_classes = ap (filter of_kernel) in_order ∙ kernel_settled mid (subst (IsTakenInTurn text_eq []) (sym mid_kept.kernel_classes) (turn_of text_eq text_eq-refl text_equal [] kernel kernel_before)) ∙ mid_kept.kernel_classes;
     }
 
     again_names : (n : Text) → Contains (class_names i.classes) n → Contains (class_names (defined text_eq false x i.classes)) n
@@ -220,7 +213,7 @@ module _ (kernel : List (ClassOf Text)) (kernel_before : SuperclassesStandBefore
     defined_last : defined text_eq false x i.classes ≡ more
     defined_last = ap (λ (b : Bool). if b then settled text_eq mid else mid) fresh ∙ last
 
-    new_defined : IsKeptClasses kernel more
+    new_defined : IsKeptClasses more
     new_defined = record {
       right = All-last IsRight i.classes (new_class false x) h.right (new_right fresh);
       instance = once_checked x.name more i.classes (new_beside (new_class false x) i.classes named.before) of_instance h.instance
@@ -228,7 +221,6 @@ module _ (kernel : List (ClassOf Text)) (kernel_before : SuperclassesStandBefore
       class_side = once_checked x.name more i.classes (new_beside (new_class false x) i.classes named.before) of_class_side h.class_side
           (subst (λ (cs : List (ClassOf Text)). stands_twice text_eq cs of_class_side x.name ≡ false) last nothing_twice.1);
       shared = All-last (λ (c : ClassOf Text). HasNoRepeat c.shared) i.classes (new_class false x) h.shared (once_tested x.shared nothing_twice.2);
-      kernel_classes = filter-end of_kernel i.classes (new_class false x) refl ∙ h.kernel_classes;
     }
 
     new_names : (n : Text) → Contains (class_names i.classes) n → Contains (class_names more) n
@@ -236,12 +228,12 @@ module _ (kernel : List (ClassOf Text)) (kernel_before : SuperclassesStandBefore
         subst (λ (ns : List Text). Contains ns n) (sym (map-append (λ (c : ClassOf Text). c.name) i.classes (new_class false x ∷ []))) (Contains-append_left (class_names i.classes) (x.name ∷ []) n has)
 
   -- the classes with the definition, in order
-  pub definition_kept : HasNoRepeat (class_names (defined text_eq false x i.classes)) → IsKeptClasses kernel (defined text_eq false x i.classes)
+  pub definition_kept : HasNoRepeat (class_names (defined text_eq false x i.classes)) → IsKeptClasses (defined text_eq false x i.classes)
   definition_kept still = by (has_class text_eq i.classes x.name) refl
     where
-      by : (b : Bool) → has_class text_eq i.classes x.name ≡ b → IsKeptClasses kernel (defined text_eq false x i.classes)
+      by : (b : Bool) → has_class text_eq i.classes x.name ≡ b → IsKeptClasses (defined text_eq false x i.classes)
       by true there = again_defined there still
-      by false fresh = subst (IsKeptClasses kernel) (sym (defined_last fresh)) (new_defined fresh)
+      by false fresh = subst IsKeptClasses (sym (defined_last fresh)) (new_defined fresh)
 
   pub definition_names : (n : Text) → Contains (class_names i.classes) n → Contains (class_names (defined text_eq false x i.classes)) n
   definition_names n has = by (has_class text_eq i.classes x.name) refl
@@ -250,16 +242,15 @@ module _ (kernel : List (ClassOf Text)) (kernel_before : SuperclassesStandBefore
       by true there = again_names there n has
       by false fresh = subst (λ (cs : List (ClassOf Text)). Contains (class_names cs) n) (sym (defined_last fresh)) (new_names fresh n has)
 
--- a comment of a class that is not one of the kernel
-comment_kept : (kernel : List (ClassOf Text)) (n t : Text) (cs : List (ClassOf Text)) → HasNoRepeat (class_names cs) → is_kernel_class text_eq cs n ≡ false → IsKeptClasses kernel cs → IsKeptClasses kernel (with_comment text_eq n t cs)
-comment_kept kernel n t cs distinct user h =
+-- another comment of a class
+comment_kept : (n t : Text) (cs : List (ClassOf Text)) → IsKeptClasses cs → IsKeptClasses (with_comment text_eq n t cs)
+comment_kept n t cs h =
     let keeps = hierarchy_kept n (λ (c : ClassOf Text). record c { comment = t }) (record { name = λ c. refl; superclass = λ c. refl; given = λ c gives. record { name = gives.name; instance = gives.instance; class_side = gives.class_side; shared = gives.shared } }) cs in
     record {
       right = all_changed IsRight n (λ (c : ClassOf Text). record c { comment = t }) cs (All-weaker _ _ cs (λ c r. (r, (λ same. record { root = r.root; of_kernel = r.of_kernel }))) h.right);
       instance = once_kept (λ (c : ClassOf Text). if text_eq n c.name then record c { comment = t } else c) cs of_instance keeps (λ c. inst c (text_eq n c.name)) h.instance;
       class_side = once_kept (λ (c : ClassOf Text). if text_eq n c.name then record c { comment = t } else c) cs of_class_side keeps (λ c. side c (text_eq n c.name)) h.class_side;
       shared = all_changed (λ (c : ClassOf Text). HasNoRepeat c.shared) n (λ (c : ClassOf Text). record c { comment = t }) cs (All-weaker _ _ cs (λ c r. (r, (λ same. r))) h.shared);
-      kernel_classes = filter_replaced of_kernel (λ (c : ClassOf Text). text_eq n c.name) (λ (c : ClassOf Text). record c { comment = t }) (λ c. refl) cs (All-weaker _ _ cs (λ c u same. inl (u same)) (user_classes cs n distinct user)) ∙ h.kernel_classes;
     }
   where
     inst : (c : ClassOf Text) (b : Bool) → (if b then record c { comment = t } else c).instance ≡ c.instance
@@ -270,16 +261,15 @@ comment_kept kernel n t cs distinct user h =
     side c true = refl
     side c false = refl
 
--- other class-instance variables of a class; one of the kernel has none, and keeps none
-class_side_kept : (kernel : List (ClassOf Text)) → AllByRecursion (λ (c : ClassOf Text). c.class_side ≡ []) kernel → (n : Text) (ns : List Text) (cs : List (ClassOf Text)) → AllByRecursion MayName ns → HasNoRepeat (class_names cs) → SuperclassesStandBefore cs
-    → first_cause (class_side_refusals text_eq cs n ns (with_class_side text_eq n ns cs)) ≡ None → IsKeptClasses kernel cs → IsKeptClasses kernel (with_class_side text_eq n ns cs)
-class_side_kept kernel plain n ns cs may_be distinct before none h =
+-- other class-instance variables of a class
+class_side_kept : (n : Text) (ns : List Text) (cs : List (ClassOf Text)) → AllByRecursion MayName ns → SuperclassesStandBefore cs
+    → first_cause (class_side_refusals text_eq cs n ns (with_class_side text_eq n ns cs)) ≡ None → IsKeptClasses cs → IsKeptClasses (with_class_side text_eq n ns cs)
+class_side_kept n ns cs may_be before none h =
     record {
       right = all_changed IsRight n set cs (All-weaker _ _ cs (λ c r. (r, (λ same. record { root = r.root; of_kernel = r.of_kernel }))) h.right);
       instance = once_kept (λ (c : ClassOf Text). if text_eq n c.name then set c else c) cs of_instance (keeps cs) (λ c. inst c (text_eq n c.name)) h.instance;
       class_side = once_checked n (changed_class text_eq n set cs) cs (changed_beside n set (λ c. refl) cs before there) of_class_side h.class_side checked;
       shared = all_changed (λ (c : ClassOf Text). HasNoRepeat c.shared) n set cs (All-weaker _ _ cs (λ c r. (r, (λ same. r))) h.shared);
-      kernel_classes = filter_replaced of_kernel (λ (c : ClassOf Text). text_eq n c.name) set (λ c. refl) cs (unchanged (is_kernel_class text_eq cs n) refl) ∙ h.kernel_classes;
     }
   where
     set : ClassOf Text → ClassOf Text
@@ -289,10 +279,6 @@ class_side_kept kernel plain n ns cs may_be distinct before none h =
     there =
         not_false (has_class text_eq cs n)
         (first_none (when (not (has_class text_eq cs n)) UnknownClass) (when (is_kernel_class text_eq cs n && not (length ns == 0)) KernelReplaced ∷ when (stands_twice text_eq (with_class_side text_eq n ns cs) of_class_side n) VariableTwice ∷ []) none).0
-
-    of_kernel_empty : (is_kernel_class text_eq cs n && not (length ns == 0)) ≡ false
-    of_kernel_empty =
-        second_none (when (not (has_class text_eq cs n)) UnknownClass) (when (is_kernel_class text_eq cs n && not (length ns == 0)) KernelReplaced) (when (stands_twice text_eq (with_class_side text_eq n ns cs) of_class_side n) VariableTwice ∷ []) none
 
     checked : stands_twice text_eq (changed_class text_eq n set cs) of_class_side n ≡ false
     checked =
@@ -304,29 +290,6 @@ class_side_kept kernel plain n ns cs may_be distinct before none h =
     inst : (c : ClassOf Text) (b : Bool) → (if b then set c else c).instance ≡ c.instance
     inst c true = refl
     inst c false = refl
-
-    unchanged : (b : Bool) → is_kernel_class text_eq cs n ≡ b → AllByRecursion (λ (c : ClassOf Text). text_eq n c.name ≡ true → (of_kernel c ≡ false) ⊎ (set c ≡ c)) cs
-    unchanged false e = All-weaker _ _ cs (λ c u same. inl (u same)) (user_classes cs n distinct e)
-    unchanged true e = All-weaker _ _ cs (λ c empty same. by c (of_kernel c) refl empty) (unfiltered (λ (c : ClassOf Text). c.class_side ≡ []) of_kernel cs (subst (AllByRecursion (λ (c : ClassOf Text). c.class_side ≡ [])) (sym h.kernel_classes) plain))
-      where
-        nothing : (xs : List Text) → (length xs == 0) ≡ true → xs ≡ []
-        nothing [] q = refl
-        nothing (y ∷ ys) q = absurd (some (eqb_tells (length (y ∷ ys)) 0))
-          where
-            some : ((eqb (length (y ∷ ys)) 0 ≡ true) × (length (y ∷ ys) ≡ 0)) ⊎ ((eqb (length (y ∷ ys)) 0 ≡ false) × (length (y ∷ ys) ≢ 0)) → ⊥
-            some (inl t) = omega (arith, t.1)
-            some (inr t) = true≢false (sym q ∙ t.0)
-
-        tested : (b : Bool) → not b ≡ false → b ≡ true
-        tested true q = refl
-        tested false q = absurd (true≢false q)
-
-        none_given : ns ≡ []
-        none_given = nothing ns (tested (length ns == 0) (sym (ap (λ (b : Bool). b && not (length ns == 0)) e) ∙ of_kernel_empty))
-
-        by : (c : ClassOf Text) (b : Bool) → of_kernel c ≡ b → (of_kernel c ≡ true → c.class_side ≡ []) → (of_kernel c ≡ false) ⊎ (set c ≡ c)
-        by c false q empty = inl q
-        by c true q empty = inr (ap (λ (xs : List Text). let d : ClassOf Text = record c { class_side = xs } in d) (none_given ∙ sym (empty q)))
 
 -- the image without a class that has no subclass and is not one of the kernel
 module _ (k : ImageOf Text) (kernel : IsKernel k) (n : Text) (i : ImageOf Text) (h : IsKept k i) (none : first_cause (class_removal_refusals text_eq i.classes n) ≡ None) where
@@ -380,8 +343,8 @@ module _ (k : ImageOf Text) (kernel : IsKernel k) (n : Text) (i : ImageOf Text) 
           (subst (AllByRecursion (HasClass k.classes)) (sym h.kernel_methods) kernel.homes)
 
 -- with other classes and the same methods
-with_kept : (k i : ImageOf Text) (cs : List (ClassOf Text)) → IsNamed (record i { classes = cs }) → IsKeptClasses k.classes cs → ((n : Text) → Contains (class_names i.classes) n → Contains (class_names cs) n) → IsKept k i → IsKept k (record i { classes = cs })
-with_kept k i cs named new wider h = record {
+with_kept : (k i : ImageOf Text) (cs : List (ClassOf Text)) → IsNamed (record i { classes = cs }) → IsKeptClasses cs → filter of_kernel cs ≡ k.classes → ((n : Text) → Contains (class_names i.classes) n → Contains (class_names cs) n) → IsKept k i → IsKept k (record i { classes = cs })
+with_kept k i cs named new kernel wider h = record {
   named = named;
   right = new.right;
   instance = new.instance;
@@ -389,7 +352,7 @@ with_kept k i cs named new wider h = record {
   shared = new.shared;
   homes = homes_kept i.classes cs i.methods wider h.homes;
   once = h.once;
-  kernel_classes = new.kernel_classes;
+  kernel_classes = kernel;
   kernel_methods = h.kernel_methods;
 }
 
@@ -397,24 +360,33 @@ with_kept k i cs named new wider h = record {
 same_names : (n : Text) (f : ClassOf Text → ClassOf Text) → ((c : ClassOf Text) → (f c).name ≡ c.name) → (cs : List (ClassOf Text)) (m : Text) → Contains (class_names cs) m → Contains (class_names (changed_class text_eq n f cs)) m
 same_names n f keeps cs m has = subst (λ (ns : List Text). Contains ns m) (sym (names_changed text_eq text_eq-refl text_equal n f keeps cs)) has
 
--- a change keeps it
-pub kept_changed : (k : ImageOf Text) → IsKernel k → (c : ChangeOf Text) (i j : ImageOf Text) → IsGood c → changed text_eq false c i ≡ Ok j → IsKept k i → IsKept k j
-kept_changed k kernel (Define x) i j good e h =
+-- the classes of the kernel, once a chunk changed others
+kernel_kept : (k : ImageOf Text) → IsKernel k → (c : ChangeOf Text) (i j : ImageOf Text) → changed text_eq false c i ≡ Ok j → IsKept k i → filter of_kernel j.classes ≡ k.classes
+kernel_kept k kernel c i j e h = kernel_changed k.classes kernel.before kernel.plain c i j e h.named.distinct h.kernel_classes
+
+-- a definition keeps it
+kept_again : (k : ImageOf Text) → IsKernel k → (x : DefinitionOf Text) (i j : ImageOf Text) → IsGoodDefinition x → changed text_eq false (Define x) i ≡ Ok j → IsKept k i → IsKept k j
+kept_again k kernel x i j good e h =
     let new : ImageOf Text = record i { classes = defined text_eq false x i.classes } in
     let cs = definition_refusals text_eq i.classes x (with_definition text_eq false x i.classes) in
     let none = unless_none cs new j e in
     let same : new ≡ j = unless_ok cs new j e in
     let named : IsNamed new = subst IsNamed (sym same) (named_changed false (Define x) i j good e h.named) in
     subst (IsKept k) same
-    (with_kept k i (defined text_eq false x i.classes) named (definition_kept k.classes kernel.before x good i h.named (classes_kept k i h) none named.distinct) (definition_names k.classes kernel.before x good i h.named (classes_kept k i h) none) h)
+    (with_kept k i (defined text_eq false x i.classes) named (definition_kept x good i h.named (classes_kept k i h) none named.distinct)
+    (subst (λ (z : ImageOf Text). filter of_kernel z.classes ≡ k.classes) (sym same) (kernel_kept k kernel (Define x) i j e h)) (definition_names x good i h.named (classes_kept k i h) none) h)
+
+-- a change keeps it, apart from the place that it states
+pub kept_changed : (k : ImageOf Text) → IsKernel k → (c : ChangeOf Text) (i j : ImageOf Text) → IsGood c → changed text_eq false (unplaced c) i ≡ Ok j → IsKept k i → IsKept k j
+kept_changed k kernel (Define x) i j good e h = kept_again k kernel x i j good e h
+kept_changed k kernel (DefineAt x place) i j good e h = kept_again k kernel x i j good e h
 kept_changed k kernel (Comment n t) i j good e h =
     let new : ImageOf Text = record i { classes = with_comment text_eq n t i.classes } in
-    let none = unless_none (comment_refusals text_eq i.classes n) new j e in
     let same : new ≡ j = unless_ok (comment_refusals text_eq i.classes n) new j e in
     let named : IsNamed new = subst IsNamed (sym same) (named_changed false (Comment n t) i j good e h.named) in
     subst (IsKept k) same
     (with_kept k i (with_comment text_eq n t i.classes) named
-    (comment_kept k.classes n t i.classes h.named.distinct (second_none (when (not (has_class text_eq i.classes n)) UnknownClass) (when (is_kernel_class text_eq i.classes n) KernelReplaced) [] none) (classes_kept k i h))
+    (comment_kept n t i.classes (classes_kept k i h)) (subst (λ (z : ImageOf Text). filter of_kernel z.classes ≡ k.classes) (sym same) (kernel_kept k kernel (Comment n t) i j e h))
     (same_names n (λ (c : ClassOf Text). record c { comment = t }) (λ c. refl) i.classes) h)
 kept_changed k kernel (SetClassSide n ns) i j good e h =
     let new : ImageOf Text = record i { classes = with_class_side text_eq n ns i.classes } in
@@ -423,7 +395,8 @@ kept_changed k kernel (SetClassSide n ns) i j good e h =
     let same : new ≡ j = unless_ok cs new j e in
     let named : IsNamed new = subst IsNamed (sym same) (named_changed false (SetClassSide n ns) i j good e h.named) in
     subst (IsKept k) same
-    (with_kept k i (with_class_side text_eq n ns i.classes) named (class_side_kept k.classes kernel.plain n ns i.classes good h.named.distinct h.named.before none (classes_kept k i h))
+    (with_kept k i (with_class_side text_eq n ns i.classes) named (class_side_kept n ns i.classes good h.named.before none (classes_kept k i h))
+    (subst (λ (z : ImageOf Text). filter of_kernel z.classes ≡ k.classes) (sym same) (kernel_kept k kernel (SetClassSide n ns) i j e h))
     (same_names n (λ (c : ClassOf Text). record c { class_side = ns }) (λ c. refl) i.classes) h)
 kept_changed k kernel (RemoveMethod c meta s) i j good e h =
     let new : ImageOf Text = without_method text_eq c meta s i in

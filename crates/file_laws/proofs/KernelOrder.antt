@@ -1,6 +1,5 @@
 -- Where classes are put in order, those of the kernel keep theirs.
 use Rattle.std.proofs.Common.{◌≡◌, ℕ, zero, suc, ◌≤◌, Bool, true, false, cond, List, [], ◌∷◌, ◌++◌, length, filter, find, Option, Some, None, refl, sym, ap, subst, ◌∙◌, append_assoc, true≢false, arith, length-append}
-use Rattle.std.specs.Prelude.{if◌then◌else◌}
 use Rattle.std.specs.List.{AllByRecursion}
 use Rattle.std.specs.Option.{option_map_or}
 use Rattle.std.proofs.lemmas.List.{append-nil}
@@ -12,55 +11,12 @@ use Rattle.file_model.specs.Filing.{Text}
 use Rattle.file_model.specs.Hierarchy.{can_follow, without_first, settle_behind, settled}
 use Rattle.file_laws.specs.Settling.{IsTakenInTurn}
 use Rattle.file_laws.proofs.Moves.{text_equal, stands_left, turn_more}
+use Rattle.file_laws.proofs.SettledAgain.{IsSplit, split, none_found}
 use Rattle.file_laws.proofs.Sound.{All-filter}
 
 -- whether a class is one of the kernel
 abbrev pub of_kernel : ClassOf Text → Bool
 of_kernel c = c.kernel
-
--- A list whose first item that passes is given: those before it fail.
-record IsSplit {X : Type 0} (p : X → Bool) (xs : List X) (x : X) : Type 0 where
-  front : List X
-  back : List X
-  whole : xs ≡ front ++ (x ∷ back)
-  without : without_first p xs ≡ front ++ back
-  fail : AllByRecursion (λ y. p y ≡ false) front
-  passes : p x ≡ true
-
-split : {X : Type 0} (p : X → Bool) (xs : List X) (x : X) → find p xs ≡ Some x → IsSplit p xs x
-split p [] x e = absurd (cc)
-split {X} p (y ∷ ys) x e = by (p y) refl e (split p ys x)
-  where
-    by : (b : Bool) → p y ≡ b → cond b (Some y) (find p ys) ≡ Some x → (find p ys ≡ Some x → IsSplit p ys x) → IsSplit p (y ∷ ys) x
-    by true q h rest =
-        let same : y ≡ x = cc in
-        record {
-          front = [];
-          back = ys;
-          whole = ap (λ z. z ∷ ys) same;
-          without = ap (λ (b : Bool). if b then ys else y ∷ without_first p ys) q;
-          fail = tt;
-          passes = ap p (sym same) ∙ q;
-        }
-    by false q h rest =
-        let r = rest h in
-        record {
-          front = y ∷ r.front;
-          back = r.back;
-          whole = ap (λ (zs : List X). y ∷ zs) r.whole;
-          without = ap (λ (b : Bool). if b then ys else y ∷ without_first p ys) q ∙ ap (λ (zs : List X). y ∷ zs) r.without;
-          fail = (q, r.fail);
-          passes = r.passes;
-        }
-
--- where nothing is found each item fails
-none_found : {X : Type 0} (p : X → Bool) (xs : List X) → find p xs ≡ None → AllByRecursion (λ y. p y ≡ false) xs
-none_found p [] e = tt
-none_found {X} p (y ∷ ys) e = by (p y) refl e (none_found p ys)
-  where
-    by : (b : Bool) → p y ≡ b → cond b (Some y) (find p ys) ≡ None → (find p ys ≡ None → AllByRecursion (λ z. p z ≡ false) ys) → (p y ≡ false) × AllByRecursion (λ z. p z ≡ false) ys
-    by true q h rest = absurd (cc)
-    by false q h rest = (q, rest h)
 
 -- classes of which none can be taken have none of the kernel in front
 none_of_kernel : (taken some more : List (ClassOf Text)) → AllByRecursion (λ (c : ClassOf Text). can_follow text_eq taken c ≡ false) some → IsTakenInTurn text_eq taken (filter of_kernel some ++ more) → filter of_kernel some ≡ []

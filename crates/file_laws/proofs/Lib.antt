@@ -1,7 +1,8 @@
 mod Braces
 mod Sources
-pub mod Sound
 pub mod Refused
+pub mod Taking
+pub mod Sound
 pub mod Settled
 pub mod Moves
 pub mod Redefined
@@ -14,6 +15,18 @@ mod Chains
 mod KernelOrder
 mod KernelPart
 mod Beside
+mod KernelClasses
 mod Kept
 pub mod Whole
 mod Plain
+pub mod OtherOrder
+pub mod OtherOrderLooks
+pub mod SettledAgain
+pub mod PutAgain
+pub mod KernelInFront
+pub mod PlacedImages
+pub mod OtherOrderRefusals
+pub mod OtherOrderChanges
+pub mod Reordered
+pub mod FrontKept
+pub mod AllOfKernel

@@ -1,27 +1,26 @@
 -- No class of a file-out has two methods of one side and one selector.
-use Rattle.std.proofs.Common.{◌≡◌, ◌⊎◌, inl, inr, ℕ, zero, suc, Bool, true, false, not, cond, List, [], ◌∷◌, ◌++◌, map, filter, find, Option, Some, None, Result, Ok, Err, slice_get, refl, sym, ap, subst, ◌∙◌, true≢false, arith}
+use Rattle.std.proofs.Common.{◌≡◌, ◌⊎◌, inl, inr, ℕ, zero, suc, Bool, true, false, not, cond, List, [], ◌∷◌, ◌++◌, map, filter, find, Option, Some, None, Ok, slice_get, refl, sym, ap, subst, ◌∙◌, true≢false, arith}
 use Rattle.std.specs.Prelude.{◌&&◌, if◌then◌else◌, is_some}
 use Rattle.std.specs.Bool.{beq}
 use Rattle.std.specs.Option.{option_map_or}
-use Rattle.std.specs.Result.{result_map_both}
+use Rattle.file_model.specs.Places.{PlacesOf, method_place, placed}
+use Rattle.file_laws.proofs.Reordered.{no_repeat_map_reordered}
+use Rattle.file_laws.proofs.PutAgain.{put_again_behind_same}
+use Rattle.file_laws.proofs.Taking.{IsKeptByChunks, kept_image}
 use Rattle.rb_base.specs.Names.{text_eq}
 use Rattle.rb_base.proofs.NamesLemmas.{text_eq-refl}
 use Rattle.token_model.specs.declared.kind.Dialect.{Dialect}
 use Rattle.tree_model.specs.Tree.{MethodOf}
-use Rattle.chunk_format.specs.Chunks.{Piece}
-use Rattle.chunk_format.specs.declared.chunk_iter.Unended.{Unended as NoEnd}
-use Rattle.image_model.specs.Image.{EntryOf, DoItOf, ImageOf}
+use Rattle.image_model.specs.Image.{EntryOf, ImageOf}
 use Rattle.image_model.specs.Lookup.{is_method}
 use Rattle.image_model.specs.Valid.{HasNoRepeat, signature}
-use Rattle.file_model.specs.Causes.{Cause, Syntax}
-use Rattle.file_model.specs.Changes.{ChangeOf, Define, Comment, SetClassSide, RemoveMethod, RemoveClass, RunOf}
-use Rattle.file_model.specs.Forms.{Form, Evaluates, Changes, Opens, Refuses, form_of}
-use Rattle.file_model.specs.Refusals.{has_method, definition_refusals, comment_refusals, class_side_refusals, removal_refusals, class_removal_refusals, method_refusals, run_refusals}
+use Rattle.file_model.specs.Changes.{ChangeOf, Define, DefineAt, Comment, SetClassSide, RemoveMethod, RemoveClass, RunOf}
+use Rattle.file_model.specs.Refusals.{has_method, definition_refusals, comment_refusals, class_side_refusals, removal_refusals, class_removal_refusals, method_refusals}
 use Rattle.file_model.specs.Applied.{is_of_class, with_definition, with_comment, with_class_side, defined, without_class, without_method, changed, entry_in, with_method, method_added}
-use Rattle.file_model.specs.Filing.{Text, Filing, Item, Blank, DoItChunk, MethodChunk, Faulty, goes_on, with_doit, form_taken, taken}
-use Rattle.file_model.specs.Reading.{TakesAll, Over, Taken, IsKernelOf, IsImageOf}
+use Rattle.file_model.specs.Filing.{Text}
+use Rattle.file_model.specs.Reading.{IsKernelOf, IsImageOf}
 use Rattle.file_model.proofs.OneImage.{one_kernel}
-use Rattle.file_laws.proofs.Sound.{unless_ok}
+use Rattle.file_laws.proofs.Refused.{unless_ok}
 use Rattle.file_laws.proofs.Moves.{text_equal}
 
 -- nothing stands twice, by recursion
@@ -144,6 +143,7 @@ IsOnce i = Differ (map signature i.methods)
 
 pub once_changed : (c : ChangeOf Text) (i j : ImageOf Text) → changed text_eq false c i ≡ Ok j → IsOnce i → IsOnce j
 once_changed (Define x) i j e h = subst IsOnce (unless_ok (definition_refusals text_eq i.classes x (with_definition text_eq false x i.classes)) (record i { classes = defined text_eq false x i.classes }) j e) h
+once_changed (DefineAt x k) i j e h = subst IsOnce (unless_ok (definition_refusals text_eq i.classes x (with_definition text_eq false x i.classes)) (record i { classes = with_definition text_eq false x i.classes }) j e) h
 once_changed (Comment n t) i j e h = subst IsOnce (unless_ok (comment_refusals text_eq i.classes n) (record i { classes = with_comment text_eq n t i.classes }) j e) h
 once_changed (SetClassSide n ns) i j e h = subst IsOnce (unless_ok (class_side_refusals text_eq i.classes n ns (with_class_side text_eq n ns i.classes)) (record i { classes = with_class_side text_eq n ns i.classes }) j e) h
 once_changed (RemoveMethod c meta s) i j e h = subst IsOnce (unless_ok (removal_refusals text_eq i c meta s) (without_method text_eq c meta s i) j e) (differ_filter signature (λ m. not (is_method text_eq c meta s m)) i.methods h)
@@ -158,57 +158,22 @@ once_added r source m i j e h =
     by true q = subst Differ (sym (same_signatures r source m i.methods)) h
     by false q = differ_last signature i.methods (entry_in false r source m) h (absent i.methods r.class r.meta m.selector q)
 
-once_form : (f g : Filing) (x : DoItOf Text) (form : Form) → Ok g ≡ form_taken false f x form → IsOnce f.image → IsOnce g.image
-once_form f g x Evaluates e h = subst (λ (k : Filing). IsOnce k.image) (same e) h
-  where
-    same : ◌≡◌ {A = Result Filing Cause} (Ok g) (Ok (with_doit f x)) → with_doit f x ≡ g
-    same k = cc
-once_form f g x (Changes c) e h = by (changed text_eq false c f.image) refl e
-  where
-    by : (r : Result (ImageOf Text) Cause) → changed text_eq false c f.image ≡ r → Ok g ≡ result_map_both (goes_on None) (λ t. t) r → IsOnce g.image
-    by (Ok j) made k = subst (λ (z : Filing). IsOnce z.image) (same k) (once_changed c f.image j made h)
-      where
-        same : ◌≡◌ {A = Result Filing Cause} (Ok g) (Ok (goes_on None j)) → goes_on None j ≡ g
-        same l = cc
-    by (Err cause) made k = absurd (differ k)
-      where
-        differ : ◌≡◌ {A = Result Filing Cause} (Ok g) (Err cause) → ⊥
-        differ l = cc
-once_form f g x (Opens r) e h = subst (λ (z : Filing). IsOnce z.image) (unless_ok (run_refusals text_eq f.image.classes r) (goes_on (Some r) f.image) g (sym e)) h
-once_form f g x (Refuses cause) e h = absurd (differ e)
-  where
-    differ : ◌≡◌ {A = Result Filing Cause} (Ok g) (Err cause) → ⊥
-    differ l = cc
-
-once_item : (d : Dialect) (f g : Filing) (x : Item) → Ok g ≡ taken d false f x → IsOnce f.image → IsOnce g.image
-once_item d f g Blank e h = subst (λ (z : Filing). IsOnce z.image) (same e) h
-  where
-    same : ◌≡◌ {A = Result Filing Cause} (Ok g) (Ok (record f { run = None })) → record f { run = None } ≡ g
-    same k = cc
-once_item d f g (DoItChunk source b) e h = once_form f g (record { source = source; body = b }) (form_of d false b) e h
-once_item d f g (MethodChunk r source m) e h = by (method_added text_eq false r source m f.image) refl e
-  where
-    by : (o : Result (ImageOf Text) Cause) → method_added text_eq false r source m f.image ≡ o → Ok g ≡ result_map_both (goes_on (Some r)) (λ z. z) o → IsOnce g.image
-    by (Ok j) made k = subst (λ (z : Filing). IsOnce z.image) (same k) (once_added r source m f.image j made h)
-      where
-        same : ◌≡◌ {A = Result Filing Cause} (Ok g) (Ok (goes_on (Some r) j)) → goes_on (Some r) j ≡ g
-        same l = cc
-    by (Err cause) made k = absurd (differ k)
-      where
-        differ : ◌≡◌ {A = Result Filing Cause} (Ok g) (Err cause) → ⊥
-        differ l = cc
-once_item d f g (Faulty fault) e h = absurd (differ e)
-  where
-    differ : ◌≡◌ {A = Result Filing Cause} (Ok g) (Err (Syntax fault)) → ⊥
-    differ k = cc
-
-once_takes : (d : Dialect) (f g : Filing) (ps : List Piece) (end : Option NoEnd) → TakesAll d false f ps end (Ok g) → IsOnce f.image → IsOnce g.image
-once_takes d f g ps end Over h = h
-once_takes d f g ps end (Taken {g = k} t rest) h = once_takes d k g _ _ rest (once_item d f k t.item t.result h)
+-- methods and classes go to the places that are stated for them
+pub once_placed : (i : ImageOf Text) (stated : PlacesOf Text) → IsOnce i → IsOnce (placed text_eq stated i)
+once_placed i stated h =
+    let new : List (EntryOf Text) = (placed text_eq stated i).methods in
+    let moved = put_again_behind_same (λ (m : EntryOf Text). m.kernel) (method_place text_eq stated.methods) i.methods in
+    differ_of (map signature new) (no_repeat_map_reordered signature i.methods new moved (no_repeat_of (map signature i.methods) h))
 
 -- the methods of a file-out's image, where it is so of the kernel's
 pub methods_once : (d : Dialect) (prelude text : Text) (kernel i : ImageOf Text) → IsKernelOf d prelude kernel → HasNoRepeat (map signature kernel.methods) → IsImageOf d prelude text i → HasNoRepeat (map signature i.methods)
 methods_once d prelude text kernel i k h r =
     let same : kernel ≡ r.kernel = one_kernel d prelude kernel r.kernel k r.is_kernel in
-    let start : IsOnce r.kernel = subst IsOnce same (differ_of (map signature kernel.methods) h) in
-    no_repeat_of (map signature i.methods) (subst IsOnce (sym r.image) (once_takes d (record { image = r.kernel; run = None; at_head = true }) r.end r.reads.pieces r.reads.end r.reads.takes start))
+    let keeps : IsKeptByChunks d false IsOnce = record {
+      changes = λ b c i j says e once. once_changed c i j e once;
+      adds = λ r source m i j spells stands there e once. once_added r source m i j e once;
+      counts = λ i x at_head chunk once. once;
+      replaces = λ i numeral x chunk once. once;
+      places = once_placed;
+    } in
+    no_repeat_of (map signature i.methods) (kept_image d IsOnce keeps prelude text i r (subst IsOnce same (differ_of (map signature kernel.methods) h)))

@@ -1,31 +1,34 @@
 -- In the first dialect no class has class-instance variables.
-use Rattle.std.proofs.Common.{◌≡◌, ℕ, zero, suc, Bool, true, false, not, List, [], ◌∷◌, ◌++◌, find, Option, Some, None, Result, Ok, Err, refl, sym, subst}
+use Rattle.std.proofs.Common.{◌≡◌, ℕ, zero, suc, Bool, true, false, not, List, [], ◌∷◌, ◌++◌, length, find, Option, Some, None, Ok, refl, subst}
 use Rattle.std.specs.Prelude.{◌&&◌, if◌then◌else◌, codes}
 use Rattle.std.specs.List.{AllByRecursion}
 use Rattle.std.specs.Option.{option_map_or}
-use Rattle.std.specs.Result.{result_map_both}
 use Rattle.rb_base.specs.Names.{text_eq}
 use Rattle.token_model.specs.declared.kind.Dialect.TheVariants.{First}
 use Rattle.tree_model.specs.Tree.{SequenceOf}
-use Rattle.chunk_format.specs.Chunks.{Piece}
-use Rattle.chunk_format.specs.declared.chunk_iter.Unended.{Unended as NoEnd}
-use Rattle.image_model.specs.Image.{ClassOf, DoItOf, ImageOf}
+use Rattle.image_model.specs.Image.{ClassOf, ImageOf}
 use Rattle.image_model.proofs.Ends.{find-place}
 use Rattle.st_kernel.specs.Selectors.{is_reserved_selector}
 use Rattle.file_model.specs.Words.{may_name, may_name_all, words_of, is_blank_string}
-use Rattle.file_model.specs.Causes.{Cause, PoolsNotEmpty, UnknownDefinition, when, first_cause, Syntax}
-use Rattle.file_model.specs.Changes.{DefinitionOf, ChangeOf, Define, Comment, SetClassSide, RemoveMethod, RemoveClass}
-use Rattle.file_model.specs.Forms.{Argument, Symbol, String, Other, Form, Evaluates, Changes, Opens, Refuses, no_form, Sent, sent_of, definition_selector, DefinitionStrings, definition_strings, the_argument, superclass_named, subclass_form, comment_form, run_form, removal_form, class_removal_form, class_side_form, other_form, sent_form, form_of}
+use Rattle.file_model.specs.Causes.{Cause, PoolsNotEmpty, UnknownDefinition, when, first_cause}
+use Rattle.file_model.specs.Changes.{DefinitionOf, ChangeOf, Define, DefineAt, Comment, SetClassSide, RemoveMethod, RemoveClass, stated_at}
+use Rattle.file_model.specs.Forms.{Argument, Symbol, String, Numeral, Other, Form, Evaluates, Changes, Opens, OpensAt, Settles, Refuses, PlacedStrings, placed_strings, placed_definition_selector, definition_form, at_place, placed_subclass_form, placed_run_form, is_to_system, replaces_doit, further_form, no_form, Sent, sent_of, definition_selector, DefinitionStrings, definition_strings, the_argument, superclass_named, subclass_form, comment_form, run_form, removal_form, class_removal_form, class_side_form, other_form, sent_form, form_of}
 use Rattle.file_model.specs.Hierarchy.{has_class, can_follow, without_first, settle_behind, settled}
-use Rattle.file_model.specs.Refusals.{definition_refusals, comment_refusals, class_side_refusals, removal_refusals, class_removal_refusals, method_refusals, run_refusals}
-use Rattle.file_model.specs.Applied.{new_class, class_again, changed_class, with_definition, with_comment, with_class_side, defined, without_class, without_method, changed, with_method, method_added}
-use Rattle.file_model.specs.Filing.{Text, Filing, Item, Blank, DoItChunk, MethodChunk, Faulty, goes_on, with_doit, form_taken, taken}
-use Rattle.file_model.specs.Reading.{TakesAll, Over, Taken, no_image, IsKernelOf, IsImageOf}
+use Rattle.file_model.specs.Refusals.{definition_refusals, comment_refusals, class_side_refusals, removal_refusals, class_removal_refusals, method_refusals}
+use Rattle.file_model.specs.Applied.{new_class, class_again, changed_class, with_definition, with_comment, with_class_side, defined, without_class, without_method, changed, with_method}
+use Rattle.file_model.specs.Filing.{Text, taken}
+use Rattle.file_model.specs.Reading.{IsKernelOf, IsImageOf}
+use Rattle.file_model.specs.Numerals.{place_in}
+use Rattle.file_model.specs.Places.{PlacesOf, put_again_behind, class_place, placed}
 use Rattle.file_laws.proofs.Beside.{all_changed}
+use Rattle.file_laws.proofs.OtherOrder.{all_reordered}
+use Rattle.file_laws.proofs.PutAgain.{put_again_behind_same}
+use Rattle.file_laws.proofs.Refused.{unless_ok}
+use Rattle.file_laws.proofs.Taking.{IsKeptByChunks, kept_kernel, kept_image}
 use Rattle.file_laws.proofs.Braces.{no_words}
 use Rattle.file_laws.proofs.Chains.{all_place}
 use Rattle.file_laws.proofs.Moves.{All-weaker}
-use Rattle.file_laws.proofs.Sound.{unless_ok, All-filter, All-last}
+use Rattle.file_laws.proofs.Sound.{All-filter, All-last}
 
 -- a class has no class-instance variables
 abbrev pub IsPlain : ClassOf Text → Type 0
@@ -52,6 +55,7 @@ all_settle P (suc k) taken left t l = by (find (can_follow text_eq taken) left) 
 -- a change gives no class-instance variables
 abbrev IsPlainChange : ChangeOf Text → Type 0
 IsPlainChange (Define d) = Unit {0}
+IsPlainChange (DefineAt d k) = Unit {0}
 IsPlainChange (Comment n t) = Unit {0}
 IsPlainChange (SetClassSide n ns) = ns ≡ []
 IsPlainChange (RemoveMethod c meta s) = Unit {0}
@@ -61,6 +65,8 @@ abbrev IsPlainForm : Form → Type 0
 IsPlainForm Evaluates = Unit {0}
 IsPlainForm (Changes c) = IsPlainChange c
 IsPlainForm (Opens r) = Unit {0}
+IsPlainForm (OpensAt r k) = Unit {0}
+IsPlainForm Settles = Unit {0}
 IsPlainForm (Refuses cause) = Unit {0}
 
 plain_subclass : (kernel : Bool) (p : Text) (meta : Bool) (o : Option DefinitionStrings) → IsPlainForm (subclass_form kernel p meta o)
@@ -73,6 +79,33 @@ plain_subclass kernel p false None = tt
 plain_subclass kernel p true (Some x) = tt
 plain_subclass kernel p true None = tt
 
+-- nor does the same change with a place stated
+plain_stated : (k : ℕ) (c : ChangeOf Text) → IsPlainChange c → IsPlainChange (stated_at k c)
+plain_stated k (Define d) h = tt
+plain_stated k (DefineAt d j) h = tt
+plain_stated k (Comment n t) h = tt
+plain_stated k (SetClassSide n ns) h = h
+plain_stated k (RemoveMethod c meta s) h = tt
+plain_stated k (RemoveClass n) h = tt
+
+plain_at : (k : ℕ) (form : Form) → IsPlainForm form → IsPlainForm (at_place k form)
+plain_at k Evaluates h = tt
+plain_at k (Changes c) h = plain_stated k c h
+plain_at k (Opens r) h = tt
+plain_at k (OpensAt r j) h = tt
+plain_at k Settles h = tt
+plain_at k (Refuses cause) h = tt
+
+plain_placed : (kernel : Bool) (p : Text) (meta : Bool) (o : Option PlacedStrings) → IsPlainForm (placed_subclass_form kernel p meta o)
+plain_placed kernel p false (Some x) = by (place_in x.numeral)
+  where
+    by : (o : Option ℕ) → IsPlainForm (option_map_or (λ k. at_place k (definition_form kernel p x.strings)) o no_form)
+    by None = tt
+    by (Some k) = plain_at k (definition_form kernel p x.strings) (plain_subclass kernel p false (Some x.strings))
+plain_placed kernel p false None = tt
+plain_placed kernel p true (Some x) = tt
+plain_placed kernel p true None = tt
+
 plain_class_side : (n : Text) (meta : Bool) (x : Argument) → IsPlainForm (class_side_form First n meta x)
 plain_class_side n true (String s) = by (is_blank_string s) refl
   where
@@ -81,27 +114,49 @@ plain_class_side n true (String s) = by (is_blank_string s) refl
     by false e = tt
 plain_class_side n true (Symbol s) = tt
 plain_class_side n true Other = tt
+plain_class_side n true (Numeral s) = tt
 plain_class_side n false (String s) = tt
 plain_class_side n false (Symbol s) = tt
 plain_class_side n false Other = tt
+plain_class_side n false (Numeral s) = tt
 
 plain_comment : (n : Text) (meta : Bool) (x : Argument) → IsPlainForm (comment_form n meta x)
 plain_comment n false (String s) = tt
 plain_comment n false (Symbol s) = tt
 plain_comment n false Other = tt
+plain_comment n false (Numeral s) = tt
 plain_comment n true (String s) = tt
 plain_comment n true (Symbol s) = tt
 plain_comment n true Other = tt
+plain_comment n true (Numeral s) = tt
 
 plain_run : (n : Text) (meta : Bool) (x : Argument) → IsPlainForm (run_form n meta x)
 plain_run n meta (String s) = tt
 plain_run n meta (Symbol s) = tt
 plain_run n meta Other = tt
+plain_run n meta (Numeral s) = tt
+
+plain_placed_run : (n : Text) (meta : Bool) (xs : List Argument) → IsPlainForm (placed_run_form n meta xs)
+plain_placed_run n meta (String t ∷ Numeral k ∷ []) = by (place_in k)
+  where
+    by : (o : Option ℕ) → IsPlainForm (option_map_or (OpensAt (record { class = n; meta = meta; protocol = t })) o no_form)
+    by None = tt
+    by (Some j) = tt
+plain_placed_run n meta [] = tt
+plain_placed_run n meta (Symbol t ∷ xs) = tt
+plain_placed_run n meta (Numeral t ∷ xs) = tt
+plain_placed_run n meta (Other ∷ xs) = tt
+plain_placed_run n meta (String t ∷ []) = tt
+plain_placed_run n meta (String t ∷ Symbol k ∷ xs) = tt
+plain_placed_run n meta (String t ∷ String k ∷ xs) = tt
+plain_placed_run n meta (String t ∷ Other ∷ xs) = tt
+plain_placed_run n meta (String t ∷ Numeral k ∷ y ∷ xs) = tt
 
 plain_removal : (n : Text) (meta : Bool) (x : Argument) → IsPlainForm (removal_form n meta x)
 plain_removal n meta (String s) = tt
 plain_removal n meta (Symbol s) = tt
 plain_removal n meta Other = tt
+plain_removal n meta (Numeral s) = tt
 
 plain_class_removal : (n : Text) (meta : Bool) (x : Argument) → IsPlainForm (class_removal_form n meta x)
 plain_class_removal n false (Symbol c) = by (text_eq n (codes "Smalltalk"))
@@ -111,9 +166,11 @@ plain_class_removal n false (Symbol c) = by (text_eq n (codes "Smalltalk"))
     by false = tt
 plain_class_removal n false (String s) = tt
 plain_class_removal n false Other = tt
+plain_class_removal n false (Numeral s) = tt
 plain_class_removal n true (String s) = tt
 plain_class_removal n true (Symbol s) = tt
 plain_class_removal n true Other = tt
+plain_class_removal n true (Numeral s) = tt
 
 plain_other : (n : Text) (meta : Bool) (s : Text) (x : Argument) → IsPlainForm (other_form n meta s x)
 plain_other n meta s x = by (text_eq s (codes "comment:")) (text_eq s (codes "methodsFor:")) (text_eq s (codes "removeSelector:")) (text_eq s (codes "removeClassNamed:")) (is_reserved_selector s)
@@ -126,13 +183,23 @@ plain_other n meta s x = by (text_eq s (codes "comment:")) (text_eq s (codes "me
     by false false false false true = tt
     by false false false false false = tt
 
+plain_further : (kernel : Bool) (m : Sent) → IsPlainForm (further_form kernel m)
+plain_further kernel m = by (text_eq m.selector placed_definition_selector) (text_eq m.selector (codes "methodsFor:at:")) (is_to_system m && text_eq m.selector (codes "settlePlaces")) (replaces_doit m)
+  where
+    by : (a b c e : Bool) → IsPlainForm (if a then placed_subclass_form kernel m.class m.meta (placed_strings m.arguments) else (if b then placed_run_form m.class m.meta m.arguments else (if c then Settles else (if e then no_form else other_form m.class m.meta m.selector (the_argument m.arguments)))))
+    by true b c e = plain_placed kernel m.class m.meta (placed_strings m.arguments)
+    by false true c e = plain_placed_run m.class m.meta m.arguments
+    by false false true e = tt
+    by false false false true = tt
+    by false false false false = plain_other m.class m.meta m.selector (the_argument m.arguments)
+
 plain_form : (kernel : Bool) (b : SequenceOf Text) → IsPlainForm (form_of First kernel b)
 plain_form kernel b = by (sent_of b b.temporaries)
   where
-    at : (m : Sent) (a c : Bool) → IsPlainForm (if a then subclass_form kernel m.class m.meta (definition_strings m.arguments) else (if c then class_side_form First m.class m.meta (the_argument m.arguments) else other_form m.class m.meta m.selector (the_argument m.arguments)))
+    at : (m : Sent) (a c : Bool) → IsPlainForm (if a then subclass_form kernel m.class m.meta (definition_strings m.arguments) else (if c then class_side_form First m.class m.meta (the_argument m.arguments) else further_form kernel m))
     at m true c = plain_subclass kernel m.class m.meta (definition_strings m.arguments)
     at m false true = plain_class_side m.class m.meta (the_argument m.arguments)
-    at m false false = plain_other m.class m.meta m.selector (the_argument m.arguments)
+    at m false false = plain_further kernel m
 
     by : (o : Option Sent) → IsPlainForm (option_map_or (sent_form First kernel) o Evaluates)
     by None = tt
@@ -160,6 +227,8 @@ IsPlainImage i = AllByRecursion IsPlain i.classes
 plain_changed : (kernel : Bool) (c : ChangeOf Text) (i j : ImageOf Text) → IsPlainChange c → changed text_eq kernel c i ≡ Ok j → IsPlainImage i → IsPlainImage j
 plain_changed kernel (Define x) i j plain e h =
     subst IsPlainImage (unless_ok (definition_refusals text_eq i.classes x (with_definition text_eq kernel x i.classes)) (record i { classes = defined text_eq kernel x i.classes }) j e) (plain_defined kernel x i.classes h)
+plain_changed kernel (DefineAt x k) i j plain e h =
+    subst IsPlainImage (unless_ok (definition_refusals text_eq i.classes x (with_definition text_eq kernel x i.classes)) (record i { classes = with_definition text_eq kernel x i.classes }) j e) (plain_with kernel x i.classes h)
 plain_changed kernel (Comment n t) i j plain e h =
     subst IsPlainImage (unless_ok (comment_refusals text_eq i.classes n) (record i { classes = with_comment text_eq n t i.classes }) j e)
     (all_changed IsPlain n (λ (c : ClassOf Text). record c { comment = t }) i.classes (All-weaker _ _ i.classes (λ c p. (p, (λ same. p))) h))
@@ -170,64 +239,27 @@ plain_changed kernel (RemoveMethod c meta s) i j plain e h = subst IsPlainImage 
 plain_changed kernel (RemoveClass n) i j plain e h =
     subst IsPlainImage (unless_ok (class_removal_refusals text_eq i.classes n) (without_class text_eq n i) j e) (All-filter IsPlain (λ (c : ClassOf Text). not (text_eq n c.name)) i.classes h)
 
--- what a form makes keeps it
-plain_taken : (kernel : Bool) (f g : Filing) (x : DoItOf Text) (form : Form) → IsPlainForm form → Ok g ≡ form_taken kernel f x form → IsPlainImage f.image → IsPlainImage g.image
-plain_taken kernel f g x Evaluates plain e h = subst (λ (z : Filing). IsPlainImage z.image) (same e) h
-  where
-    same : ◌≡◌ {A = Result Filing Cause} (Ok g) (Ok (with_doit f x)) → with_doit f x ≡ g
-    same q = cc
-plain_taken kernel f g x (Changes c) plain e h = by (changed text_eq kernel c f.image) refl e
-  where
-    by : (r : Result (ImageOf Text) Cause) → changed text_eq kernel c f.image ≡ r → Ok g ≡ result_map_both (goes_on None) (λ t. t) r → IsPlainImage g.image
-    by (Ok j) made q = subst (λ (z : Filing). IsPlainImage z.image) (same q) (plain_changed kernel c f.image j plain made h)
-      where
-        same : ◌≡◌ {A = Result Filing Cause} (Ok g) (Ok (goes_on None j)) → goes_on None j ≡ g
-        same l = cc
-    by (Err cause) made q = absurd (differ q)
-      where
-        differ : ◌≡◌ {A = Result Filing Cause} (Ok g) (Err cause) → ⊥
-        differ l = cc
-plain_taken kernel f g x (Opens r) plain e h = subst (λ (z : Filing). IsPlainImage z.image) (unless_ok (run_refusals text_eq f.image.classes r) (goes_on (Some r) f.image) g (sym e)) h
-plain_taken kernel f g x (Refuses cause) plain e h = absurd (differ e)
-  where
-    differ : ◌≡◌ {A = Result Filing Cause} (Ok g) (Err cause) → ⊥
-    differ l = cc
+-- classes that go to the places that are stated for them keep it
+plain_put : (i : ImageOf Text) (stated : PlacesOf Text) → IsPlainImage i → IsPlainImage (placed text_eq stated i)
+plain_put i stated h =
+    let put = put_again_behind (λ (c : ClassOf Text). c.kernel) (class_place text_eq stated.classes) i.classes in
+    all_settle IsPlain (length put) [] put tt (all_reordered IsPlain i.classes put (put_again_behind_same (λ (c : ClassOf Text). c.kernel) (class_place text_eq stated.classes) i.classes) h)
 
--- what a chunk makes keeps it
-plain_item : (kernel : Bool) (f g : Filing) (x : Item) → Ok g ≡ taken First kernel f x → IsPlainImage f.image → IsPlainImage g.image
-plain_item kernel f g Blank e h = subst (λ (z : Filing). IsPlainImage z.image) (same e) h
-  where
-    same : ◌≡◌ {A = Result Filing Cause} (Ok g) (Ok (record f { run = None })) → record f { run = None } ≡ g
-    same q = cc
-plain_item kernel f g (DoItChunk source b) e h = plain_taken kernel f g (record { source = source; body = b }) (form_of First kernel b) (plain_form kernel b) e h
-plain_item kernel f g (MethodChunk r source m) e h = by (method_added text_eq kernel r source m f.image) refl e
-  where
-    by : (o : Result (ImageOf Text) Cause) → method_added text_eq kernel r source m f.image ≡ o → Ok g ≡ result_map_both (goes_on (Some r)) (λ z. z) o → IsPlainImage g.image
-    by (Ok j) made q =
-        subst (λ (z : Filing). IsPlainImage z.image) (same q)
-        (subst IsPlainImage (unless_ok (method_refusals text_eq f.image.methods r m.selector) (record f.image { methods = with_method text_eq kernel r source m f.image.methods }) j made) h)
-      where
-        same : ◌≡◌ {A = Result Filing Cause} (Ok g) (Ok (goes_on (Some r) j)) → goes_on (Some r) j ≡ g
-        same l = cc
-    by (Err cause) made q = absurd (differ q)
-      where
-        differ : ◌≡◌ {A = Result Filing Cause} (Ok g) (Err cause) → ⊥
-        differ l = cc
-plain_item kernel f g (Faulty fault) e h = absurd (differ e)
-  where
-    differ : ◌≡◌ {A = Result Filing Cause} (Ok g) (Err (Syntax fault)) → ⊥
-    differ q = cc
-
--- what chunks make keeps it
-plain_takes : (kernel : Bool) (f g : Filing) (ps : List Piece) (end : Option NoEnd) → TakesAll First kernel f ps end (Ok g) → IsPlainImage f.image → IsPlainImage g.image
-plain_takes kernel f g ps end Over h = h
-plain_takes kernel f g ps end (Taken {g = i} t rest) h = plain_takes kernel i g _ _ rest (plain_item kernel f i t.item t.result h)
+-- all that chunks make keeps it
+plain_keeps : (kernel : Bool) → IsKeptByChunks First kernel IsPlainImage
+plain_keeps kernel = record {
+  changes = λ b c i j says e h. plain_changed kernel c i j (subst IsPlainForm says (plain_form kernel b)) e h;
+  adds = λ r source m i j spells stands there e h.
+      subst IsPlainImage (unless_ok (method_refusals text_eq i.methods r m.selector) (record i { methods = with_method text_eq kernel r source m i.methods }) j e) h;
+  counts = λ i x at_head chunk h. h;
+  replaces = λ i numeral x chunk h. h;
+  places = plain_put;
+}
 
 -- the image of the kernel in the first dialect
 pub plain_kernel : (prelude : Text) (k : ImageOf Text) → IsKernelOf First prelude k → IsPlainImage k
-plain_kernel prelude k h = subst IsPlainImage (sym h.image) (plain_takes true (record { image = no_image; run = None; at_head = true }) h.end h.reads.pieces h.reads.end h.reads.takes tt)
+plain_kernel prelude k h = kept_kernel First IsPlainImage (plain_keeps true) prelude k h tt
 
 -- the image of a file-out in the first dialect
 pub plain_image : (prelude text : Text) (i : ImageOf Text) → IsImageOf First prelude text i → IsPlainImage i
-plain_image prelude text i h =
-    subst IsPlainImage (sym h.image) (plain_takes false (record { image = h.kernel; run = None; at_head = true }) h.end h.reads.pieces h.reads.end h.reads.takes (plain_kernel prelude h.kernel h.is_kernel))
+plain_image prelude text i h = kept_image First IsPlainImage (plain_keeps false) prelude text i h (plain_kernel prelude h.kernel h.is_kernel)

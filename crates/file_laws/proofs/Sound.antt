@@ -1,30 +1,32 @@
 -- What holds of the image of each file-out.
-use Rattle.std.proofs.Common.{◌≡◌, ℕ, ◌+◌, ◌≤◌, Bool, true, false, not, cond, List, [], ◌∷◌, ◌++◌, length, map, filter, Option, Some, None, Result, Ok, Err, refl, sym, subst, arith, length-append}
-use Rattle.std.specs.Prelude.{◌&&◌, if◌then◌else◌, codes}
+use Rattle.std.proofs.Common.{◌≡◌, ℕ, zero, suc, ◌+◌, ◌≤◌, Bool, true, false, not, cond, List, [], ◌∷◌, ◌++◌, length, map, filter, Option, Some, None, Ok, refl, subst, arith, length-append}
+use Rattle.std.specs.Prelude.{◌-◌, ◌&&◌, slice_set, if◌then◌else◌, codes}
 use Rattle.std.specs.List.{AllByRecursion}
 use Rattle.std.specs.Option.{option_map_or}
-use Rattle.std.specs.Result.{result_map_both}
 use Rattle.rb_base.specs.Names.{text_eq}
 use Rattle.token_model.specs.declared.kind.Dialect.{Dialect}
 use Rattle.tree_model.specs.Tree.{SequenceOf, MethodOf}
-use Rattle.chunk_format.specs.Blank.{HasNoLeadingBlank}
-use Rattle.chunk_format.specs.Chunks.{Piece}
-use Rattle.chunk_format.specs.declared.chunk_iter.Unended.{Unended as NoEnd}
 use Rattle.grammar_model.specs.Spelling.{SpellsDoIt, SpellsMethod}
 use Rattle.grammar_model.proofs.Limits.{limit_DoIt, limit_Method, user_Method, normal_Method}
-use Rattle.image_model.specs.Image.{EntryOf, DoItOf, ImageOf}
+use Rattle.image_model.specs.Image.{EntryOf, DoItOf, ImageOf, plus}
 use Rattle.image_model.specs.Lookup.{is_method}
 use Rattle.image_model.specs.Valid.{IsFileable, IsUserMethod, IsUserDoIt}
 use Rattle.file_model.specs.Words.{may_name, may_name_all, words_of, is_blank_string}
-use Rattle.file_model.specs.Causes.{Cause, PoolsNotEmpty, UnknownDefinition, Condition, when, first_cause, unless, Syntax}
-use Rattle.file_model.specs.Changes.{ChangeOf, Define, Comment, SetClassSide, RemoveMethod, RemoveClass, RunOf}
-use Rattle.file_model.specs.Forms.{Form, Evaluates, Changes, Opens, Refuses, Sent, sent_of, definition_selector, DefinitionStrings, definition_strings, the_argument, superclass_named, definition_form, subclass_form, class_side_form, other_form, sent_form, form_of}
-use Rattle.file_model.specs.Refusals.{has_method, definition_refusals, comment_refusals, class_side_refusals, removal_refusals, class_removal_refusals, method_refusals, run_refusals}
+use Rattle.file_model.specs.Causes.{Cause, PoolsNotEmpty, UnknownDefinition, when, first_cause}
+use Rattle.file_model.specs.Changes.{ChangeOf, Define, DefineAt, Comment, SetClassSide, RemoveMethod, RemoveClass, RunOf}
+use Rattle.file_model.specs.Forms.{Form, Evaluates, Changes, Opens, OpensAt, Settles, Refuses, no_form, Sent, placed_definition_selector, PlacedStrings, placed_strings, at_place, placed_subclass_form, further_form, sent_of, definition_selector, DefinitionStrings, definition_strings, the_argument, superclass_named, definition_form, subclass_form, class_side_form, sent_form, form_of}
+use Rattle.file_model.specs.Refusals.{has_method, definition_refusals, comment_refusals, class_side_refusals, removal_refusals, class_removal_refusals, method_refusals}
 use Rattle.file_model.specs.Applied.{is_of_class, with_definition, with_comment, with_class_side, defined, without_class, without_method, changed, entry_in, with_method, method_added}
-use Rattle.file_model.specs.Filing.{Text, Filing, Item, goes_on, with_doit, form_taken, taken}
+use Rattle.file_model.specs.Filing.{Text, with_replaced}
 use Rattle.file_model.specs.Fileable.{MayStand, IsDoItChunk, reading_of}
-use Rattle.file_model.specs.Reading.{IsItem, Empty, DoItRead, DoItFault, MethodRead, MethodFault, TakesAll, Over, Taken, ReadsText, no_image, IsImageOf}
-use Rattle.file_laws.proofs.Sources.{source_begins}
+use Rattle.file_model.specs.Reading.{IsImageOf}
+use Rattle.file_model.specs.Numerals.{place_in}
+use Rattle.file_model.specs.Places.{PlacesOf, put_again_behind, method_place, placed}
+use Rattle.file_laws.proofs.OtherOrder.{all_reordered}
+use Rattle.file_laws.proofs.PutAgain.{put_again_behind_same}
+use Rattle.file_laws.proofs.Refused.{unless_ok}
+use Rattle.file_laws.proofs.Taking.{IsChunkDoIt, IsKeptByChunks, kept_kernel, kept_image}
+use Rattle.std.proofs.lemmas.List.{length-set}
 
 -- a method of the kernel, or one whose source spells it and may stand as a chunk
 abbrev SoundMethod : Dialect → EntryOf Text → Type 0
@@ -65,21 +67,13 @@ All-replaced P p new (x ∷ xs) all h = (by (p x), All-replaced P p new xs all.1
     by true = h
     by false = all.0
 
--- what is given unless a condition holds
-pub unless_ok : {X : Type 0} (cs : List Condition) (x y : X) → ◌≡◌ {A = Result X Cause} (unless cs x) (Ok y) → x ≡ y
-unless_ok {X} cs x y e = by (first_cause cs) e
-  where
-    by : (o : Option Cause) → ◌≡◌ {A = Result X Cause} (option_map_or Err o (Ok x)) (Ok y) → x ≡ y
-    by None h = cc
-    by (Some cause) h = absurd (differ h)
-      where
-        differ : ◌≡◌ {A = Result X Cause} (Err cause) (Ok y) → ⊥
-        differ k = cc
-
 -- a change keeps it
 sound_changed : (d : Dialect) (kernel : Bool) (c : ChangeOf Text) (i j : ImageOf Text) → changed text_eq kernel c i ≡ Ok j → IsSoundImage d i → IsSoundImage d j
 sound_changed d kernel (Define x) i j e s =
     subst (IsSoundImage d) (unless_ok (definition_refusals text_eq i.classes x (with_definition text_eq kernel x i.classes)) (record i { classes = defined text_eq kernel x i.classes }) j e)
+    (record { methods = s.methods; doits = s.doits; heads = s.heads })
+sound_changed d kernel (DefineAt x k) i j e s =
+    subst (IsSoundImage d) (unless_ok (definition_refusals text_eq i.classes x (with_definition text_eq kernel x i.classes)) (record i { classes = with_definition text_eq kernel x i.classes }) j e)
     (record { methods = s.methods; doits = s.doits; heads = s.heads })
 sound_changed d kernel (Comment n t) i j e s =
     subst (IsSoundImage d) (unless_ok (comment_refusals text_eq i.classes n) (record i { classes = with_comment text_eq n t i.classes }) j e)
@@ -108,16 +102,42 @@ sound_added d kernel r source m i j spells stands e s =
     by false = All-last (SoundMethod d) i.methods (entry_in kernel r source m) s.methods new
 
 -- a do-it that is added keeps it
-sound_doit : (d : Dialect) (f : Filing) (x : DoItOf Text) → SoundDoIt d x → IsSoundImage d f.image → IsSoundImage d (with_doit f x).image
-sound_doit d f x h s = record {
+sound_doit : (d : Dialect) (i : ImageOf Text) (x : DoItOf Text) (at_head : Bool) → SoundDoIt d x → IsSoundImage d i → IsSoundImage d (record (plus i x) { heads = if at_head then i.heads + 1 else i.heads })
+sound_doit d i x at_head h s = record {
   methods = s.methods;
-  doits = All-last (SoundDoIt d) f.image.doits x s.doits h;
-  heads = by f.at_head;
+  doits = All-last (SoundDoIt d) i.doits x s.doits h;
+  heads = by at_head;
 }
   where
-    by : (b : Bool) → (if b then f.image.heads + 1 else f.image.heads) ≤ length (f.image.doits ++ x ∷ [])
-    by true = omega (arith, s.heads, length-append f.image.doits (x ∷ []))
-    by false = omega (arith, s.heads, length-append f.image.doits (x ∷ []))
+    by : (b : Bool) → (if b then i.heads + 1 else i.heads) ≤ length (i.doits ++ x ∷ [])
+    by true = omega (arith, s.heads, length-append i.doits (x ∷ []))
+    by false = omega (arith, s.heads, length-append i.doits (x ∷ []))
+
+-- of items of which one is replaced
+All-set : {X : Type 0} (P : X → Type 0) (xs : List X) (k : ℕ) (x : X) → AllByRecursion P xs → P x → AllByRecursion P (slice_set xs k x)
+All-set P [] k x all h = tt
+All-set P (y ∷ ys) zero x all h = (h, all.1)
+All-set P (y ∷ ys) (suc k) x all h = (all.0, All-set P ys k x all.1 h)
+
+-- a do-it that replaces another keeps it
+sound_replaced : (d : Dialect) (i : ImageOf Text) (numeral : Text) (x : DoItOf Text) → SoundDoIt d x → IsSoundImage d i → IsSoundImage d (with_replaced i numeral x)
+sound_replaced d i numeral x h s = by (place_in numeral)
+  where
+    by : (o : Option ℕ) → IsSoundImage d (record i { doits = option_map_or (λ k. slice_set i.doits (k - 1) x) o i.doits })
+    by None = record { methods = s.methods; doits = s.doits; heads = s.heads }
+    by (Some k) = record {
+      methods = s.methods;
+      doits = All-set (SoundDoIt d) i.doits (k - 1) x s.doits h;
+      heads = omega (arith, s.heads, length-set i.doits (k - 1) x);
+    }
+
+-- methods that go to the places that are stated for them keep it
+sound_placed : (d : Dialect) (i : ImageOf Text) (stated : PlacesOf Text) → IsSoundImage d i → IsSoundImage d (placed text_eq stated i)
+sound_placed d i stated s = record {
+  methods = all_reordered (SoundMethod d) i.methods (put_again_behind (λ (m : EntryOf Text). m.kernel) (method_place text_eq stated.methods) i.methods) (put_again_behind_same (λ (m : EntryOf Text). m.kernel) (method_place text_eq stated.methods) i.methods) s.methods;
+  doits = s.doits;
+  heads = s.heads;
+}
 
 -- a definition is no do-it
 definition_is_no_doit : (kernel : Bool) (p : List ℕ) (x : DefinitionStrings) → definition_form kernel p x ≡ Evaluates → ⊥
@@ -134,89 +154,65 @@ subclass_is_no_doit kernel p false None e = cc
 subclass_is_no_doit kernel p true (Some x) e = cc
 subclass_is_no_doit kernel p true None e = cc
 
+-- nor is one with a place
+placed_is_no_doit : (kernel : Bool) (p : List ℕ) (meta : Bool) (o : Option PlacedStrings) → placed_subclass_form kernel p meta o ≡ Evaluates → ⊥
+placed_is_no_doit kernel p false (Some x) e = by (place_in x.numeral) e
+  where
+    at : (k : ℕ) (form : Form) → at_place k form ≡ Evaluates → form ≡ Evaluates
+    at k Evaluates h = refl
+    at k (Changes c) h = cc
+    at k (Opens r) h = h
+    at k (OpensAt r j) h = h
+    at k Settles h = h
+    at k (Refuses cause) h = h
+
+    by : (o : Option ℕ) → option_map_or (λ k. at_place k (definition_form kernel p x.strings)) o no_form ≡ Evaluates → ⊥
+    by None h = cc
+    by (Some k) h = definition_is_no_doit kernel p x.strings (at k (definition_form kernel p x.strings) h)
+placed_is_no_doit kernel p false None e = cc
+placed_is_no_doit kernel p true (Some x) e = cc
+placed_is_no_doit kernel p true None e = cc
+
 -- what is a do-it in the text of the kernel is one in a user's
+further_doit : (kernel : Bool) (m : Sent) → further_form kernel m ≡ Evaluates → further_form false m ≡ Evaluates
+further_doit kernel m e = by (text_eq m.selector placed_definition_selector) _ e
+  where
+    by : (a : Bool) (last : Form) → (if a then placed_subclass_form kernel m.class m.meta (placed_strings m.arguments) else last) ≡ Evaluates → (if a then placed_subclass_form false m.class m.meta (placed_strings m.arguments) else last) ≡ Evaluates
+    by true last h = absurd (placed_is_no_doit kernel m.class m.meta (placed_strings m.arguments) h)
+    by false last h = h
+
 user_doit : (d : Dialect) (kernel : Bool) (b : SequenceOf Text) → form_of d kernel b ≡ Evaluates → form_of d false b ≡ Evaluates
 user_doit d kernel b e = by (sent_of b b.temporaries) e
   where
-    at : (m : Sent) (a : Bool) (last : Form) → (if a then subclass_form kernel m.class m.meta (definition_strings m.arguments) else last) ≡ Evaluates → (if a then subclass_form false m.class m.meta (definition_strings m.arguments) else last) ≡ Evaluates
-    at m true last h = absurd (subclass_is_no_doit kernel m.class m.meta (definition_strings m.arguments) h)
-    at m false last h = h
+    at : (m : Sent) (a c : Bool) → (if a then subclass_form kernel m.class m.meta (definition_strings m.arguments) else (if c then class_side_form d m.class m.meta (the_argument m.arguments) else further_form kernel m)) ≡ Evaluates
+        → (if a then subclass_form false m.class m.meta (definition_strings m.arguments) else (if c then class_side_form d m.class m.meta (the_argument m.arguments) else further_form false m)) ≡ Evaluates
+    at m true c h = absurd (subclass_is_no_doit kernel m.class m.meta (definition_strings m.arguments) h)
+    at m false true h = h
+    at m false false h = further_doit kernel m h
 
     by : (o : Option Sent) → option_map_or (sent_form d kernel) o Evaluates ≡ Evaluates → option_map_or (sent_form d false) o Evaluates ≡ Evaluates
     by None h = refl
-    by (Some m) h =
-        at m (text_eq m.selector definition_selector)
-        (if text_eq m.selector (codes "instanceVariableNames:") then class_side_form d m.class m.meta (the_argument m.arguments) else other_form m.class m.meta m.selector (the_argument m.arguments)) h
+    by (Some m) h = at m (text_eq m.selector definition_selector) (text_eq m.selector (codes "instanceVariableNames:")) h
 
--- what a form makes keeps it
-sound_form : (d : Dialect) (kernel : Bool) (f g : Filing) (x : DoItOf Text) (form : Form) → Ok g ≡ form_taken kernel f x form → (form ≡ Evaluates → SoundDoIt d x) → IsSoundImage d f.image → IsSoundImage d g.image
-sound_form d kernel f g x Evaluates e h s = subst (λ (k : Filing). IsSoundImage d k.image) (same e) (sound_doit d f x (h refl) s)
-  where
-    same : ◌≡◌ {A = Result Filing Cause} (Ok g) (Ok (with_doit f x)) → with_doit f x ≡ g
-    same k = cc
-sound_form d kernel f g x (Changes c) e h s = by (changed text_eq kernel c f.image) refl e
-  where
-    by : (r : Result (ImageOf Text) Cause) → changed text_eq kernel c f.image ≡ r → Ok g ≡ result_map_both (goes_on None) (λ t. t) r → IsSoundImage d g.image
-    by (Ok j) made k = subst (λ (z : Filing). IsSoundImage d z.image) (same k) (sound_changed d kernel c f.image j made s)
-      where
-        same : ◌≡◌ {A = Result Filing Cause} (Ok g) (Ok (goes_on None j)) → goes_on None j ≡ g
-        same l = cc
-    by (Err cause) made k = absurd (differ k)
-      where
-        differ : ◌≡◌ {A = Result Filing Cause} (Ok g) (Err cause) → ⊥
-        differ l = cc
-sound_form d kernel f g x (Opens r) e h s =
-    subst (λ (z : Filing). IsSoundImage d z.image) (unless_ok (run_refusals text_eq f.image.classes r) (goes_on (Some r) f.image) g (sym e)) s
-sound_form d kernel f g x (Refuses cause) e h s = absurd (differ e)
-  where
-    differ : ◌≡◌ {A = Result Filing Cause} (Ok g) (Err cause) → ⊥
-    differ l = cc
+-- a do-it that stands as a chunk
+sound_chunk : (d : Dialect) (kernel : Bool) (x : DoItOf Text) → IsChunkDoIt d kernel x → SoundDoIt d x
+sound_chunk d kernel x h = record { spells = h.spells; stands = h.stands; form = user_doit d kernel x.body h.form }
 
--- what a chunk makes keeps it
-sound_item : (d : Dialect) (kernel : Bool) (f g : Filing) (run : Option (RunOf Text)) (source : Text) (x : Item) → IsItem d kernel run source x → HasNoLeadingBlank source → Ok g ≡ taken d kernel f x → IsSoundImage d f.image → IsSoundImage d g.image
-sound_item d kernel f g run source x Empty begins e s = subst (λ (z : Filing). IsSoundImage d z.image) (same e) s
-  where
-    same : ◌≡◌ {A = Result Filing Cause} (Ok g) (Ok (record f { run = None })) → record f { run = None } ≡ g
-    same k = cc
-sound_item d kernel f g run source x (DoItRead {b = b} n t) begins e s =
-    sound_form d kernel f g (record { source = source; body = b }) (form_of d kernel b) e
-    (λ h. record { spells = t; stands = record { some = n; no_blank = begins }; form = user_doit d kernel b h }) s
-sound_item d kernel f g run source x (DoItFault {fault = fault} n t) begins e s = absurd (differ e)
-  where
-    differ : ◌≡◌ {A = Result Filing Cause} (Ok g) (Err (Syntax fault)) → ⊥
-    differ k = cc
-sound_item d kernel f g run source x (MethodRead {run = r} {m = m} n t) begins e s = by (method_added text_eq kernel r source m f.image) refl e
-  where
-    by : (o : Result (ImageOf Text) Cause) → method_added text_eq kernel r source m f.image ≡ o → Ok g ≡ result_map_both (goes_on (Some r)) (λ z. z) o → IsSoundImage d g.image
-    by (Ok j) made k = subst (λ (z : Filing). IsSoundImage d z.image) (same k) (sound_added d kernel r source m f.image j t (record { some = n; no_blank = begins }) made s)
-      where
-        same : ◌≡◌ {A = Result Filing Cause} (Ok g) (Ok (goes_on (Some r) j)) → goes_on (Some r) j ≡ g
-        same l = cc
-    by (Err cause) made k = absurd (differ k)
-      where
-        differ : ◌≡◌ {A = Result Filing Cause} (Ok g) (Err cause) → ⊥
-        differ l = cc
-sound_item d kernel f g run source x (MethodFault {fault = fault} n t) begins e s = absurd (differ e)
-  where
-    differ : ◌≡◌ {A = Result Filing Cause} (Ok g) (Err (Syntax fault)) → ⊥
-    differ k = cc
-
--- what chunks make keeps it
-sound_takes : (d : Dialect) (kernel : Bool) (f g : Filing) (ps : List Piece) (end : Option NoEnd) → TakesAll d kernel f ps end (Ok g) → IsSoundImage d f.image → IsSoundImage d g.image
-sound_takes d kernel f g ps end Over s = s
-sound_takes d kernel f g ps end (Taken {g = h} {p = p} t rest) s =
-    sound_takes d kernel h g _ _ rest (sound_item d kernel f h f.run t.source t.item t.is_item (source_begins p.body t.source t.is_source) t.result s)
-
--- what a text makes keeps it
-sound_reading : (d : Dialect) (kernel : Bool) (i : ImageOf Text) (text : Text) (g : Filing) → ReadsText d kernel i text (Ok g) → IsSoundImage d i → IsSoundImage d g.image
-sound_reading d kernel i text g r s = sound_takes d kernel (record { image = i; run = None; at_head = true }) g r.pieces r.end r.takes s
+-- all that chunks make keeps it
+sound_keeps : (d : Dialect) (kernel : Bool) → IsKeptByChunks d kernel (IsSoundImage d)
+sound_keeps d kernel = record {
+  changes = λ b c i j says e s. sound_changed d kernel c i j e s;
+  adds = λ r source m i j spells stands there e s. sound_added d kernel r source m i j spells stands e s;
+  counts = λ i x at_head chunk s. sound_doit d i x at_head (sound_chunk d kernel x chunk) s;
+  replaces = λ i numeral x chunk s. sound_replaced d i numeral x (sound_chunk d kernel x chunk) s;
+  places = sound_placed d;
+}
 
 -- the image of a file-out
 sound_image : (d : Dialect) (prelude text : Text) (i : ImageOf Text) → IsImageOf d prelude text i → IsSoundImage d i
 sound_image d prelude text i h =
-    let nothing : IsSoundImage d no_image = record { methods = tt; doits = tt; heads = omega arith } in
-    let kernel : IsSoundImage d h.kernel = subst (IsSoundImage d) (sym h.is_kernel.image) (sound_reading d true no_image prelude h.is_kernel.end h.is_kernel.reads nothing) in
-    subst (IsSoundImage d) (sym h.image) (sound_reading d false h.kernel text h.end h.reads kernel)
+    kept_image d (IsSoundImage d) (sound_keeps d false) prelude text i h
+    (kept_kernel d (IsSoundImage d) (sound_keeps d true) prelude h.kernel h.is_kernel (record { methods = tt; doits = tt; heads = omega arith }))
 
 -- a fact of each item that follows from another
 All-weaker : {X : Type 0} (P Q : X → Type 0) (xs : List X) → ((x : X) → P x → Q x) → AllByRecursion P xs → AllByRecursion Q xs

@@ -1,5 +1,5 @@
 // Laws of file-outs. Each function does nothing; its contract is the law.
-ghost use Rattle.std.specs.Prelude.{◌≡◌, map, [], ◌∷◌, ◌++◌, List, Bool, true, false, Some, IsTrue};
+ghost use Rattle.std.specs.Prelude.{◌≡◌, ◌↔◌, map, filter, [], ◌∷◌, ◌++◌, List, Bool, true, false, Some, IsTrue, Ok, Err};
 ghost use Rattle.std.specs.List.{AllByRecursion};
 ghost use Rattle.token_model.specs.declared.kind.Dialect.{Dialect};
 ghost use Rattle.token_model.specs.declared.kind.Dialect.TheVariants.{First, Second};
@@ -9,15 +9,20 @@ ghost use Rattle.image_model.specs.Valid.{IsFileable, IsUserMethod, IsUserDoIt, 
 ghost use Rattle.image_model.specs.Words.{text_words};
 ghost use Rattle.std.specs.List.Sorted.{IsPermutation};
 ghost use Rattle.image_model.specs.Valid.{HasNoRepeat, class_names, signature, GivesNames};
-ghost use Rattle.file_model.specs.Changes.{DefinitionOf};
+ghost use Rattle.tree_model.specs.Tree.{MethodOf};
+ghost use Rattle.file_model.specs.Causes.{Cause};
+ghost use Rattle.file_model.specs.Changes.{DefinitionOf, ChangeOf, RunOf};
 ghost use Rattle.file_model.specs.Hierarchy.{has_class, settled};
 ghost use Rattle.file_model.specs.Refusals.{makes_cycle};
-ghost use Rattle.file_model.specs.Applied.{with_definition, defined};
+ghost use Rattle.file_model.specs.Applied.{with_definition, defined, changed, method_added};
 ghost use Rattle.file_model.specs.Filing.{Text};
+ghost use Rattle.file_model.specs.Places.{PlacesOf, no_places, placed};
 ghost use Rattle.file_model.specs.Fileable.{reading_of};
 ghost use Rattle.file_model.specs.Words.{may_name};
 ghost use Rattle.file_model.specs.Reading.{IsKernelOf, IsImageOf};
+ghost use Rattle.file_laws.specs.Fronts.{HasKernelInFront, IsAllOfKernel};
 ghost use Rattle.file_laws.specs.Settling.{staying, moving, WaitsFor};
+ghost use Rattle.file_laws.specs.Orders.{AreSameClasses, unplaced, with_classes, IsChangedAlike};
 
 /// The image of a file-out can be written as one and read again: each source of a user may stand as a chunk, each do-it is
 /// read as one, and no more do-its stand at the head than there are. Each source of a user's method spells its tree, which
@@ -90,4 +95,54 @@ pub fn gives_valid_images()
 pub fn gives_plain_classes()
     ensures kernel { (prelude : Text) (kernel : ImageOf Text) → IsKernelOf First prelude kernel → AllByRecursion (λ (c : ClassOf Text). c.class_side ≡ []) kernel.classes }
     ensures image { (prelude text : Text) (image : ImageOf Text) → IsImageOf First prelude text image → AllByRecursion (λ (c : ClassOf Text). c.class_side ≡ []) image.classes }
+{}
+
+/// Changes do not depend on the order of the classes: of the same classes in another order a change is refused for the same
+/// cause, or gives the same image in another order, whether or not it states a place. Where each superclass stands before
+/// its subclasses, it does so again.
+pub fn changes_in_any_order()
+    ensures refused { (kernel : Bool) (change : ChangeOf Text) (image : ImageOf Text) (others : List (ClassOf Text)) (cause : Cause) → AreSameClasses image.classes others →
+        (changed text_eq kernel change image ≡ Err cause) ↔ (changed text_eq kernel (unplaced change) (with_classes others image) ≡ Err cause) }
+    ensures given { (kernel : Bool) (change : ChangeOf Text) (image changed_image : ImageOf Text) (others : List (ClassOf Text)) → AreSameClasses image.classes others → SuperclassesStandBefore others →
+        changed text_eq kernel change image ≡ Ok changed_image → IsChangedAlike text_eq kernel change image others changed_image }
+{}
+
+/// Classes of which some order has each superclass before its subclasses are put in such an order from any order of them:
+/// none is lost and none stands twice.
+pub fn settles_any_order()
+    ensures first { (classes order : List (ClassOf Text)) → IsPermutation classes order → SuperclassesStandBefore order → SuperclassesStandBefore (settled text_eq classes) }
+    ensures same { (classes order : List (ClassOf Text)) → IsPermutation classes order → SuperclassesStandBefore order → IsPermutation classes (settled text_eq classes) }
+{}
+
+/// Where classes and methods are put in again at the places that are stated for them, each superclass stands before its
+/// subclasses, none is lost and none stands twice, and those of the kernel keep their order. Where no place is stated, an
+/// image stays in which those of the kernel stand in front.
+pub fn puts_in_again()
+    ensures first { (places : PlacesOf Text) (image : ImageOf Text) (order : List (ClassOf Text)) → IsPermutation image.classes order → SuperclassesStandBefore order →
+        SuperclassesStandBefore (placed text_eq places image).classes }
+    ensures classes { (places : PlacesOf Text) (image : ImageOf Text) (order : List (ClassOf Text)) → IsPermutation image.classes order → SuperclassesStandBefore order →
+        IsPermutation image.classes (placed text_eq places image).classes }
+    ensures methods { (places : PlacesOf Text) (image : ImageOf Text) → IsPermutation image.methods (placed text_eq places image).methods }
+    ensures methods_once { (places : PlacesOf Text) (image : ImageOf Text) → HasNoRepeat (map signature image.methods) → HasNoRepeat (map signature (placed text_eq places image).methods) }
+    ensures names_once { (places : PlacesOf Text) (image : ImageOf Text) (order : List (ClassOf Text)) → IsPermutation image.classes order → SuperclassesStandBefore order →
+        HasNoRepeat (class_names image.classes) → HasNoRepeat (class_names (placed text_eq places image).classes) }
+    ensures kernel_classes { (places : PlacesOf Text) (image : ImageOf Text) → SuperclassesStandBefore (filter (λ (c : ClassOf Text). c.kernel) image.classes) →
+        filter (λ (c : ClassOf Text). c.kernel) (placed text_eq places image).classes ≡ filter (λ (c : ClassOf Text). c.kernel) image.classes }
+    ensures kernel_methods { (places : PlacesOf Text) (image : ImageOf Text) → filter (λ (m : EntryOf Text). m.kernel) (placed text_eq places image).methods ≡ filter (λ (m : EntryOf Text). m.kernel) image.methods }
+    ensures stays { (image : ImageOf Text) → SuperclassesStandBefore image.classes → HasKernelInFront image → placed text_eq no_places image ≡ image }
+{}
+
+/// What is of the kernel stands in front in an image whose classes and methods were put in again, and after each change and each
+/// method of a user it stands there. While all is of the kernel, all stays so in each change and each method of the kernel's own.
+pub fn keeps_kernel_in_front()
+    ensures placed { (places : PlacesOf Text) (image : ImageOf Text) → SuperclassesStandBefore (filter (λ (c : ClassOf Text). c.kernel) image.classes) → HasKernelInFront (placed text_eq places image) }
+    ensures changed { (change : ChangeOf Text) (image new : ImageOf Text) → SuperclassesStandBefore image.classes → HasKernelInFront image →
+        changed text_eq false change image ≡ Ok new → HasKernelInFront new }
+    ensures method { (run : RunOf Text) (source : Text) (tree : MethodOf Text) (image new : ImageOf Text) → HasKernelInFront image →
+        method_added text_eq false run source tree image ≡ Ok new → HasKernelInFront new }
+    ensures kernel { (image : ImageOf Text) → IsAllOfKernel image → HasKernelInFront image }
+    ensures kernel_changed { (change : ChangeOf Text) (image new : ImageOf Text) → IsAllOfKernel image →
+        changed text_eq true change image ≡ Ok new → IsAllOfKernel new }
+    ensures kernel_method { (run : RunOf Text) (source : Text) (tree : MethodOf Text) (image new : ImageOf Text) → IsAllOfKernel image →
+        method_added text_eq true run source tree image ≡ Ok new → IsAllOfKernel new }
 {}

@@ -5,6 +5,7 @@
 mod laws;
 
 pub use laws::{
-    gives_fileable_images, gives_methods_once, gives_named_classes, gives_plain_classes,
-    gives_valid_images, keeps_superclasses_first, reads_the_same_with_braces, settles_by_moving,
+    changes_in_any_order, gives_fileable_images, gives_methods_once, gives_named_classes,
+    gives_plain_classes, gives_valid_images, keeps_kernel_in_front, keeps_superclasses_first,
+    puts_in_again, reads_the_same_with_braces, settles_any_order, settles_by_moving,
 };

@@ -16,7 +16,7 @@ use Rattle.image_model.specs.Means.{of_instance, of_class_side}
 use Rattle.image_model.proofs.Lists.{all-implies, length-map}
 use Rattle.image_model.proofs.Changed.{own_method-map}
 use Rattle.file_model.specs.Causes.{Cause, when, UnknownSuperclass, Cycle, VariableTwice, KernelReplaced, UnknownClass, TooMany}
-use Rattle.file_model.specs.Changes.{DefinitionOf, ChangeOf, Define, Comment, SetClassSide, RemoveMethod, RemoveClass, RunOf, map_definition, map_change, map_run}
+use Rattle.file_model.specs.Changes.{DefinitionOf, ChangeOf, Define, DefineAt, Comment, SetClassSide, RemoveMethod, RemoveClass, RunOf, map_definition, map_change, map_run}
 use Rattle.file_model.specs.Hierarchy.{has_class, settled}
 use Rattle.file_model.specs.Refusals.{class_limit, method_limit, has_method, is_kernel_method, definition_refusals, comment_refusals, class_side_refusals, removal_refusals, class_removal_refusals, run_refusals, method_refusals}
 use Rattle.file_model.specs.Applied.{new_class, class_again, changed_class, with_definition, defined, with_class_side, with_comment, is_of_class, without_class, without_method, changed, entry_in, with_method, method_added}
@@ -91,7 +91,7 @@ module _ {M N : Type 0} (P : M → Type 0) (f : M → N) (w : WordsOf M) (v : Wo
       lacks (Some n) t = ap not (has_class-map P f w v keeps classes n p t)
 
   -- whether a method is that of a class, a side and a selector
-  is_method-map : (c : M) (meta : Bool) (s : M) (m : EntryOf M) → P c → P s → EntryNames P m → is_method v.tests.same (f c) meta (f s) (map_entry f m) ≡ is_method w.tests.same c meta s m
+  pub is_method-map : (c : M) (meta : Bool) (s : M) (m : EntryOf M) → P c → P s → EntryNames P m → is_method v.tests.same (f c) meta (f s) (map_entry f m) ≡ is_method w.tests.same c meta s m
   is_method-map c meta s m p q r = λ i. is_that-map P f w v keeps c m.class r.class p i && beq meta m.meta && keeps.tests.same s m.tree.selector q r.tree.selector i
 
   all_methods-map : (c : M) (meta : Bool) (s : M) (methods : List (EntryOf M)) → AllByRecursion (EntryNames P) methods → P c → P s
@@ -159,6 +159,13 @@ module _ {M N : Type 0} (P : M → Type 0) (f : M → N) (w : WordsOf M) (v : Wo
       (ap (definition_refusals v.tests.same (map (map_class f) i.classes) (map_definition f d)) (with_definition-map kernel d i.classes p.classes q)
       ∙ definition_refusals-map i.classes d (with_definition w.tests.same kernel d i.classes) p.classes q (with_definition-names kernel d i.classes p.classes q))
       (λ j. record (map_image f i) { classes = defined-map kernel d i.classes p.classes q j })
+  changed-map_image kernel (DefineAt d k) i p q =
+      unless-map (map_image f) (definition_refusals w.tests.same i.classes d (with_definition w.tests.same kernel d i.classes))
+      (definition_refusals v.tests.same (map (map_class f) i.classes) (map_definition f d) (with_definition v.tests.same kernel (map_definition f d) (map (map_class f) i.classes)))
+      (record i { classes = with_definition w.tests.same kernel d i.classes }) (record (map_image f i) { classes = with_definition v.tests.same kernel (map_definition f d) (map (map_class f) i.classes) })
+      (ap (definition_refusals v.tests.same (map (map_class f) i.classes) (map_definition f d)) (with_definition-map kernel d i.classes p.classes q)
+      ∙ definition_refusals-map i.classes d (with_definition w.tests.same kernel d i.classes) p.classes q (with_definition-names kernel d i.classes p.classes q))
+      (λ j. record (map_image f i) { classes = with_definition-map kernel d i.classes p.classes q j })
   changed-map_image kernel (Comment n text) i p q =
       unless-map (map_image f) (comment_refusals w.tests.same i.classes n) (comment_refusals v.tests.same (map (map_class f) i.classes) (f n))
       (record i { classes = with_comment w.tests.same n text i.classes }) (record (map_image f i) { classes = with_comment v.tests.same (f n) text (map (map_class f) i.classes) })
@@ -190,6 +197,9 @@ module _ {M N : Type 0} (P : M → Type 0) (f : M → N) (w : WordsOf M) (v : Wo
   changed-names kernel (Define d) i p q =
       unless-all (ImageNames P) (definition_refusals w.tests.same i.classes d (with_definition w.tests.same kernel d i.classes)) (record i { classes = defined w.tests.same kernel d i.classes })
       (record { classes = defined-names kernel d i.classes p.classes q; methods = p.methods; doits = p.doits })
+  changed-names kernel (DefineAt d k) i p q =
+      unless-all (ImageNames P) (definition_refusals w.tests.same i.classes d (with_definition w.tests.same kernel d i.classes)) (record i { classes = with_definition w.tests.same kernel d i.classes })
+      (record { classes = with_definition-names kernel d i.classes p.classes q; methods = p.methods; doits = p.doits })
   changed-names kernel (Comment n text) i p q =
       unless-all (ImageNames P) (comment_refusals w.tests.same i.classes n) (record i { classes = with_comment w.tests.same n text i.classes })
       (record { classes = with_comment-names n text i.classes p.classes; methods = p.methods; doits = p.doits })

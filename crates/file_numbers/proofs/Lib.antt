@@ -1,3 +1,5 @@
 pub mod Mapped
 mod Classes
 mod Changed
+mod Again
+mod Placed

@@ -1,1 +1,2 @@
 pub mod ChangeNames
+pub mod PlacesNames

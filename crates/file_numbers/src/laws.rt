@@ -11,7 +11,9 @@ ghost use Rattle.file_model.specs.Causes.{Cause};
 ghost use Rattle.file_model.specs.Changes.{ChangeOf, RunOf, map_change, map_run};
 ghost use Rattle.file_model.specs.Refusals.{run_refusals};
 ghost use Rattle.file_model.specs.Applied.{changed, method_added};
+ghost use Rattle.file_model.specs.Places.{PlacesOf, places_after, places_behind, placed, map_places};
 ghost use Rattle.file_numbers.specs.ChangeNames.{ChangeNames};
+ghost use Rattle.file_numbers.specs.PlacesNames.{PlacesNames};
 
 /// A change of classes or methods makes the same image, or is refused for the same cause, over the numbers of names in a
 /// table and over their texts. The names in what it makes are in the table.
@@ -34,4 +36,23 @@ pub fn methods_by_numbers()
     ensures known { (names : List (List ℕ)) (kernel : Bool) (r : RunOf ℕ) (source : List ℕ) (m : MethodOf ℕ) (i : ImageOf ℕ) → HasNoTwice names →
         ImageNames (λ n. n < length names) i → r.class < length names → MethodNames (λ n. n < length names) m →
         IfOk (method_added nat_eq kernel r source m i) (ImageNames (λ n. n < length names)) }
+{}
+
+/// The places after a change and behind a method of a run, and the image whose places are settled, are the same over the
+/// numbers of names in a table and over their texts. The names in them are in the table.
+pub fn places_by_numbers()
+    ensures after { (names : List (List ℕ)) (c : ChangeOf ℕ) (places : PlacesOf ℕ) → HasNoTwice names → PlacesNames (λ n. n < length names) places →
+        ChangeNames (λ n. n < length names) c →
+        places_after text_eq (map_change (name_at names) c) (map_places (name_at names) places) ≡ map_places (name_at names) (places_after nat_eq c places) }
+    ensures behind { (names : List (List ℕ)) (class : ℕ) (meta : Bool) (selector : ℕ) (places : PlacesOf ℕ) →
+        places_behind (name_at names class) meta (name_at names selector) (map_places (name_at names) places) ≡ map_places (name_at names) (places_behind class meta selector places) }
+    ensures settled { (names : List (List ℕ)) (places : PlacesOf ℕ) (i : ImageOf ℕ) → HasNoTwice names → PlacesNames (λ n. n < length names) places →
+        ImageNames (λ n. n < length names) i →
+        placed text_eq (map_places (name_at names) places) (map_image (name_at names) i) ≡ map_image (name_at names) (placed nat_eq places i) }
+    ensures known_after { (names : List (List ℕ)) (c : ChangeOf ℕ) (places : PlacesOf ℕ) → HasNoTwice names → PlacesNames (λ n. n < length names) places →
+        ChangeNames (λ n. n < length names) c → PlacesNames (λ n. n < length names) (places_after nat_eq c places) }
+    ensures known_behind { (names : List (List ℕ)) (class : ℕ) (meta : Bool) (selector : ℕ) (places : PlacesOf ℕ) → PlacesNames (λ n. n < length names) places →
+        class < length names → selector < length names → PlacesNames (λ n. n < length names) (places_behind class meta selector places) }
+    ensures known_settled { (names : List (List ℕ)) (places : PlacesOf ℕ) (i : ImageOf ℕ) → HasNoTwice names →
+        ImageNames (λ n. n < length names) i → ImageNames (λ n. n < length names) (placed nat_eq places i) }
 {}

@@ -4,4 +4,4 @@
 
 mod laws;
 
-pub use laws::{changes_by_numbers, methods_by_numbers};
+pub use laws::{changes_by_numbers, methods_by_numbers, places_by_numbers};

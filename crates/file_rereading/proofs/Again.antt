@@ -10,7 +10,7 @@ use Rattle.chunk_format.specs.Left.{start_of}
 use Rattle.image_model.specs.Image.{ClassOf, EntryOf, DoItOf, ImageOf}
 use Rattle.image_model.specs.Chain.{class_named}
 use Rattle.image_model.specs.Words.{text_words}
-use Rattle.image_model.specs.Valid.{HasNoRepeat, class_names, signature, HasClass, IsUserMethod, IsUserDoIt, IsValid, IsFileable}
+use Rattle.image_model.specs.Valid.{HasNoRepeat, SuperclassesStandBefore, class_names, signature, HasClass, IsUserMethod, IsUserDoIt, IsValid, IsFileable}
 use Rattle.image_model.proofs.Ends.{contains-place}
 use Rattle.image_model.proofs.Lists.{all-both}
 use Rattle.file_model.specs.Hierarchy.{has_class}
@@ -18,7 +18,11 @@ use Rattle.file_model.specs.Filing.{Text}
 use Rattle.file_model.specs.Written.{doit_text, class_text, methods_text, user_classes, user_methods, file_of}
 use Rattle.file_model.specs.Fileable.{MayStand, IsDoItChunk, reading_of}
 use Rattle.file_model.specs.Reading.{IsKernelOf, IsImageOf}
+use Rattle.file_model.specs.Places.{no_places, placed}
+use Rattle.rb_base.proofs.NamesLemmas.{text_eq-refl}
 use Rattle.file_laws.proofs.Moves.{text_equal}
+use Rattle.file_laws.proofs.PlacedImages.{placed_stays}
+use Rattle.file_laws.proofs.PutAgain.{filter_pass}
 use Rattle.file_laws.proofs.Sound.{fileable, All-filter}
 use Rattle.file_laws.proofs.Redefined.{no_repeat_behind}
 use Rattle.file_rereading.specs.Rereading.{IsWithinLimits, IsBeginning, KernelFirst, is_only_doits, with_heads}
@@ -217,6 +221,25 @@ module _ (kernel i : ImageOf Text) (w : IsWritten kernel i) where
       let count = counted in
       λ j. record { classes = w.first.classes j; methods = w.first.methods j; doits = all j; heads = count j }
 
+  -- nothing of it goes to another place
+  stays_so : placed text_eq no_places at_the_end ≡ at_the_end
+  stays_so =
+      placed_stays text_eq text_eq-refl text_equal at_the_end (subst SuperclassesStandBefore w.first.classes w.valid.superclasses_before)
+      (record {
+        front = kernel.classes;
+        back = user_classes i;
+        whole = refl;
+        of_kernel = subst (AllByRecursion (λ (c : ClassOf Text). c.kernel ≡ true)) w.valid.kernel_classes (filter_pass (λ (c : ClassOf Text). c.kernel) i.classes);
+        of_user = all_not (λ (c : ClassOf Text). c.kernel) i.classes;
+      })
+      (record {
+        front = kernel.methods;
+        back = user_methods i;
+        whole = refl;
+        of_kernel = subst (AllByRecursion (λ (m : EntryOf Text). m.kernel ≡ true)) w.valid.kernel_methods (filter_pass (λ (m : EntryOf Text). m.kernel) i.methods);
+        of_user = all_not (λ (m : EntryOf Text). m.kernel) i.methods;
+      })
+
 -- the image of the text of an image
 pub reads_again : (prelude : Text) (kernel i : ImageOf Text) → IsKernelOf Second prelude kernel → IsBeginning kernel → KernelFirst kernel i → IsValid text_words (reading_of Second kernel) i → IsFileable (reading_of Second kernel) i → IsWithinLimits i → IsImageOf Second prelude (file_of i) (with_heads i)
 reads_again prelude kernel i is beginning first valid fileable limits =
@@ -227,7 +250,7 @@ reads_again prelude kernel i is beginning first valid fileable limits =
       is_kernel = is;
       end = outside (at_the_end kernel i w) (at_head kernel i w);
       reads = record { pieces = c.pieces; end = None; chunks = c.chunks; takes = c.takes };
-      image = is_image kernel i w;
+      image = is_image kernel i w ∙ sym (stays_so kernel i w);
     }
 
 -- the image of the text of the image of a file-out

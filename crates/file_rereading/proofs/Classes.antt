@@ -181,7 +181,7 @@ module _ (i : ImageOf Text) (front : List (ClassOf Text)) (c : ClassOf Text) (ba
       let text : definition_text c ≡ p ++ rest = right p (codes " subclass: #") n a b d e in
       let some : definition_text c ≢ [] = subst (λ (x : Text). x ≢ []) (sym text) (is_not_empty p rest above_word) in
       let begins : HasNoLeadingBlank (definition_text c) = subst HasNoLeadingBlank (sym text) (begins_no_blank p rest above_word) in
-      reads_change (definition_text c) (definition_tree c) (Define (definition_of c)) (with_classes i front) (with_classes i (front ++ as_defined c ∷ [])) at_head behind some begins (spells_definition c above_word word) (says_definition c u.above u.under gives) defines
+      reads_change (definition_text c) (definition_tree c) (Define (definition_of c)) (with_classes i front) (with_classes i (front ++ as_defined c ∷ [])) at_head behind some begins (spells_definition c above_word word) (says_definition c u.above u.under gives) refl defines
 
   -- its class-instance variables are read, where there are some
   reads_side : (behind : Text) → ReadsOn (paragraph_unless_empty c.class_side (class_side_text c) ++ behind) (outside (with_classes i (front ++ as_defined c ∷ [])) false) behind (outside (with_classes i (front ++ with_side c c.class_side ∷ [])) false)
@@ -195,7 +195,7 @@ module _ (i : ImageOf Text) (front : List (ClassOf Text)) (c : ClassOf Text) (ba
           let text : class_side_text c ≡ c.name ++ rest = append_assoc c.name (codes " class instanceVariableNames: ") (names_text c.class_side) in
           let some : class_side_text c ≢ [] = subst (λ (x : Text). x ≢ []) (sym text) (is_not_empty c.name rest word) in
           let begins : HasNoLeadingBlank (class_side_text c) = subst HasNoLeadingBlank (sym text) (begins_no_blank c.name rest word) in
-          reads_change (class_side_text c) (class_side_tree c) (SetClassSide c.name c.class_side) (with_classes i (front ++ as_defined c ∷ [])) (with_classes i (front ++ with_side c c.class_side ∷ [])) false behind some begins (spells_class_side c word) (says_class_side c gives) sets_side
+          reads_change (class_side_text c) (class_side_tree c) (SetClassSide c.name c.class_side) (with_classes i (front ++ as_defined c ∷ [])) (with_classes i (front ++ with_side c c.class_side ∷ [])) false behind some begins (spells_class_side c word) (says_class_side c gives) refl sets_side
 
   -- its comment is read, where it is not empty
   reads_comment : (behind : Text) → ReadsOn (paragraph_unless_empty c.comment (comment_text c) ++ behind) (outside (with_classes i (front ++ with_side c c.class_side ∷ [])) false) behind (outside (with_classes i (front ++ with_text c c.comment ∷ [])) false)
@@ -209,7 +209,7 @@ module _ (i : ImageOf Text) (front : List (ClassOf Text)) (c : ClassOf Text) (ba
           let text : comment_text c ≡ c.name ++ rest = append_assoc c.name (codes " comment: ") (quoted_text c.comment) in
           let some : comment_text c ≢ [] = subst (λ (x : Text). x ≢ []) (sym text) (is_not_empty c.name rest word) in
           let begins : HasNoLeadingBlank (comment_text c) = subst HasNoLeadingBlank (sym text) (begins_no_blank c.name rest word) in
-          reads_change (comment_text c) (comment_tree c) (Comment c.name c.comment) (with_classes i (front ++ with_side c c.class_side ∷ [])) (with_classes i (front ++ with_text c c.comment ∷ [])) false behind some begins (spells_comment c word) (says_comment c) sets_comment
+          reads_change (comment_text c) (comment_tree c) (Comment c.name c.comment) (with_classes i (front ++ with_side c c.class_side ∷ [])) (with_classes i (front ++ with_text c c.comment ∷ [])) false behind some begins (spells_comment c word) (says_comment c) refl sets_comment
 
   -- the class is read
   reads_class : (at_head : Bool) (behind : Text) → ReadsOn (class_text c ++ behind) (outside (with_classes i front) at_head) behind (outside (with_classes i (front ++ c ∷ [])) false)

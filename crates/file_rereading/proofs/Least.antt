@@ -10,7 +10,8 @@ use Rattle.scope_model.specs.SpecialNames.{is_pseudo_variable}
 use Rattle.image_model.specs.Image.{ClassOf}
 use Rattle.image_model.specs.Words.{text_words}
 use Rattle.image_model.specs.Valid.{HasNoRepeat, SuperclassesStandBefore, IsValid}
-use Rattle.file_model.specs.Filing.{Text, Filing, DoItChunk, taken}
+use Rattle.file_model.specs.Filing.{Text, Filing, begun, DoItChunk, taken}
+use Rattle.file_model.specs.Places.{no_places}
 use Rattle.file_model.specs.Written.{definition_text}
 use Rattle.file_model.specs.Fileable.{reading_of}
 use Rattle.file_model.specs.Reading.{DoItRead, TakesAll, Over, Taken, no_image, IsKernelOf}
@@ -22,7 +23,7 @@ use Rattle.file_rereading.proofs.Definitions.{spells_definition}
 
 -- what its text is read as
 read : Filing
-read = record { image = object_alone; run = None; at_head = false }
+read = record { image = object_alone; run = None; at_head = false; places = no_places }
 
 -- the text makes the image
 pub least_is_kernel : IsKernelOf Second least_prelude object_alone
@@ -33,9 +34,9 @@ least_is_kernel =
     let some : source ≢ [] = λ e. cc in
     let chunks : HasChunks (start_of least_prelude) (written_piece (start_of least_prelude) [] source ∷ []) None =
     First (Takes-written (start_of least_prelude) [] source (10 ∷ 10 ∷ []) refl (λ e. omega arith) whole) (NoChunk (IsPaired-IsBlank (10 ∷ 10 ∷ []) refl, refl)) in
-    let result : Ok read ≡ taken Second true (record { image = no_image; run = None; at_head = true }) (DoItChunk source (definition_tree object)) = refl in
-    let takes : TakesAll Second true (record { image = no_image; run = None; at_head = true }) (written_piece (start_of least_prelude) [] source ∷ []) None (Ok read) =
-    Taken (record { source = source; item = DoItChunk source (definition_tree object); is_source = written_source [] source refl refl; is_item = DoItRead some (spells_definition object refl refl); result = result }) Over in
+    let result : Ok read ≡ taken Second true (begun no_image) (DoItChunk source (definition_tree object)) = refl in
+    let takes : TakesAll Second true (begun no_image) (written_piece (start_of least_prelude) [] source ∷ []) None (Ok read) =
+    Taken (record { source = source; item = DoItChunk source (definition_tree object); is_source = written_source [] source refl refl; is_item = DoItRead some (spells_definition object refl refl) refl; result = result }) Over in
     record { end = read; reads = record { pieces = written_piece (start_of least_prelude) [] source ∷ []; end = None; chunks = chunks; takes = takes }; image = refl }
 
 -- nothing stands twice where nothing stands, or one thing

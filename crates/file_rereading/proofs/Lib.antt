@@ -2,7 +2,8 @@ mod Readings
 mod Lines
 mod Definitions
 mod Names
-mod Says
+pub mod Says
+pub mod Replacements
 mod DoIts
 mod Fresh
 mod Methods
@@ -11,7 +12,6 @@ mod Classes
 mod Again
 mod Least
 mod Same
-mod Kept
 mod Marked
 mod Stays
 mod Limits

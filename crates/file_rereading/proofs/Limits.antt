@@ -1,6 +1,6 @@
 -- No file-out makes more classes and methods than there may be, nor counts more do-its than there are.
 use Rattle.std.proofs.Common.{◌≡◌, ◌⊎◌, inl, inr, ℕ, zero, suc, ◌+◌, ◌<◌, ◌≤◌, Bool, true, false, not, cond, List, [], ◌∷◌, ◌++◌, length, map, find, filter, Option, Some, None, Ok, refl, ap, sym, subst, ◌∙◌, arith, true≢false}
-use Rattle.std.specs.Prelude.{◌&&◌, if◌then◌else◌, nat_le}
+use Rattle.std.specs.Prelude.{◌-◌, slice_set, ◌&&◌, if◌then◌else◌, nat_le}
 use Rattle.std.specs.Option.{option_map_or}
 use Rattle.std.proofs.lemmas.Bool.Decides.{leb_tells}
 use Rattle.std.proofs.lemmas.List.Sums.{length-filter, count_by-le-length}
@@ -11,14 +11,21 @@ use Rattle.image_model.specs.Image.{ClassOf, EntryOf, DoItOf, ImageOf, plus}
 use Rattle.image_model.specs.Lookup.{is_method}
 use Rattle.image_model.proofs.Ends.{length-end}
 use Rattle.image_model.proofs.Lists.{length-map}
-use Rattle.file_model.specs.Changes.{DefinitionOf, ChangeOf, Define, Comment, SetClassSide, RemoveMethod, RemoveClass, RunOf}
+use Rattle.file_model.specs.Changes.{DefinitionOf, ChangeOf, Define, DefineAt, Comment, SetClassSide, RemoveMethod, RemoveClass, RunOf}
 use Rattle.file_model.specs.Hierarchy.{has_class, can_follow, without_first, settle_behind, settled}
 use Rattle.file_model.specs.Refusals.{has_method, is_one_class_too_many, is_one_method_too_many, definition_refusals, comment_refusals, class_side_refusals, removal_refusals, class_removal_refusals, method_refusals}
 use Rattle.file_model.specs.Applied.{new_class, class_again, changed_class, with_definition, defined, with_class_side, with_comment, is_of_class, without_class, without_method, changed, entry_in, with_method, method_added}
 use Rattle.file_model.specs.Filing.{Text}
-use Rattle.file_model.specs.Reading.{no_image, IsKernelOf, IsImageOf}
+use Rattle.file_model.specs.Reading.{IsKernelOf, IsImageOf}
 use Rattle.file_rereading.specs.Rereading.{IsWithinLimits}
-use Rattle.file_rereading.proofs.Kept.{allowed, kept_takes}
+use Rattle.file_model.specs.Filing.{with_replaced}
+use Rattle.file_model.specs.Numerals.{place_in}
+use Rattle.file_model.specs.Places.{PlacesOf, put_again_behind, class_place, method_place, placed}
+use Rattle.file_laws.proofs.PutAgain.{put_again_behind_same}
+use Rattle.file_laws.proofs.Refused.{allowed}
+use Rattle.file_laws.proofs.Taking.{IsKeptByChunks, kept_kernel, kept_image}
+use Rattle.std.proofs.lemmas.List.{length-set}
+use Rattle.std.proofs.lemmas.List.Sorted.{length_permutation}
 
 -- a list without the first item that passes, where there is one
 size_without : {X : Type 0} (p : X → Bool) (xs : List X) (x : X) → find p xs ≡ Some x → length (without_first p xs) + 1 ≡ length xs
@@ -57,15 +64,26 @@ size_filter p xs = omega (arith, length-filter p xs, count_by-le-length p xs)
 size_changed : (n : Text) (f : ClassOf Text → ClassOf Text) (cs : List (ClassOf Text)) → length (changed_class text_eq n f cs) ≡ length cs
 size_changed n f cs = length-map (λ (c : ClassOf Text). if text_eq n c.name then f c else c) cs
 
--- classes one of which is defined
-size_defined : (kernel : Bool) (d : DefinitionOf Text) (cs : List (ClassOf Text)) → length cs ≤ 10000 → is_one_class_too_many text_eq cs d.name ≡ false → length (defined text_eq kernel d cs) ≤ 10000
-size_defined kernel d cs few h = by (has_class text_eq cs d.name) refl
+-- classes one of which is defined, with a place or in order
+size_with : (kernel : Bool) (d : DefinitionOf Text) (cs : List (ClassOf Text)) → length cs ≤ 10000 → is_one_class_too_many text_eq cs d.name ≡ false → length (with_definition text_eq kernel d cs) ≤ 10000
+size_with kernel d cs few h = by (has_class text_eq cs d.name) refl
   where
-    by : (b : Bool) → has_class text_eq cs d.name ≡ b → length (if b then settled text_eq (if b then changed_class text_eq d.name (class_again d) cs else cs ++ new_class kernel d ∷ []) else (if b then changed_class text_eq d.name (class_again d) cs else cs ++ new_class kernel d ∷ [])) ≤ 10000
-    by true e =
-        let xs = changed_class text_eq d.name (class_again d) cs in
-        omega (arith, size_settled (length xs) [] xs, size_changed d.name (class_again d) cs, few)
+    by : (b : Bool) → has_class text_eq cs d.name ≡ b → length (if b then changed_class text_eq d.name (class_again d) cs else cs ++ new_class kernel d ∷ []) ≤ 10000
+    by true e = omega (arith, size_changed d.name (class_again d) cs, few)
     by false e = let less : length cs < 10000 = one_more 10000 (length cs) (has_class text_eq cs d.name) e h in omega (arith, length-end cs (new_class kernel d), less)
+
+size_defined : (kernel : Bool) (d : DefinitionOf Text) (cs : List (ClassOf Text)) → length cs ≤ 10000 → is_one_class_too_many text_eq cs d.name ≡ false → length (defined text_eq kernel d cs) ≤ 10000
+size_defined kernel d cs few h = by (has_class text_eq cs d.name)
+  where
+    put : List (ClassOf Text)
+    put = with_definition text_eq kernel d cs
+
+    with_it : length (with_definition text_eq kernel d cs) ≤ 10000
+    with_it = size_with kernel d cs few h
+
+    by : (b : Bool) → length (if b then settled text_eq (with_definition text_eq kernel d cs) else with_definition text_eq kernel d cs) ≤ 10000
+    by true = omega (arith, size_settled (length put) [] put, with_it)
+    by false = with_it
 
 -- methods one of which is put in
 size_with_method : (kernel : Bool) (r : RunOf Text) (source : Text) (m : MethodOf Text) (ms : List (EntryOf Text)) → length ms ≤ 200000 → is_one_method_too_many text_eq ms r.class r.meta m.selector ≡ false → length (with_method text_eq kernel r source m ms) ≤ 200000
@@ -80,6 +98,9 @@ limits_changed : (kernel : Bool) (c : ChangeOf Text) (i j : ImageOf Text) → ch
 limits_changed kernel (Define d) i j e h =
     let a = allowed (definition_refusals text_eq i.classes d (with_definition text_eq kernel d i.classes)) (record i { classes = defined text_eq kernel d i.classes }) j e in
     subst IsWithinLimits a.same (record { classes = size_defined kernel d i.classes h.classes a.none.1.1.1.1.0; methods = h.methods })
+limits_changed kernel (DefineAt d k) i j e h =
+    let a = allowed (definition_refusals text_eq i.classes d (with_definition text_eq kernel d i.classes)) (record i { classes = with_definition text_eq kernel d i.classes }) j e in
+    subst IsWithinLimits a.same (record { classes = size_with kernel d i.classes h.classes a.none.1.1.1.1.0; methods = h.methods })
 limits_changed kernel (Comment n t) i j e h =
     let a = allowed (comment_refusals text_eq i.classes n) (record i { classes = with_comment text_eq n t i.classes }) j e in
     let few : length i.classes ≤ 10000 = h.classes in
@@ -107,15 +128,31 @@ limits_added kernel r source m i j e h =
     let a = allowed (method_refusals text_eq i.methods r m.selector) (record i { methods = with_method text_eq kernel r source m i.methods }) j e in
     subst IsWithinLimits a.same (record { classes = h.classes; methods = size_with_method kernel r source m i.methods h.methods a.none.1.0 })
 
+-- so do methods and classes that go to the places that are stated for them
+limits_placed : (i : ImageOf Text) (stated : PlacesOf Text) → IsWithinLimits i → IsWithinLimits (placed text_eq stated i)
+limits_placed i stated h =
+    let put = put_again_behind (λ (c : ClassOf Text). c.kernel) (class_place text_eq stated.classes) i.classes in
+    let moved : length put ≡ length i.classes = length_permutation i.classes put (put_again_behind_same (λ (c : ClassOf Text). c.kernel) (class_place text_eq stated.classes) i.classes) in
+    let methods = put_again_behind (λ (m : EntryOf Text). m.kernel) (method_place text_eq stated.methods) i.methods in
+    let moved_too : length methods ≡ length i.methods = length_permutation i.methods methods (put_again_behind_same (λ (m : EntryOf Text). m.kernel) (method_place text_eq stated.methods) i.methods) in
+    let few : length i.classes ≤ 10000 = h.classes in
+    let fewer : length i.methods ≤ 200000 = h.methods in
+    record { classes = omega (arith, size_settled (length put) [] put, moved, few); methods = omega (arith, moved_too, fewer) }
+
+limits_keep : (d : Dialect) (kernel : Bool) → IsKeptByChunks d kernel IsWithinLimits
+limits_keep d kernel = record {
+  changes = λ b c i j says e h. limits_changed kernel c i j e h;
+  adds = λ r source m i j spells stands there e h. limits_added kernel r source m i j e h;
+  counts = λ i x at_head chunk h. record { classes = h.classes; methods = h.methods };
+  replaces = λ i numeral x chunk h. record { classes = h.classes; methods = h.methods };
+  places = limits_placed;
+}
+
 -- the image of a file-out
 pub limits_image : (d : Dialect) (prelude text : Text) (i : ImageOf Text) → IsImageOf d prelude text i → IsWithinLimits i
 limits_image d prelude text i r =
-    let k = r.is_kernel in
-    let nothing : IsWithinLimits no_image = record { classes = omega arith; methods = omega arith } in
-    let counts : (j : ImageOf Text) (x : DoItOf Text) (at_head : Bool) → IsWithinLimits j → IsWithinLimits (record (plus j x) { heads = if at_head then j.heads + 1 else j.heads }) = λ j x at_head h. record { classes = h.classes; methods = h.methods } in
-    let kernel : IsWithinLimits k.end.image = kept_takes true IsWithinLimits (limits_changed true) (limits_added true) counts d (record { image = no_image; run = None; at_head = true }) k.end k.reads.pieces k.reads.end k.reads.takes nothing in
-    let end : IsWithinLimits r.end.image = kept_takes false IsWithinLimits (limits_changed false) (limits_added false) counts d (record { image = r.kernel; run = None; at_head = true }) r.end r.reads.pieces r.reads.end r.reads.takes (subst IsWithinLimits (sym k.image) kernel) in
-    subst IsWithinLimits (sym r.image) end
+    kept_image d IsWithinLimits (limits_keep d false) prelude text i r
+    (kept_kernel d IsWithinLimits (limits_keep d true) prelude r.kernel r.is_kernel (record { classes = omega arith; methods = omega arith }))
 
 -- no more do-its are counted than there are
 abbrev HasCounted : ImageOf Text → Type 0
@@ -123,6 +160,7 @@ HasCounted i = i.heads ≤ length i.doits
 
 counted_changed : (kernel : Bool) (c : ChangeOf Text) (i j : ImageOf Text) → changed text_eq kernel c i ≡ Ok j → HasCounted i → HasCounted j
 counted_changed kernel (Define d) i j e h = subst HasCounted (allowed (definition_refusals text_eq i.classes d (with_definition text_eq kernel d i.classes)) (record i { classes = defined text_eq kernel d i.classes }) j e).same h
+counted_changed kernel (DefineAt d k) i j e h = subst HasCounted (allowed (definition_refusals text_eq i.classes d (with_definition text_eq kernel d i.classes)) (record i { classes = with_definition text_eq kernel d i.classes }) j e).same h
 counted_changed kernel (Comment n t) i j e h = subst HasCounted (allowed (comment_refusals text_eq i.classes n) (record i { classes = with_comment text_eq n t i.classes }) j e).same h
 counted_changed kernel (SetClassSide n names) i j e h = subst HasCounted (allowed (class_side_refusals text_eq i.classes n names (with_class_side text_eq n names i.classes)) (record i { classes = with_class_side text_eq n names i.classes }) j e).same h
 counted_changed kernel (RemoveMethod c meta s) i j e h = subst HasCounted (allowed (removal_refusals text_eq i c meta s) (without_method text_eq c meta s i) j e).same h
@@ -135,11 +173,25 @@ counted_doit : (i : ImageOf Text) (x : DoItOf Text) (at_head : Bool) → HasCoun
 counted_doit i x true h = omega (arith, h, length-end i.doits x)
 counted_doit i x false h = omega (arith, h, length-end i.doits x)
 
+counted_replaced : (i : ImageOf Text) (numeral : Text) (x : DoItOf Text) → HasCounted i → HasCounted (with_replaced i numeral x)
+counted_replaced i numeral x h = by (place_in numeral)
+  where
+    by : (o : Option ℕ) → i.heads ≤ length (option_map_or (λ k. slice_set i.doits (k - 1) x) o i.doits)
+    by None = h
+    by (Some k) = omega (arith, h, length-set i.doits (k - 1) x)
+
+counted_keeps : (d : Dialect) (kernel : Bool) → IsKeptByChunks d kernel HasCounted
+counted_keeps d kernel = record {
+  changes = λ b c i j says e h. counted_changed kernel c i j e h;
+  adds = λ r source m i j spells stands there e h. counted_added kernel r source m i j e h;
+  counts = λ i x at_head chunk h. counted_doit i x at_head h;
+  replaces = λ i numeral x chunk h. counted_replaced i numeral x h;
+  places = λ i stated h. h;
+}
+
 -- a kernel without do-its counts none
 pub kernel_counted : (d : Dialect) (prelude : Text) (kernel : ImageOf Text) → IsKernelOf d prelude kernel → kernel.doits ≡ [] → kernel.heads ≡ 0
 kernel_counted d prelude kernel k none =
-    let nothing : HasCounted no_image = omega arith in
-    let end : HasCounted k.end.image = kept_takes true HasCounted (counted_changed true) (counted_added true) counted_doit d (record { image = no_image; run = None; at_head = true }) k.end k.reads.pieces k.reads.end k.reads.takes nothing in
-    let all : kernel.heads ≤ length kernel.doits = subst HasCounted (sym k.image) end in
+    let all : kernel.heads ≤ length kernel.doits = kept_kernel d HasCounted (counted_keeps d true) prelude kernel k (omega arith) in
     let size : length kernel.doits ≡ 0 = ap (λ (ds : List (DoItOf Text)). length ds) none in
     omega (arith, all, size)

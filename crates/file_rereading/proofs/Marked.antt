@@ -12,15 +12,19 @@ use Rattle.image_model.specs.Chain.{class_named}
 use Rattle.image_model.specs.Lookup.{is_method}
 use Rattle.image_model.proofs.Ends.{all-end}
 use Rattle.image_model.proofs.Lists.{find-all}
-use Rattle.file_model.specs.Changes.{DefinitionOf, ChangeOf, Define, Comment, SetClassSide, RemoveMethod, RemoveClass, RunOf}
+use Rattle.file_model.specs.Changes.{DefinitionOf, ChangeOf, Define, DefineAt, Comment, SetClassSide, RemoveMethod, RemoveClass, RunOf}
 use Rattle.file_model.specs.Hierarchy.{has_class, is_kernel_class, can_follow, without_first, settle_behind, settled}
 use Rattle.file_model.specs.Refusals.{has_method, definition_refusals, comment_refusals, class_side_refusals, removal_refusals, class_removal_refusals, method_refusals}
 use Rattle.file_model.specs.Applied.{new_class, class_again, changed_class, with_definition, defined, with_class_side, with_comment, is_of_class, without_class, without_method, changed, entry_in, with_method, method_added}
 use Rattle.file_model.specs.Filing.{Text}
-use Rattle.file_model.specs.Reading.{no_image, IsKernelOf}
+use Rattle.file_model.specs.Reading.{IsKernelOf}
 use Rattle.file_laws.proofs.Sound.{All-filter, All-replaced}
 use Rattle.file_rereading.proofs.Fresh.{none_in}
-use Rattle.file_rereading.proofs.Kept.{allowed, kept_takes}
+use Rattle.file_model.specs.Places.{PlacesOf, put_again_behind, class_place, method_place, placed}
+use Rattle.file_laws.proofs.PutAgain.{put_again_behind_same}
+use Rattle.file_laws.proofs.Refused.{allowed}
+use Rattle.file_laws.proofs.SettledAgain.{All-reordered}
+use Rattle.file_laws.proofs.Taking.{IsKeptByChunks, kept_kernel}
 
 -- a fact of what is left where the first item that passes is taken out
 all_without : {X : Type 0} (P : X → Type 0) (p : X → Bool) (xs : List X) → AllByRecursion P xs → AllByRecursion P (without_first p xs)
@@ -59,13 +63,23 @@ all_changed P n f (c ∷ cs) keeps all = (by (text_eq n c.name), all_changed P n
     by true = keeps c all.0
     by false = all.0
 
--- of classes one of which is defined
+-- of classes one of which is defined, with a place or in order
+all_with_definition : (P : ClassOf Text → Type 0) (kernel : Bool) (d : DefinitionOf Text) (cs : List (ClassOf Text)) → ((c : ClassOf Text) → P c → P (class_again d c)) → P (new_class kernel d) → AllByRecursion P cs → AllByRecursion P (with_definition text_eq kernel d cs)
+all_with_definition P kernel d cs again new all = by (has_class text_eq cs d.name)
+  where
+    by : (b : Bool) → AllByRecursion P (if b then changed_class text_eq d.name (class_again d) cs else cs ++ new_class kernel d ∷ [])
+    by true = all_changed P d.name (class_again d) cs again all
+    by false = all-end P cs (new_class kernel d) all new
+
 all_defined : (P : ClassOf Text → Type 0) (kernel : Bool) (d : DefinitionOf Text) (cs : List (ClassOf Text)) → ((c : ClassOf Text) → P c → P (class_again d c)) → P (new_class kernel d) → AllByRecursion P cs → AllByRecursion P (defined text_eq kernel d cs)
 all_defined P kernel d cs again new all = by (has_class text_eq cs d.name)
   where
-    by : (b : Bool) → AllByRecursion P (if b then settled text_eq (if b then changed_class text_eq d.name (class_again d) cs else cs ++ new_class kernel d ∷ []) else (if b then changed_class text_eq d.name (class_again d) cs else cs ++ new_class kernel d ∷ []))
-    by true = all_settled P (changed_class text_eq d.name (class_again d) cs) (all_changed P d.name (class_again d) cs again all)
-    by false = all-end P cs (new_class kernel d) all new
+    with_it : AllByRecursion P (with_definition text_eq kernel d cs)
+    with_it = all_with_definition P kernel d cs again new all
+
+    by : (b : Bool) → AllByRecursion P (if b then settled text_eq (with_definition text_eq kernel d cs) else with_definition text_eq kernel d cs)
+    by true = all_settled P (with_definition text_eq kernel d cs) with_it
+    by false = with_it
 
 -- of methods one of which is put in
 pub all_with_method : (P : EntryOf Text → Type 0) (kernel : Bool) (r : RunOf Text) (source : Text) (m : MethodOf Text) (ms : List (EntryOf Text)) → P (entry_in kernel r source m) → AllByRecursion P ms → AllByRecursion P (with_method text_eq kernel r source m ms)
@@ -107,6 +121,13 @@ marked_changed (Define d) i j e h =
       sides = all_defined (λ c. c.class_side ≡ []) true d i.classes (λ c k. k) refl h.sides;
       methods = h.methods;
     })
+marked_changed (DefineAt d k) i j e h =
+    subst IsMarked (allowed (definition_refusals text_eq i.classes d (with_definition text_eq true d i.classes)) (record i { classes = with_definition text_eq true d i.classes }) j e).same
+    (record {
+      classes = all_with_definition (λ c. c.kernel ≡ true) true d i.classes (λ c k. k) refl h.classes;
+      sides = all_with_definition (λ c. c.class_side ≡ []) true d i.classes (λ c k. k) refl h.sides;
+      methods = h.methods;
+    })
 marked_changed (Comment n t) i j e h =
     subst IsMarked (allowed (comment_refusals text_eq i.classes n) (record i { classes = with_comment text_eq n t i.classes }) j e).same
     (record {
@@ -141,9 +162,28 @@ marked_added r source m i j e h =
     subst IsMarked (allowed (method_refusals text_eq i.methods r m.selector) (record i { methods = with_method text_eq true r source m i.methods }) j e).same
     (record { classes = h.classes; sides = h.sides; methods = all_with_method (λ e. e.kernel ≡ true) true r source m i.methods refl h.methods })
 
+-- so do methods and classes that go to the places that are stated for them
+all_put : (P : ClassOf Text → Type 0) (i : ImageOf Text) (stated : PlacesOf Text) → AllByRecursion P i.classes → AllByRecursion P (placed text_eq stated i).classes
+all_put P i stated all =
+    let put = put_again_behind (λ (c : ClassOf Text). c.kernel) (class_place text_eq stated.classes) i.classes in
+    all_settled P put (All-reordered P i.classes put (put_again_behind_same (λ (c : ClassOf Text). c.kernel) (class_place text_eq stated.classes) i.classes) all)
+
+marked_placed : (i : ImageOf Text) (stated : PlacesOf Text) → IsMarked i → IsMarked (placed text_eq stated i)
+marked_placed i stated h = record {
+  classes = all_put (λ c. c.kernel ≡ true) i stated h.classes;
+  sides = all_put (λ c. c.class_side ≡ []) i stated h.sides;
+  methods = All-reordered (λ m. m.kernel ≡ true) i.methods (placed text_eq stated i).methods (put_again_behind_same (λ (m : EntryOf Text). m.kernel) (method_place text_eq stated.methods) i.methods) h.methods;
+}
+
+marked_keeps : (d : Dialect) → IsKeptByChunks d true IsMarked
+marked_keeps d = record {
+  changes = λ b c i j says e h. marked_changed c i j e h;
+  adds = λ r source m i j spells stands there e h. marked_added r source m i j e h;
+  counts = λ i x at_head chunk h. record { classes = h.classes; sides = h.sides; methods = h.methods };
+  replaces = λ i numeral x chunk h. record { classes = h.classes; sides = h.sides; methods = h.methods };
+  places = marked_placed;
+}
+
 -- the image of the kernel
 pub kernel_marked : (d : Dialect) (prelude : Text) (kernel : ImageOf Text) → IsKernelOf d prelude kernel → IsMarked kernel
-kernel_marked d prelude kernel k =
-    let nothing : IsMarked no_image = record { classes = tt; sides = tt; methods = tt } in
-    subst IsMarked (sym k.image)
-    (kept_takes true IsMarked marked_changed marked_added (λ i x at_head h. record { classes = h.classes; sides = h.sides; methods = h.methods }) d (record { image = no_image; run = None; at_head = true }) k.end k.reads.pieces k.reads.end k.reads.takes nothing)
+kernel_marked d prelude kernel k = kept_kernel d IsMarked (marked_keeps d) prelude kernel k (record { classes = tt; sides = tt; methods = tt })

@@ -26,6 +26,7 @@ use Rattle.file_model.specs.Hierarchy.{has_class}
 use Rattle.file_model.specs.Refusals.{method_limit, has_method, is_kernel_method, is_one_method_too_many, method_refusals, run_refusals}
 use Rattle.file_model.specs.Applied.{entry_in, with_method, method_added}
 use Rattle.file_model.specs.Filing.{Text, Filing, Blank, DoItChunk, MethodChunk, goes_on, form_taken}
+use Rattle.file_model.specs.Places.{no_places}
 use Rattle.file_model.specs.Written.{chunk_text, run_of, is_one_run, side_text, run_start, run_end, method_opening, methods_text}
 use Rattle.file_model.specs.Reading.{Empty, DoItRead, MethodRead}
 use Rattle.file_model.specs.Fileable.{MayStand}
@@ -37,11 +38,12 @@ use Rattle.file_rereading.proofs.Readings.{ReadsOn, reads_further, reads_none, r
 use Rattle.file_rereading.proofs.Lines.{spells_opening}
 use Rattle.file_rereading.proofs.Names.{begins_no_blank, is_not_empty}
 use Rattle.file_rereading.proofs.Says.{none_holds, says_opening}
+use Rattle.file_rereading.proofs.Replacements.{opens_none}
 use Rattle.file_rereading.proofs.Fresh.{fresh, find_none}
 
 -- in a run of methods, or outside one
 abbrev in_run : ImageOf Text → Option (RunOf Text) → Bool → Filing
-in_run i run at_head = record { image = i; run = run; at_head = at_head }
+in_run i run at_head = record { image = i; run = run; at_head = at_head; places = no_places }
 
 -- the image with these methods
 abbrev pub with_methods : ImageOf Text → List (EntryOf Text) → ImageOf Text
@@ -91,7 +93,7 @@ reads_start r i at_head behind word there =
     let mark : ReadsOn (33 ∷ after) (outside i at_head) after (outside i at_head) = reads_chunk [] [] after Blank refl refl other Empty refl in
     let open_ : ReadsOn after (outside i at_head) behind (in_run i (Some r) false) =
     subst (λ (s : Text). ReadsOn s (outside i at_head) behind (in_run i (Some r) false)) (sym (append_assoc (chunk_text (opening_text r)) (10 ∷ []) behind))
-    (reads_chunk (opening_text r) (10 ∷ []) behind (DoItChunk (opening_text r) (opening_tree r)) begins refl (λ e. omega arith) (DoItRead some (spells_opening r word)) (sym takes)) in
+    (reads_chunk (opening_text r) (10 ∷ []) behind (DoItChunk (opening_text r) (opening_tree r)) begins refl (λ e. omega arith) (DoItRead some (spells_opening r word) (opens_none Second false (opening_tree r) r (says_opening r))) (sym takes)) in
     reads_further mark open_
 
 -- the end of a run
@@ -162,7 +164,7 @@ adds i m g front all few =
 reads_method : (i : ImageOf Text) (m : EntryOf Text) (front : List (EntryOf Text)) (at_head : Bool) (behind : Text) → IsGoodMethod i m → AllByRecursion (λ e. signature e ≡ signature m → ⊥) front → length front < 200000 → BeginsOtherwise 33 behind → ReadsOn (chunk_text m.source ++ behind) (in_run (with_methods i front) (Some (run_of m)) at_head) behind (in_run (with_methods i (front ++ m ∷ [])) (Some (run_of m)) false)
 reads_method i m front at_head behind g all few other =
     reads_chunk m.source [] behind (MethodChunk (run_of m) m.source m.tree) g.stands.no_blank refl other (MethodRead g.stands.some g.spells)
-    (sym (ap (result_map_both (goes_on (Some (run_of m))) (λ (e : Cause). e)) (adds i m g front all few)))
+    (sym (ap (result_map_both (goes_on no_places (Some (run_of m))) (λ (e : Cause). e)) (adds i m g front all few)))
 
 -- what stands behind a method does not begin with the mark
 behind_method : (r : RunOf Text) (ms : List (EntryOf Text)) (behind : Text) → BeginsOtherwise 33 (methods_text (Some r) ms ++ behind)

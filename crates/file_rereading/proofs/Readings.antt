@@ -11,12 +11,13 @@ use Rattle.chunk_format.proofs.Blanks.{IsBlank-cons, IsPaired-IsBlank, drop_blan
 use Rattle.std.specs.Prelude.{if◌then◌else◌}
 use Rattle.image_model.specs.Image.{DoItOf, ImageOf}
 use Rattle.file_model.specs.Filing.{Text, Filing, Item, taken}
+use Rattle.file_model.specs.Places.{no_places}
 use Rattle.file_model.specs.Written.{chunk_text}
 use Rattle.file_model.specs.Reading.{IsItem, TakesAll, Over, Taken}
 
 -- outside a run of methods, with all chunks so far do-its or not
 abbrev pub outside : ImageOf Text → Bool → Filing
-outside i at_head = record { image = i; run = None; at_head = at_head }
+outside i at_head = record { image = i; run = None; at_head = at_head; places = no_places }
 
 -- the image with more do-its at the end, which are counted where all before them are do-its
 abbrev pub with_doits : Bool → ImageOf Text → List (DoItOf Text) → ImageOf Text

@@ -1,9 +1,10 @@
 -- What the chunks say that define the classes of an image and open its runs.
 use Rattle.std.proofs.Common.{◌≡◌, Bool, true, false, not, List, [], ◌∷◌, Option, Some, None, refl, ap, sym, ◌∙◌}
-use Rattle.std.specs.Prelude.{codes, ◌&&◌, if◌then◌else◌, unwrap_or}
-use Rattle.std.specs.List.{AllByRecursion}
+use Rattle.std.specs.Prelude.{codes, nat_eq, ◌&&◌, if◌then◌else◌, unwrap_or}
+use Rattle.std.specs.List.{starts_with, AllByRecursion}
 use Rattle.std.specs.Option.{option_map_or}
 use Rattle.std.proofs.lemmas.Bool.{and_from}
+use Rattle.rb_base.specs.Names.{text_eq}
 use Rattle.token_model.specs.declared.kind.Dialect.TheVariants.{Second}
 use Rattle.text_model.specs.Pieces.{pieces_joined}
 use Rattle.image_model.specs.Image.{ClassOf}
@@ -11,7 +12,7 @@ use Rattle.image_model.specs.Valid.{GivesNames}
 use Rattle.file_model.specs.Words.{words_of, may_name, may_name_all, is_blank_string}
 use Rattle.file_model.specs.Causes.{PoolsNotEmpty, UnknownDefinition, Condition, when, first_cause}
 use Rattle.file_model.specs.Changes.{Define, Comment, SetClassSide, RunOf}
-use Rattle.file_model.specs.Forms.{Form, Changes, Opens, Refuses, no_form, form_of}
+use Rattle.file_model.specs.Forms.{Form, Changes, Opens, Settles, Refuses, no_form, form_of}
 use Rattle.file_model.specs.Filing.{Text}
 use Rattle.file_rereading.specs.Trees.{definition_tree, definition_of, class_side_tree, comment_tree, opening_tree}
 use Rattle.file_rereading.proofs.Names.{MayName, words_joined, joined_may}
@@ -45,9 +46,16 @@ says_class_side c gives =
     ap (λ (b : Bool). if b then Changes (SetClassSide c.name (words_of names)) else no_form) (joined_may c.class_side gives.class_side)
     ∙ ap (λ (ns : List Text). Changes (SetClassSide c.name ns)) (words_joined c.class_side gives.class_side)
 
+-- with another selector it does not matter whether a message is one to `Smalltalk`
+pub not_to_system : (s : Text) → text_eq s (codes "settlePlaces") ≡ false → starts_with nat_eq s (codes "replaceDoIt:") ≡ false → (a : Bool) (other : Form)
+    → (if a && text_eq s (codes "settlePlaces") then Settles else (if a && starts_with nat_eq s (codes "replaceDoIt:") then no_form else other)) ≡ other
+not_to_system s settles replaces true other =
+    ap (λ (b : Bool). if b then Settles else (if starts_with nat_eq s (codes "replaceDoIt:") then no_form else other)) settles ∙ ap (λ (b : Bool). if b then no_form else other) replaces
+not_to_system s settles replaces false other = refl
+
 -- the comment of a class
 pub says_comment : (c : ClassOf Text) → form_of Second false (comment_tree c) ≡ Changes (Comment c.name c.comment)
-says_comment c = refl
+says_comment c = not_to_system (codes "comment:") refl refl (text_eq c.name (codes "Smalltalk")) (Changes (Comment c.name c.comment))
 
 -- the opening of a run
 pub says_opening : (r : RunOf Text) → form_of Second false (opening_tree r) ≡ Opens r
@@ -55,4 +63,4 @@ says_opening r = by r.class r.meta r.protocol
   where
     by : (n : Text) (meta : Bool) (t : Text) → form_of Second false (opening_tree (record { class = n; meta = meta; protocol = t })) ≡ Opens (record { class = n; meta = meta; protocol = t })
     by n true t = refl
-    by n false t = refl
+    by n false t = not_to_system (codes "methodsFor:") refl refl (text_eq n (codes "Smalltalk")) (Opens (record { class = n; meta = false; protocol = t }))

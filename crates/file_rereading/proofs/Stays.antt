@@ -1,5 +1,5 @@
 -- The classes and the methods of the kernel stay as they are, before those of the user.
-use Rattle.std.proofs.Common.{◌≡◌, ℕ, zero, suc, Bool, true, false, not, List, [], ◌∷◌, ◌++◌, length, map, filter, Some, None, Ok, slice_get, refl, ap, sym, subst, ◌∙◌, append_assoc, append-nil, length-append, true≢false}
+use Rattle.std.proofs.Common.{◌≡◌, ℕ, zero, suc, Bool, true, false, not, List, [], ◌∷◌, ◌++◌, length, map, filter, Some, Ok, slice_get, refl, ap, sym, subst, ◌∙◌, append_assoc, append-nil, length-append, true≢false}
 use Rattle.std.specs.Prelude.{◌==◌, ◌&&◌, if◌then◌else◌}
 use Rattle.std.specs.List.{AllByRecursion}
 use Rattle.std.specs.Option.{option_map_or}
@@ -13,7 +13,7 @@ use Rattle.image_model.specs.Lookup.{is_method}
 use Rattle.image_model.specs.Valid.{class_names, SuperclassesStandBefore, HasClass}
 use Rattle.image_model.proofs.Ends.{all-end, contains-place}
 use Rattle.image_model.proofs.Lists.{all-implies}
-use Rattle.file_model.specs.Changes.{DefinitionOf, ChangeOf, Define, Comment, SetClassSide, RemoveMethod, RemoveClass, RunOf}
+use Rattle.file_model.specs.Changes.{DefinitionOf, ChangeOf, Define, DefineAt, Comment, SetClassSide, RemoveMethod, RemoveClass, RunOf}
 use Rattle.file_model.specs.Hierarchy.{has_class, is_kernel_class, settle_behind, settled}
 use Rattle.file_model.specs.Refusals.{has_method, is_kernel_method, definition_refusals, comment_refusals, class_side_refusals, removal_refusals, class_removal_refusals, method_refusals}
 use Rattle.file_model.specs.Applied.{new_class, class_again, changed_class, with_definition, defined, with_class_side, with_comment, is_of_class, without_class, without_method, changed, entry_in, with_method, method_added}
@@ -27,7 +27,10 @@ use Rattle.file_laws.proofs.Settled.{turn_of, in_turn}
 use Rattle.file_laws.proofs.Sound.{All-filter, All-replaced}
 use Rattle.file_rereading.specs.Rereading.{KernelFirst}
 use Rattle.file_rereading.proofs.Fresh.{unchanged, filter_all, filter_none, none_marked}
-use Rattle.file_rereading.proofs.Kept.{allowed, kept_takes}
+use Rattle.file_model.specs.Places.{PlacesOf, put_again, put_again_behind, class_place, method_place, placed}
+use Rattle.file_laws.proofs.PutAgain.{put_again_of_user}
+use Rattle.file_laws.proofs.Refused.{allowed}
+use Rattle.file_laws.proofs.Taking.{IsKeptByChunks, kept_image}
 use Rattle.file_rereading.proofs.Marked.{settles_behind, all_changed, no_names, IsMarked, kernel_marked}
 
 -- classes behind those of the kernel, none of which is one of the kernel
@@ -105,17 +108,27 @@ module _ (kernel : ImageOf Text) (k : IsWhole kernel) where
         user = s.all;
       }
 
-  -- a class that is defined
-  behind_defined : (cs : List (ClassOf Text)) (d : DefinitionOf Text) → AllByRecursion (λ c. text_eq d.name c.name ≡ false) kernel.classes → AreBehind kernel.classes cs → AreBehind kernel.classes (defined text_eq false d cs)
-  behind_defined cs d all b = by (has_class text_eq cs d.name)
+  -- a class that is defined, with a place or in order
+  behind_with : (cs : List (ClassOf Text)) (d : DefinitionOf Text) → AllByRecursion (λ c. text_eq d.name c.name ≡ false) kernel.classes → AreBehind kernel.classes cs → AreBehind kernel.classes (with_definition text_eq false d cs)
+  behind_with cs d all b = by (has_class text_eq cs d.name)
     where
-      by : (t : Bool) → AreBehind kernel.classes (if t then settled text_eq (if t then changed_class text_eq d.name (class_again d) cs else cs ++ new_class false d ∷ []) else (if t then changed_class text_eq d.name (class_again d) cs else cs ++ new_class false d ∷ []))
-      by true = behind_settled (changed_class text_eq d.name (class_again d) cs) (behind_changed cs d.name (class_again d) (λ c. refl) (none_changed d.name (class_again d) all) b)
+      by : (t : Bool) → AreBehind kernel.classes (if t then changed_class text_eq d.name (class_again d) cs else cs ++ new_class false d ∷ [])
+      by true = behind_changed cs d.name (class_again d) (λ c. refl) (none_changed d.name (class_again d) all) b
       by false = record {
         users = b.users ++ new_class false d ∷ [];
         split = ap (λ (xs : List (ClassOf Text)). xs ++ new_class false d ∷ []) b.split ∙ append_assoc kernel.classes b.users (new_class false d ∷ []);
         user = all-end (λ c. c.kernel ≡ false) b.users (new_class false d) b.user refl;
       }
+
+  behind_defined : (cs : List (ClassOf Text)) (d : DefinitionOf Text) → AllByRecursion (λ c. text_eq d.name c.name ≡ false) kernel.classes → AreBehind kernel.classes cs → AreBehind kernel.classes (defined text_eq false d cs)
+  behind_defined cs d all b = by (has_class text_eq cs d.name)
+    where
+      with_it : AreBehind kernel.classes (with_definition text_eq false d cs)
+      with_it = behind_with cs d all b
+
+      by : (t : Bool) → AreBehind kernel.classes (if t then settled text_eq (with_definition text_eq false d cs) else with_definition text_eq false d cs)
+      by true = behind_settled (with_definition text_eq false d cs) with_it
+      by false = with_it
 
   -- class-instance variables of a class of the kernel are none, as they were
   side_changed : (is : Bool) (n : Text) (names : List Text) → (is && not (length names == 0)) ≡ false → (is ≡ false → AllByRecursion (λ c. text_eq n c.name ≡ false) kernel.classes) → AllByRecursion (λ c. (if text_eq n c.name then record c { class_side = names } else c) ≡ c) kernel.classes
@@ -168,6 +181,9 @@ module _ (kernel : ImageOf Text) (k : IsWhole kernel) where
   stays_changed (Define d) i j e h =
       let a = allowed (definition_refusals text_eq i.classes d (with_definition text_eq false d i.classes)) (record i { classes = defined text_eq false d i.classes }) j e in
       subst Stays a.same (record { classes = behind_defined i.classes d (unlike i.classes d.name h.classes a.none.0) h.classes; methods = h.methods })
+  stays_changed (DefineAt d place) i j e h =
+      let a = allowed (definition_refusals text_eq i.classes d (with_definition text_eq false d i.classes)) (record i { classes = with_definition text_eq false d i.classes }) j e in
+      subst Stays a.same (record { classes = behind_with i.classes d (unlike i.classes d.name h.classes a.none.0) h.classes; methods = h.methods })
   stays_changed (Comment n t) i j e h =
       let a = allowed (comment_refusals text_eq i.classes n) (record i { classes = with_comment text_eq n t i.classes }) j e in
       let f : ClassOf Text → ClassOf Text = λ c. record c { comment = t } in
@@ -214,6 +230,36 @@ module _ (kernel : ImageOf Text) (k : IsWhole kernel) where
       let a = allowed (method_refusals text_eq i.methods r m.selector) (record i { methods = with_method text_eq false r source m i.methods }) j e in
       subst Stays a.same (record { classes = h.classes; methods = behind_with_method r source m i.methods (unlike_methods i.methods r.class r.meta m.selector h.methods a.none.0) h.methods })
 
+  -- the items of the kernel, where they stand before those of the user
+  kernel_part : {X : Type 0} (is_kernel : X → Bool) (front users all : List X) → all ≡ front ++ users → AllByRecursion (λ x. is_kernel x ≡ true) front → AllByRecursion (λ x. is_kernel x ≡ false) users → filter is_kernel all ≡ front
+  kernel_part is_kernel front users all split mine others =
+      ap (filter is_kernel) split ∙ filter-append is_kernel front users
+      ∙ (λ j. filter_all is_kernel front mine j ++ filter_none is_kernel users others j) ∙ append-nil front
+
+  -- so do methods and classes that go to the places that are stated for them
+  stays_placed : (i : ImageOf Text) (stated : PlacesOf Text) → Stays i → Stays (placed text_eq stated i)
+  stays_placed i stated h = record {
+    classes = behind_settled (put_again_behind (λ (c : ClassOf Text). c.kernel) (class_place text_eq stated.classes) i.classes) (record {
+      users = put_again (class_place text_eq stated.classes) (filter (λ (c : ClassOf Text). not c.kernel) i.classes);
+      split = ap (λ (cs : List (ClassOf Text)). cs ++ put_again (class_place text_eq stated.classes) (filter (λ (c : ClassOf Text). not c.kernel) i.classes)) (kernel_part (λ (c : ClassOf Text). c.kernel) kernel.classes h.classes.users i.classes h.classes.split k.marked.classes h.classes.user);
+      user = put_again_of_user (λ (c : ClassOf Text). c.kernel) (class_place text_eq stated.classes) i.classes;
+    });
+    methods = record {
+      users = put_again (method_place text_eq stated.methods) (filter (λ (m : EntryOf Text). not m.kernel) i.methods);
+      split = ap (λ (ms : List (EntryOf Text)). ms ++ put_again (method_place text_eq stated.methods) (filter (λ (m : EntryOf Text). not m.kernel) i.methods)) (kernel_part (λ (m : EntryOf Text). m.kernel) kernel.methods h.methods.users i.methods h.methods.split k.marked.methods h.methods.user);
+      user = put_again_of_user (λ (m : EntryOf Text). m.kernel) (method_place text_eq stated.methods) i.methods;
+    };
+  }
+
+  stays_keeps : (d : Dialect) → IsKeptByChunks d false Stays
+  stays_keeps d = record {
+    changes = λ b c i j says e h. stays_changed c i j e h;
+    adds = λ r source m i j spells stands there e h. stays_added r source m i j e h;
+    counts = λ i x at_head chunk h. record { classes = h.classes; methods = h.methods };
+    replaces = λ i numeral x chunk h. record { classes = h.classes; methods = h.methods };
+    places = stays_placed;
+  }
+
   -- what stays so has the kernel first
   kernel_first : (i : ImageOf Text) → Stays i → KernelFirst kernel i
   kernel_first i h =
@@ -238,6 +284,4 @@ first_in_image d prelude text kernel i is before there r =
     let k : IsWhole kernel = record { marked = kernel_marked d prelude kernel is; before = before; there = there } in
     let same : kernel ≡ r.kernel = one_kernel d prelude kernel r.kernel is r.is_kernel in
     let start : Stays kernel k kernel = record { classes = record { users = []; split = sym (append-nil kernel.classes); user = tt }; methods = record { users = []; split = sym (append-nil kernel.methods); user = tt } } in
-    let end : Stays kernel k r.end.image =
-    kept_takes false (Stays kernel k) (stays_changed kernel k) (stays_added kernel k) (λ j x at_head h. record { classes = h.classes; methods = h.methods }) d (record { image = r.kernel; run = None; at_head = true }) r.end r.reads.pieces r.reads.end r.reads.takes (subst (Stays kernel k) same start) in
-    kernel_first kernel k i (subst (Stays kernel k) (sym r.image) end)
+    kernel_first kernel k i (kept_image d (Stays kernel k) (stays_keeps kernel k d) prelude text i r (subst (Stays kernel k) same start))

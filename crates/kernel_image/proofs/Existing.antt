@@ -17,7 +17,7 @@ use Rattle.st_kernel.specs.KernelText.{prelude_text}
 use Rattle.image_model.specs.Image.{ClassOf, ImageOf}
 use Rattle.file_model.specs.Causes.{Cause}
 use Rattle.file_model.specs.Changes.{RunOf}
-use Rattle.file_model.specs.Filing.{Text, Filing, Item, Blank, DoItChunk, MethodChunk, taken}
+use Rattle.file_model.specs.Filing.{Text, Filing, begun, Item, Blank, DoItChunk, MethodChunk, taken}
 use Rattle.file_model.specs.Reading.{IsItem, Empty, DoItRead, MethodRead, no_image, IsKernelOf}
 use Rattle.file_model.specs.Written.{definition_text}
 use Rattle.file_model.proofs.OneImage.{one_kernel}
@@ -26,6 +26,7 @@ use Rattle.file_rereading.specs.Trees.{definition_tree, opening_tree, opening_te
 use Rattle.kernel_image.specs.KernelClasses.{kernel_classes}
 use Rattle.kernel_image.specs.KernelMethods.{row_of, kernel_methods}
 use Rattle.kernel_image.proofs.Braces.{has_no_brace, doit_in, method_in_dialect}
+use Rattle.kernel_image.proofs.Forms.{opening_replaces_none}
 use Rattle.kernel_image.proofs.Parts.{HasBodies, has_bodies}
 use Rattle.kernel_image.proofs.Sources.{Reads, Nothing, Source, reads_then, takes_sources}
 use Rattle.kernel_image.proofs.Texts.{first_part, other_parts, kernel_bodies, method_sources, kernel_runs, whole, is_cut, plain_pieces, sources_of}
@@ -77,6 +78,11 @@ pub its_methods : (d : Dialect) → map row_of (kernel_in d).methods ≡ kernel_
 unfolding kernel_in first_part other_parts prelude_text kernel_classes kernel_methods method_sources kernel_runs is_pseudo_variable method_in digits
 its_methods d = refl
 
+-- it is the same in both dialects
+alike : (d : Dialect) → kernel_in d ≡ kernel_in Second
+unfolding kernel_in first_part other_parts prelude_text kernel_classes method_sources kernel_runs is_pseudo_variable method_in digits
+alike d = refl
+
 -- the methods of the kernel are read behind its classes
 reads_methods : (d : Dialect) → can_read d method_sources (classes_alone kernel_classes) ≡ true
 unfolding first_part other_parts prelude_text kernel_classes method_sources kernel_runs is_pseudo_variable method_in digits
@@ -94,7 +100,7 @@ module _ (definitions : (class : ClassOf Text) → is_identifier (unwrap_or clas
       let plain = and_parts (has_no_brace (b ∷ s)) (text_eq (opening_text r) (b ∷ s) && is_identifier r.class) h in
       let parts = and_parts (text_eq (opening_text r) (b ∷ s)) (is_identifier r.class) plain.1 in
       let text : opening_text r ≡ b ∷ s = text_equal (opening_text r) (b ∷ s) parts.0 in
-      DoItRead (λ e. cc) (doit_in d (b ∷ s) (opening_tree r) plain.0 (subst (λ (t : Text). SpellsDoIt Second t (opening_tree r)) text (openings r parts.1)))
+      DoItRead (λ e. cc) (doit_in d (b ∷ s) (opening_tree r) plain.0 (subst (λ (t : Text). SpellsDoIt Second t (opening_tree r)) text (openings r parts.1))) (opening_replaces_none r)
   spelled_item d (Some r) (b ∷ s) h =
       let m = method_in (b ∷ s) in
       let plain = and_parts (has_no_brace (b ∷ s)) (text_eq (canonical_method m) (b ∷ s) && is_well_formed m) h in
@@ -115,7 +121,7 @@ module _ (definitions : (class : ClassOf Text) → is_identifier (unwrap_or clas
   pub is_kernel : (d : Dialect) → IsKernelOf d prelude_text (kernel_in d)
   unfolding kernel_in
   is_kernel d =
-      let start : Filing = record { image = no_image; run = None; at_head = true } in
+      let start : Filing = begun no_image in
       let end = end_of d method_sources (classes_alone kernel_classes) in
       let methods = sources_end d method_sources (classes_alone kernel_classes) (reads_methods d) in
       let sources : Reads d start (map definition_text kernel_classes ++ method_sources) end = reads_then d (map definition_text kernel_classes) method_sources start (classes_alone kernel_classes) end (classes_made definitions d) methods in
@@ -134,3 +140,7 @@ module _ (definitions : (class : ClassOf Text) → is_identifier (unwrap_or clas
   -- and no other
   pub kernel_rows : (d : Dialect) (k : ImageOf Text) → IsKernelOf d prelude_text k → map row_of k.methods ≡ kernel_methods
   kernel_rows d k is = ap (λ (i : ImageOf Text). map row_of i.methods) (one_kernel d prelude_text k (kernel_in d) is (is_kernel d)) ∙ its_methods d
+
+  -- the image of either dialect is that of the second
+  pub in_second : (d : Dialect) (k : ImageOf Text) → IsKernelOf d prelude_text k → IsKernelOf Second prelude_text k
+  in_second d k is = subst (IsKernelOf Second prelude_text) (sym (one_kernel d prelude_text k (kernel_in d) is (is_kernel d) ∙ alike d)) (is_kernel Second)

@@ -16,7 +16,7 @@ ghost use Rattle.file_rereading.specs.Rereading.{IsBeginning, IsWithinLimits, Ke
 ghost use Rattle.kernel_image.specs.KernelClasses.{kernel_classes};
 ghost use Rattle.kernel_image.specs.KernelMethods.{row_of, kernel_methods};
 
-use file_laws::{gives_fileable_images, gives_valid_images, reads_the_same_with_braces};
+use file_laws::{gives_fileable_images, gives_valid_images};
 use file_model::has_one_image;
 use file_rereading::{
     keeps_the_kernel_first, reads_each_image_again, reads_what_was_written, spells_definitions,
@@ -38,7 +38,8 @@ pub fn kernel_has_these_classes()
     ensures { (dialect : Dialect) (kernel : ImageOf Text) → IsKernelOf dialect prelude_text kernel → kernel.classes ≡ kernel_classes }
 {
     spells_definitions();
-    reads_the_same_with_braces();
+    tells_which_trees_have_a_text();
+    spells_the_tree_again();
 }
 
 /// The text of the kernel makes these methods, in either dialect: of each class and side these selectors, in order, each with
@@ -59,7 +60,8 @@ pub fn kernel_is_valid()
     ensures beginning { (dialect : Dialect) (kernel : ImageOf Text) → IsKernelOf dialect prelude_text kernel → IsBeginning kernel }
 {
     spells_definitions();
-    reads_the_same_with_braces();
+    tells_which_trees_have_a_text();
+    spells_the_tree_again();
 }
 
 /// Each text that is read behind the kernel makes an image, or one of its chunks is the first that is refused.
