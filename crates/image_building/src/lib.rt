@@ -7,6 +7,3 @@ mod doits;
 mod methods;
 
 pub use build::image_from;
-
-#[cfg(test)]
-mod tests;

@@ -8,10 +8,9 @@ use Rattle.std.proofs.lemmas.Bool.Decides.{eqb_tells}
 use Rattle.std.proofs.lemmas.List.{take_more, length-take-le}
 use Rattle.image_model.specs.Image.{ClassOf}
 use Rattle.image_model.specs.Chain.{class_named}
-use Rattle.indexmap.specs.IndexMap.{get}
-use Rattle.class_table.specs.Tables.{ClassTable}
+use Rattle.file_model.specs.Hierarchy.{stands_in}
 use Rattle.file_laws.specs.Settling.{comes_first}
-use Rattle.image_draft.specs.Table.{place_in, IsPlaceTable, IsNoted, stands_first}
+use Rattle.image_draft.specs.Table.{place_at, place_in, IsPlaceTable, IsNoted, stands_first}
 use Rattle.image_draft.proofs.Numbers.{nat_equal}
 
 -- one more on both sides
@@ -121,24 +120,57 @@ find_place (x ∷ xs) n = by (nat_eq n x.name) (find_place xs n) ∙ ap (option_
     by true rest = refl
     by false rest = rest ∙ shift (place_in xs n)
 
+-- a name has a place where a class of that name is there
+pub has_place : (cs : List (ClassOf ℕ)) (n : ℕ) → is_some (place_in cs n) ≡ stands_in nat_eq n cs
+has_place [] n = refl
+has_place (x ∷ xs) n = ap is_some (place_cons x xs n) ∙ by (nat_eq n x.name) (has_place xs n)
+  where
+    shift : (o : Option ℕ) → is_some (option_map suc o) ≡ is_some o
+    shift None = refl
+    shift (Some k) = refl
+
+    by : (b : Bool) → is_some (place_in xs n) ≡ stands_in nat_eq n xs → is_some (cond b (Some 0) (option_map suc (place_in xs n))) ≡ (b || stands_in nat_eq n xs)
+    by true rest = refl
+    by false rest = shift (place_in xs n) ∙ rest
+
 -- a table that has one name more
-module _ (before after : ClassTable) (cs : List (ClassOf ℕ)) (c : ClassOf ℕ) (k : ℕ) (known : IsPlaceTable before cs) (noted : IsNoted before after c.name k) where
-  noted_place : (q : ℕ) → get nat_eq after q ≡ cond (is_some (place_in cs c.name)) (place_in cs q) (cond (nat_eq c.name q) (Some k) (place_in cs q))
+module _ (before after : List (Option ℕ)) (cs : List (ClassOf ℕ)) (c : ClassOf ℕ) (k : ℕ) (known : IsPlaceTable before cs) (noted : IsNoted before after c.name k) where
+  noted_place : (q : ℕ) → place_at after q ≡ cond (is_some (place_in cs c.name)) (place_in cs q) (cond (nat_eq c.name q) (Some k) (place_in cs q))
   noted_place q = noted q ∙ (λ i. cond (is_some (known c.name i)) (known q i) (cond (nat_eq c.name q) (Some k) (known q i)))
 
 -- it is that of the classes with one more at the end
-pub table_last : (before after : ClassTable) (cs new : List (ClassOf ℕ)) (c : ClassOf ℕ) (k : ℕ) → IsPlaceTable before cs → IsNoted before after c.name k → k ≡ length cs → new ≡ cs ++ c ∷ [] → IsPlaceTable after new
+pub table_last : (before after : List (Option ℕ)) (cs new : List (ClassOf ℕ)) (c : ClassOf ℕ) (k : ℕ) → IsPlaceTable before cs → IsNoted before after c.name k → k ≡ length cs → new ≡ cs ++ c ∷ [] → IsPlaceTable after new
 table_last before after cs new c k known noted long is =
     λ q. noted_place before after cs c k known noted q
     ∙ ap (λ (n : ℕ). cond (is_some (place_in cs c.name)) (place_in cs q) (cond (nat_eq c.name q) (Some n) (place_in cs q))) long
     ∙ sym (place_last cs c q) ∙ ap (λ (ds : List (ClassOf ℕ)). place_in ds q) (sym is)
 
 -- or that of one more of those in front
-pub table_taken : (before after : ClassTable) (cs : List (ClassOf ℕ)) (i k : ℕ) (c : ClassOf ℕ) → IsPlaceTable before (take i cs) → IsNoted before after c.name k → k ≡ i → i < length cs → c ≡ get_or cs i c → IsPlaceTable after (take (i + 1) cs)
+pub table_taken : (before after : List (Option ℕ)) (cs : List (ClassOf ℕ)) (i k : ℕ) (c : ClassOf ℕ) → IsPlaceTable before (take i cs) → IsNoted before after c.name k → k ≡ i → i < length cs → c ≡ get_or cs i c → IsPlaceTable after (take (i + 1) cs)
 table_taken before after cs i k c known noted place h r =
     λ q. noted_place before after (take i cs) c k known noted q
     ∙ ap (λ (n : ℕ). cond (is_some (place_in (take i cs) c.name)) (place_in (take i cs) q) (cond (nat_eq c.name q) (Some n) (place_in (take i cs) q))) place
     ∙ sym (place_taken cs i c h r q)
+
+-- a table that has one name less is that of the classes whose names were not taken out
+pub table_left : (before after : List (Option ℕ)) (cs : List (ClassOf ℕ)) (i : ℕ) (c : ClassOf ℕ)
+    → ((q : ℕ) → place_at before q ≡ cond (is_some (place_in (take i cs) q)) None (place_in cs q))
+    → ((q : ℕ) → place_at after q ≡ cond (nat_eq c.name q) None (place_at before q))
+    → i < length cs → c ≡ get_or cs i c → (q : ℕ)
+    → place_at after q ≡ cond (is_some (place_in (take (i + 1) cs) q)) None (place_in cs q)
+table_left before after cs i c known forgotten h r q =
+    forgotten q
+    ∙ ap (λ (o : Option ℕ). cond (nat_eq c.name q) None o) (known q)
+    ∙ by (place_in (take i cs) c.name) (place_in (take i cs) q) (nat_eq c.name q) (λ e. ap (place_in (take i cs)) (sym (nat_equal c.name q e)))
+    ∙ ap (λ (o : Option ℕ). cond (is_some o) None (place_in cs q)) (sym (place_taken cs i c h r q))
+  where
+    by : (k m : Option ℕ) (b : Bool) → (b ≡ true → m ≡ k) → cond b None (cond (is_some m) None (place_in cs q)) ≡ cond (is_some (cond (is_some k) m (cond b (Some i) m))) None (place_in cs q)
+    by None None true same = refl
+    by None (Some m) true same = refl
+    by (Some k) None true same = let one : None ≡ Some k = same refl in absurd (cc)
+    by (Some k) (Some m) true same = refl
+    by None m false same = refl
+    by (Some k) m false same = refl
 
 -- a class stands before another where its place does
 pub first_placed : (cs : List (ClassOf ℕ)) (p n : ℕ) → stands_first (place_in cs p) (place_in cs n) ≡ comes_first nat_eq p n cs

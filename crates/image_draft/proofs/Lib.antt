@@ -3,14 +3,17 @@ mod Steps
 mod Entries
 mod Places
 pub mod Differ
-mod Ordered
+pub mod Ordered
 mod ClassPlaces
+mod NameTests
 mod Marks
 mod Beside
 mod Sound
-mod Seen
+mod Parts
+mod PartsKept
 pub mod MethodClasses
 pub mod Drafts
+pub mod InOrder
 pub mod SlotLists
 pub mod SlotTables
 pub mod SlotMethods

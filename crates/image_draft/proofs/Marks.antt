@@ -1,16 +1,20 @@
 -- The pass that finds the classes below a class may begin at its place.
 use Rattle.std.proofs.Common.{◌≡◌, ℕ, zero, suc, Bool, true, false, cond, List, [], ◌∷◌, drop, option_map, Option, Some, None, nat_eq, refl, sym, ap, ◌∙◌, arith}
-use Rattle.std.specs.Prelude.{◌||◌, if◌then◌else◌}
+use Rattle.std.specs.Prelude.{◌||◌, if◌then◌else◌, unwrap_or}
 use Rattle.std.specs.List.{list_any}
 use Rattle.std.specs.Option.{option_map_or}
 use Rattle.image_model.specs.Image.{ClassOf}
 use Rattle.image_model.specs.Means.{VariableKind}
-use Rattle.file_model.specs.Hierarchy.{has_repeat, chain_variables, stands_twice}
-use Rattle.file_laws.proofs.Below.{is_marked, marked}
+use Rattle.file_model.specs.Hierarchy.{has_repeat, chain_variables, tree_below, stands_twice}
+use Rattle.file_laws.proofs.Below.{is_marked, marked, tree_marked}
+use Rattle.image_draft.specs.NameSets.{has}
+use Rattle.image_draft.specs.Parts as parts
 use Rattle.image_draft.specs.Names.{AreOrdered}
 use Rattle.image_draft.specs.Table.{place_in}
 use Rattle.image_draft.proofs.ClassPlaces.{place_cons}
-use Rattle.image_draft.proofs.Ordered.{twice_marked}
+use Rattle.image_draft.proofs.NameTests.{marked_told}
+use Rattle.image_draft.proofs.Numbers.{nat_itself, nat_equal}
+use Rattle.image_draft.proofs.Ordered.{order_of}
 
 -- a class of another name is not marked where no name is
 unmarked : (n : ℕ) (x : ClassOf ℕ) → nat_eq n x.name ≡ false → is_marked nat_eq n [] x ≡ false
@@ -56,14 +60,17 @@ marked_from (x ∷ xs) n k e = by (nat_eq n x.name) refl k (sym (place_cons x xs
     by false q zero r next = absurd (never_first (place_in xs n) r)
     by false q (suc j) r next = passed_over n x xs q ∙ next j r
 
--- whether one of the marked classes has a variable twice on its chain
-abbrev pub marked_twice : List (ClassOf ℕ) → VariableKind → List (ClassOf ℕ) → Bool
-marked_twice cs kind marks = list_any (λ (c : ClassOf ℕ). has_repeat nat_eq (chain_variables nat_eq cs kind c)) marks
-
 pub twice_none : (cs : List (ClassOf ℕ)) (kind : VariableKind) (n : ℕ) → AreOrdered cs → place_in cs n ≡ None → false ≡ stands_twice nat_eq cs kind n
-twice_none cs kind n o e = sym (ap (marked_twice cs kind) (marked_none cs n e)) ∙ twice_marked cs kind n [] o refl
+twice_none cs kind n o e =
+    sym (ap (list_any (λ (c : ClassOf ℕ). has_repeat nat_eq (chain_variables nat_eq cs kind c))) (tree_marked nat_eq nat_itself nat_equal cs n (order_of cs o) ∙ marked_none cs n e))
 
-pub twice_from : (cs rest : List (ClassOf ℕ)) (kind : VariableKind) (n k : ℕ) (names : List ℕ) → AreOrdered cs → place_in cs n ≡ Some k → rest ≡ drop k cs → names ≡ []
-    → marked_twice cs kind (marked nat_eq n names rest) ≡ stands_twice nat_eq cs kind n
-twice_from cs rest kind n k names o e behind none =
-    (λ i. marked_twice cs kind (marked nat_eq n (none i) (behind i))) ∙ sym (ap (marked_twice cs kind) (marked_from cs n k e)) ∙ twice_marked cs kind n [] o refl
+-- one pass from the class of a name on finds it and those below it
+tree_passed : (cs : List (ClassOf ℕ)) (n : ℕ) → AreOrdered cs → marked nat_eq n [] (drop (unwrap_or (place_in cs n) 0) cs) ≡ tree_below nat_eq cs n
+tree_passed cs n o = by (place_in cs n) refl ∙ sym (tree_marked nat_eq nat_itself nat_equal cs n (order_of cs o))
+  where
+    by : (q : Option ℕ) → place_in cs n ≡ q → marked nat_eq n [] (drop (unwrap_or q 0) cs) ≡ marked nat_eq n [] cs
+    by None e = refl
+    by (Some k) e = sym (marked_from cs n k e)
+
+pub tree_told : (cs : List (ClassOf ℕ)) (n : ℕ) → AreOrdered cs → parts.marked n (has []) (drop (unwrap_or (place_in cs n) 0) cs) ≡ tree_below nat_eq cs n
+tree_told cs n o = sym (marked_told n [] (has []) (λ m. refl) (drop (unwrap_or (place_in cs n) 0) cs)) ∙ tree_passed cs n o

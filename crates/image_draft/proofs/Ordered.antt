@@ -1,14 +1,14 @@
 -- How classes stand once they are changed.
 use Rattle.std.proofs.Common.{◌≡◌, ℕ, zero, suc, Bool, true, false, not, cond, List, [], ◌∷◌, filter, find, Some, None, nat_eq, refl, sym, ap, ◌∙◌, true≢false}
 use Rattle.std.specs.Prelude.{◌||◌, if◌then◌else◌, is_some}
-use Rattle.std.specs.List.{list_any, AllByRecursion}
+use Rattle.std.specs.List.{AllByRecursion}
 use Rattle.image_model.specs.Image.{ClassOf}
 use Rattle.image_model.specs.Replaced.{KeepsHierarchy}
 use Rattle.image_model.specs.Valid.{HasNoRepeat, class_names}
 use Rattle.image_model.proofs.Kept.{SuperclassesStandBefore-kept}
 use Rattle.file_model.specs.Causes.{Condition, when, first_cause, KernelReplaced, UnknownSuperclass, Cycle, VariableTwice, TooMany}
 use Rattle.file_model.specs.Changes.{DefinitionOf}
-use Rattle.file_model.specs.Hierarchy.{has_class, is_kernel_class, has_subclass, has_repeat, chain_variables, stands_twice, settled}
+use Rattle.file_model.specs.Hierarchy.{has_class, is_kernel_class, has_subclass, has_repeat, stands_twice, settled}
 use Rattle.file_model.specs.Refusals.{lacks_superclass, makes_cycle, is_one_class_too_many, definition_refusals}
 use Rattle.file_model.specs.Applied.{changed_class, with_definition, defined}
 use Rattle.image_model.specs.Means.{VariableKind, of_instance, of_class_side}
@@ -17,7 +17,7 @@ use Rattle.file_laws.proofs.Refused.{first_none, second_none, third_none}
 use Rattle.file_laws.proofs.Redefined.{no_repeat_behind, apart}
 use Rattle.file_laws.proofs.Repeats.{absent}
 use Rattle.file_laws.proofs.Defined.{has_stands, defined_puts, defined_leaves, removed_order}
-use Rattle.file_laws.proofs.Below.{defined_twice, tree_marked, marked}
+use Rattle.file_laws.proofs.Below.{defined_twice}
 use Rattle.image_draft.specs.Names.{NamesDiffer, AreOrdered}
 use Rattle.image_draft.specs.Early.{early_refusals, late_refusals}
 use Rattle.image_draft.proofs.Numbers.{nat_itself, nat_equal}
@@ -92,13 +92,6 @@ judged cs new d kernel n repeats too_many o none is named r t =
     passed_over false true c k l m rest = absurd (true≢false l)
     passed_over false false true k l m rest = absurd (true≢false m)
     passed_over false false false k l m rest = refl
-
--- of classes in order one pass finds the class of a name and those below it
-pub twice_marked : (cs : List (ClassOf ℕ)) (kind : VariableKind) (n : ℕ) (names : List ℕ) → AreOrdered cs → names ≡ []
-    → list_any (λ (c : ClassOf ℕ). has_repeat nat_eq (chain_variables nat_eq cs kind c)) (marked nat_eq n names cs) ≡ stands_twice nat_eq cs kind n
-twice_marked cs kind n names o none =
-    ap (λ (ns : List ℕ). list_any (λ (c : ClassOf ℕ). has_repeat nat_eq (chain_variables nat_eq cs kind c)) (marked nat_eq n ns cs)) none
-    ∙ sym (ap (list_any (λ (c : ClassOf ℕ). has_repeat nat_eq (chain_variables nat_eq cs kind c))) (tree_marked nat_eq nat_itself nat_equal cs n (order_of cs o)))
 
 -- the class of a name is changed and keeps its name and its superclass
 module _ (n : ℕ) (g : ClassOf ℕ → ClassOf ℕ) (name : (c : ClassOf ℕ) → (g c).name ≡ c.name) (superclass : (c : ClassOf ℕ) → (g c).superclass ≡ c.superclass) where

@@ -42,7 +42,7 @@ unplaced n cs e = by (nat_lt (position_or_len (λ (c : ClassOf ℕ). nat_eq n c.
     by false q r = missing n cs (ltb-false (position_or_len (λ (c : ClassOf ℕ). nat_eq n c.name) cs) (length cs) q)
 
 -- a class that stands at a place is there
-stands-at : (n : ℕ) (cs : List (ClassOf ℕ)) (k : ℕ) (c : ClassOf ℕ) → slice_get cs k ≡ Some c → nat_eq n c.name ≡ true → has_class nat_eq cs n ≡ true
+pub stands-at : (n : ℕ) (cs : List (ClassOf ℕ)) (k : ℕ) (c : ClassOf ℕ) → slice_get cs k ≡ Some c → nat_eq n c.name ≡ true → has_class nat_eq cs n ≡ true
 stands-at n [] k c at same = absurd (cc)
 stands-at n (x ∷ xs) zero c at same =
     let one : x ≡ c = cc in

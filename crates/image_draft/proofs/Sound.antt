@@ -2,6 +2,7 @@
 use Rattle.std.proofs.Common.{◌≡◌, ℕ, zero, suc, ◌<◌, Bool, true, false, not, cond, List, [], ◌∷◌, ◌++◌, length, map, filter, Option, Some, None, slice_get, nat_eq, refl, sym, ap, subst, ◌∙◌, true≢false, arith}
 use Rattle.std.specs.Prelude.{◌||◌, if◌then◌else◌, is_some}
 use Rattle.std.specs.List.{list_any, flat_map, AllByRecursion}
+use Rattle.std.specs.Option.{option_and_then}
 use Rattle.std.proofs.lemmas.Option.{slice_get_within}
 use Rattle.image_model.specs.Image.{ClassOf}
 use Rattle.image_model.specs.ImageNames.{OptionNames}
@@ -27,18 +28,20 @@ use Rattle.file_laws.proofs.Repeats.{none_pass}
 use Rattle.file_laws.proofs.Sound.{All-filter}
 use Rattle.image_draft.specs.Names.{NamesDiffer, AreOrdered}
 use Rattle.image_draft.specs.Early.{late_refusals, late_side_refusals}
+use Rattle.image_draft.specs.Table.{place_in}
 use Rattle.image_draft.specs.Once.{NoneTwice, AreSound, KeepsChains, KeepsSide}
 use Rattle.image_draft.proofs.Numbers.{nat_itself, nat_equal}
 use Rattle.image_draft.proofs.Beside.{or_false, finds, all_place, all_places, IsBeside, first_other, chain_outside, changed_beside, new_beside, without_beside, without_clear}
 use Rattle.image_draft.proofs.Ordered.{IsLet, once_of, order_of, lacks_none, cycle_none, ordered_none, defined_ordered, changed_ordered, removed_ordered}
-use Rattle.image_draft.proofs.Places.{changed-none}
+use Rattle.image_draft.proofs.ClassPlaces.{find_place}
+use Rattle.image_draft.proofs.Places.{placed, changed-none}
 
 -- no variable of a kind stands twice on the chain of a class
 abbrev pub Once : List (ClassOf ℕ) → VariableKind → ClassOf ℕ → Type 0
 Once cs kind c = has_repeat nat_eq (chain_variables nat_eq cs kind c) ≡ false
 
 -- no item passes both tests
-never_both : {X : Type 0} (q p : X → Bool) (xs : List X) → list_any q (filter p xs) ≡ false → AllByRecursion (λ x. p x ≡ true → q x ≡ false) xs
+pub never_both : {X : Type 0} (q p : X → Bool) (xs : List X) → list_any q (filter p xs) ≡ false → AllByRecursion (λ x. p x ≡ true → q x ≡ false) xs
 never_both q p [] h = tt
 never_both {X} q p (x ∷ xs) h = by (p x) refl h (never_both q p xs)
   where
@@ -144,7 +147,7 @@ module _ (cs : List (ClassOf ℕ)) (d : DefinitionOf ℕ) (kernel : Bool) (o : A
   moved : (n : ℕ) → stands_twice nat_eq (with_definition nat_eq kernel d cs) kind n ≡ stands_twice nat_eq (defined nat_eq kernel d cs) kind n
   moved n = defined_twice nat_eq nat_itself nat_equal cs d kernel (order_of cs o) (lacks_none cs d let_in) (cycle_none cs d let_in) kind n
 
-  beside : IsBeside d.name (with_definition nat_eq kernel d cs) cs
+  pub beside : IsBeside d.name (with_definition nat_eq kernel d cs) cs
   beside = by (has_class nat_eq cs d.name) refl
     where
       by : (b : Bool) → has_class nat_eq cs d.name ≡ b → IsBeside d.name (if b then changed_class nat_eq d.name (class_again d) cs else cs ++ new_class kernel d ∷ []) cs
@@ -291,43 +294,56 @@ new_above cs n s none =
     above None = tt
     above (Some m) = find-all Other (λ (c : ClassOf ℕ). nat_eq m c.name) cs all
 
--- no class stands above itself where superclasses stand first
+-- where superclasses stand first, no class on the chain of one that stands before another is that other one
+module _ (cs : List (ClassOf ℕ)) (o : AreOrdered cs) (n k : ℕ) (c : ClassOf ℕ) (at : slice_get cs k ≡ Some c) (named : n ≡ c.name) where
+  -- it stands before the class
+  abbrev Earlier : ClassOf ℕ → Type 0
+  Earlier x = (j : ℕ) × (slice_get cs j ≡ Some x) × (j < k)
+
+  earlier : (x : ClassOf ℕ) (j : ℕ) → slice_get cs j ≡ Some x → (q : Option (ClassOf ℕ)) → superclass_of nat_eq cs x ≡ q → j < k → OptionNames Earlier q
+  earlier x j there None e less = tt
+  earlier x j there (Some y) e less =
+      let up = superclass_before nat_eq nat_itself cs o.before j x y there e in
+      (up.0, up.2, (let higher : up.0 < j = up.1 in omega (arith, higher, less)))
+
+  name_at : (ds : List (ClassOf ℕ)) (j : ℕ) (x : ClassOf ℕ) → slice_get ds j ≡ Some x → slice_get (class_names ds) j ≡ Some x.name
+  name_at [] j x e = absurd (cc)
+  name_at (d ∷ ds) zero x e = let same : d ≡ x = cc in ap (λ (y : ClassOf ℕ). Some y.name) same
+  name_at (d ∷ ds) (suc j) x e = name_at ds j x e
+
+  other : (x : ClassOf ℕ) → Earlier x → nat_eq n x.name ≡ false
+  other x e = by (nat_eq n x.name) refl
+    where
+      by : (b : Bool) → nat_eq n x.name ≡ b → nat_eq n x.name ≡ false
+      by false q = q
+      by true q =
+          let same : e.0 ≡ k = once_of cs o.differ e.0 k n (name_at cs e.0 x e.1 ∙ ap Some (sym (nat_equal n x.name q))) (name_at cs k c at ∙ ap Some (sym named)) in
+          let less : e.0 < k = e.2 in
+          absurd (omega (arith, same, less))
+
+  earlier_clear : (q : Option (ClassOf ℕ)) → OptionNames Earlier q → stands_in nat_eq n (chain_from nat_eq cs q) ≡ false
+  earlier_clear q first =
+      none_stands (λ (x : ClassOf ℕ). nat_eq n x.name) (chain_from nat_eq cs q)
+      (all-implies Earlier (λ (x : ClassOf ℕ). nat_eq n x.name ≡ false) other (chain_from nat_eq cs q)
+      (upwards-all Earlier (superclass_of nat_eq cs) (λ x e. earlier x e.0 e.1 (superclass_of nat_eq cs x) refl e.2) (length cs) q first))
+
+-- no class stands above itself
 pub never_above : (cs : List (ClassOf ℕ)) (n : ℕ) (c : ClassOf ℕ) (s : Option ℕ) → AreOrdered cs → class_named nat_eq cs n ≡ Some c → c.superclass ≡ s → stands_in nat_eq n (chain nat_eq cs s) ≡ false
 never_above cs n c s o found under =
     ap (λ (q : Option ℕ). stands_in nat_eq n (chain nat_eq cs q)) (sym under)
-    ∙ none_stands (λ (x : ClassOf ℕ). nat_eq n x.name) (chain nat_eq cs c.superclass)
-    (all-implies Earlier (λ (x : ClassOf ℕ). nat_eq n x.name ≡ false) other (chain nat_eq cs c.superclass)
-    (upwards-all Earlier (superclass_of nat_eq cs) (λ x e. earlier x e.0 e.1 (superclass_of nat_eq cs x) refl e.2) (length cs) (superclass_of nat_eq cs c) (first (superclass_of nat_eq cs c) refl)))
+    ∙ earlier_clear cs o n place.0 c place.1 (nat_equal n c.name (finds (λ (y : ClassOf ℕ). nat_eq n y.name) cs c found)) (superclass_of nat_eq cs c) (first (superclass_of nat_eq cs c) refl)
   where
     place : (k : ℕ) × (slice_get cs k ≡ Some c)
     place = find-place (λ (x : ClassOf ℕ). nat_eq n x.name) cs c found
 
-    -- it stands before the class
-    Earlier : ClassOf ℕ → Type 0
-    Earlier x = (j : ℕ) × (slice_get cs j ≡ Some x) × (j < place.0)
-
-    first : (q : Option (ClassOf ℕ)) → superclass_of nat_eq cs c ≡ q → OptionNames Earlier q
+    first : (q : Option (ClassOf ℕ)) → superclass_of nat_eq cs c ≡ q → OptionNames (λ (x : ClassOf ℕ). (j : ℕ) × (slice_get cs j ≡ Some x) × (j < place.0)) q
     first None e = tt
-    first (Some y) e = let at = superclass_before nat_eq nat_itself cs o.before place.0 c y place.1 e in (at.0, at.2, at.1)
+    first (Some y) e = let up = superclass_before nat_eq nat_itself cs o.before place.0 c y place.1 e in (up.0, up.2, up.1)
 
-    earlier : (x : ClassOf ℕ) (j : ℕ) → slice_get cs j ≡ Some x → (q : Option (ClassOf ℕ)) → superclass_of nat_eq cs x ≡ q → j < place.0 → OptionNames Earlier q
-    earlier x j at None e less = tt
-    earlier x j at (Some y) e less =
-        let up = superclass_before nat_eq nat_itself cs o.before j x y at e in
-        (up.0, up.2, (let higher : up.0 < j = up.1 in omega (arith, higher, less)))
-
-    name_at : (ds : List (ClassOf ℕ)) (k : ℕ) (x : ClassOf ℕ) → slice_get ds k ≡ Some x → slice_get (class_names ds) k ≡ Some x.name
-    name_at [] k x e = absurd (cc)
-    name_at (d ∷ ds) zero x e = let same : d ≡ x = cc in ap (λ (y : ClassOf ℕ). Some y.name) same
-    name_at (d ∷ ds) (suc k) x e = name_at ds k x e
-
-    other : (x : ClassOf ℕ) → Earlier x → nat_eq n x.name ≡ false
-    other x e = by (nat_eq n x.name) refl
-      where
-        by : (b : Bool) → nat_eq n x.name ≡ b → nat_eq n x.name ≡ false
-        by false q = q
-        by true q =
-            let here : n ≡ c.name = nat_equal n c.name (finds (λ (y : ClassOf ℕ). nat_eq n y.name) cs c found) in
-            let same : e.0 ≡ place.0 = once_of cs o.differ e.0 place.0 n (name_at cs e.0 x e.1 ∙ ap Some (sym (nat_equal n x.name q))) (name_at cs place.0 c place.1 ∙ ap Some (sym here)) in
-            let less : e.0 < place.0 = e.2 in
-            absurd (omega (arith, same, less))
+-- and none above one that stands before it
+pub behind_clear : (cs : List (ClassOf ℕ)) (n p j k : ℕ) → AreOrdered cs → place_in cs p ≡ Some j → place_in cs n ≡ Some k → j < k → stands_in nat_eq n (chain nat_eq cs (Some p)) ≡ false
+behind_clear cs n p j k o first last less =
+    let above = placed (λ (x : ClassOf ℕ). nat_eq p x.name) cs j first in
+    let here = placed (λ (x : ClassOf ℕ). nat_eq n x.name) cs k last in
+    ap (λ (q : Option (ClassOf ℕ)). stands_in nat_eq n (chain_from nat_eq cs q)) (find_place cs p ∙ ap (option_and_then (slice_get cs)) first ∙ above.1)
+    ∙ earlier_clear cs o n k here.0 here.1 (nat_equal n here.0.name here.2) (Some above.0) (j, above.1, less)

@@ -5,5 +5,9 @@ pub mod MethodSlots
 pub mod Early
 pub mod Names
 pub mod Once
+pub mod NameSets
+pub mod Parts
 pub mod Table
 pub mod Drafted
+pub mod Arranged
+pub mod Fronts

@@ -1,5 +1,5 @@
 // Changes of classes.
-ghost use Rattle.std.specs.Prelude.{◌≡◌, ℕ, filter, is_some, not, nat_eq, IfNone, IfSome, IfOk};
+ghost use Rattle.std.specs.Prelude.{◌≡◌, ℕ, is_some, nat_eq, IfNone, IfSome, IfOk};
 ghost use Rattle.file_model.specs.Causes.{first_cause};
 ghost use Rattle.file_model.specs.Hierarchy.{has_class};
 ghost use Rattle.file_model.specs.Refusals.{comment_refusals, class_side_refusals};
@@ -8,20 +8,12 @@ ghost use Rattle.image_draft.specs.Early.{told};
 ghost use Rattle.image_draft.specs.Names.{NamesDiffer, AreOrdered};
 ghost use Rattle.image_draft.specs.Once.{AreSound};
 
-use crate::class_draft::ClassDraft;
 use crate::class_list::ClassList;
 use crate::kept::keeps_side;
 use crate::refusals::{comment_refusal, early_side_refusal, late_side_refusal};
 use file_faults::ImageCause;
 use rb_base::{Ids, Memory, NameId, Text};
 use std::alloc::Global;
-
-/// Takes the classes of a name away.
-pub fn remove_class(classes: &mut Vec<ClassDraft>, name: NameId)
-    ensures { classes.new.items ≡ filter (λ c. not (nat_eq name c.name)) classes.old.items }
-{
-    classes.retain(|class| name != class.name);
-}
 
 /// Gives the class of a name another comment, or tells why it can not be given.
 pub fn change_comment(classes: &mut ClassList, name: NameId, comment: Text) -> Option<ImageCause>

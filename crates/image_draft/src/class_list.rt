@@ -4,9 +4,9 @@ ghost use Rattle.image_model.specs.Chain.{class_named};
 ghost use Rattle.file_model.specs.Applied.{class_again};
 ghost use Rattle.image_draft.specs.Table.{place_in, IsPlaceTable, IsNoted};
 
-use crate::changes::remove_class;
+use crate::boxed_class::BoxedClass;
 use crate::class_draft::{ClassDraft, Definition};
-use indexmap::IndexMap;
+use crate::place_table::PlaceTable;
 use rb_base::{Ids, Memory, NameId, Text};
 use std::alloc::Global;
 use std::marker::Model;
@@ -16,10 +16,10 @@ use std::mem::replace;
 #[derive(Drop)]
 pub struct ClassList {
     alloc: Global,
-    items: Vec<ClassDraft>,
+    items: Vec<BoxedClass>,
     // Whether the table has the place of each name.
     ready: bool,
-    by_name: IndexMap<usize, usize>,
+    by_name: PlaceTable,
 }
 
 impl Model for ClassList {
@@ -43,49 +43,61 @@ impl ClassList {
             alloc,
             items: Vec::new(alloc),
             ready: true,
-            by_name: IndexMap::new(alloc),
+            by_name: PlaceTable::new(alloc),
         }
     }
 
-    /// These classes; where there is no memory for a table, they are searched.
-    pub fn from_items(alloc: Global, items: Vec<ClassDraft>) -> ClassList
+    /// These classes, with a table in which no name has a place; where there is no memory for their names, they are searched.
+    pub fn from_parts(alloc: Global, items: Vec<BoxedClass>, table: PlaceTable) -> ClassList
+        requires { IsPlaceTable table [] }
         ensures { result ≡ items.items }
     {
-        match place_table(alloc, &items) {
-            Ok(by_name) => ClassList {
-                alloc,
-                items,
-                ready: true,
-                by_name,
-            },
-            Err(_) => ClassList {
-                alloc,
-                items,
-                ready: false,
-                by_name: IndexMap::new(alloc),
-            },
+        let mut by_name = table;
+        let ready = note_all(&mut by_name, &items).is_ok();
+        ClassList {
+            alloc,
+            items,
+            ready,
+            by_name,
         }
+    }
+
+    /// The classes in order, and a table in which no name has a place.
+    pub fn into_parts(self) -> (Vec<BoxedClass>, PlaceTable)
+        ensures items { result.0.items ≡ self }
+        ensures table { IsPlaceTable result.1 [] }
+    {
+        if !self.ready {
+            return (self.items, PlaceTable::new(self.alloc));
+        }
+        let mut table = self.by_name;
+        forget_all(&mut table, &self.items);
+        (self.items, table)
     }
 
     /// The classes in order.
-    pub fn as_slice(&self) -> &[ClassDraft]
+    pub fn as_slice(&self) -> &[BoxedClass]
         ensures { result.now ≡ self.now }
     {
         &self.items
     }
 
     /// The classes from a place on.
-    pub fn behind(&self, place: usize) -> &[ClassDraft]
+    pub fn behind(&self, place: usize) -> &[BoxedClass]
         ensures { result.now ≡ drop place self.now }
     {
         self.items.get(place..).unwrap_or(&[])
     }
 
     /// The classes in order, given away.
-    pub fn into_items(self) -> Vec<ClassDraft>
-        ensures { result.items ≡ self }
+    pub fn into_items(self) -> Result<Vec<ClassDraft>, Memory>
+        ensures { IfOk result (λ items. items.items ≡ self) }
     {
-        self.items
+        let mut items = Vec::with_capacity(self.alloc, self.items.len())?;
+        for class in self.items {
+            items.push(class.into_class())?;
+        }
+        Ok(items)
     }
 
     /// Takes the classes out, and leaves none.
@@ -109,7 +121,7 @@ impl ClassList {
         ensures { result ≡ position (λ c. nat_eq name c.name) self.now }
     {
         if self.ready {
-            self.by_name.get(&name.0).copied()
+            self.by_name.get(name)
         } else {
             search_place(&self.items, name)
         }
@@ -129,10 +141,30 @@ impl ClassList {
     pub fn push(&mut self, class: ClassDraft) -> Result<(), Memory>
         ensures { OnOk result (self.new ≡ self.old ++ class ∷ []) }
     {
-        let name = name_of(&class);
+        let boxed = BoxedClass::new(self.alloc, class)?;
+        self.push_boxed(boxed)
+    }
+
+    /// Puts a class last that is on the heap.
+    pub fn push_boxed(&mut self, class: BoxedClass) -> Result<(), Memory>
+        ensures { OnOk result (self.new ≡ self.old ++ class ∷ []) }
+    {
+        let name = class.name();
         let place = self.len();
         self.items.push(class)?;
         self.ready = is_noted(self.ready, &mut self.by_name, name, place);
+        Ok(())
+    }
+
+    /// Moves all classes to the end of a list, and keeps its table for other classes.
+    pub fn move_behind(&mut self, list: &mut Vec<BoxedClass>) -> Result<(), Memory>
+        ensures moved { OnOk result (list.new.items ≡ list.old.items ++ self.old) }
+        ensures left { OnOk result (self.new ≡ []) }
+    {
+        let (items, table) = self.take_all().into_parts();
+        let mut left = items;
+        list.append(&mut left)?;
+        *self = ClassList::from_parts(self.alloc, left, table);
         Ok(())
     }
 
@@ -164,98 +196,88 @@ impl ClassList {
     pub fn remove(&mut self, name: NameId)
         ensures { self.new ≡ filter (λ c. not (nat_eq name c.name)) self.old }
     {
-        remove_class(&mut self.items, name);
-        match place_table(self.alloc, &self.items) {
-            Ok(by_name) => {
-                self.by_name = by_name;
-                self.ready = true;
-            }
-            Err(_) => {
-                self.ready = false;
-            }
-        }
+        let (items, table) = self.take_all().into_parts();
+        let mut left = items;
+        remove_class(&mut left, name);
+        *self = ClassList::from_parts(self.alloc, left, table);
     }
 }
 
 /// The place of the first class of a name, searched from the front.
-fn search_place(classes: &[ClassDraft], name: NameId) -> Option<usize>
+fn search_place(classes: &[BoxedClass], name: NameId) -> Option<usize>
     ensures { result ≡ position (λ c. nat_eq name c.name) classes.now }
 {
-    classes.iter().position(|class| name == class.name)
+    classes.iter().position(|class| class.is_named(name))
 }
 
-/// Notes the place of a name in a table, unless the table has the name.
-fn note(table: &mut IndexMap<usize, usize>, name: NameId, place: usize) -> Result<(), Memory>
-    ensures { OnOk result (IsNoted table.old table.new name place) }
+/// Notes the place of a name in a table, if the table has the places of all others, and tells whether it has them all then.
+fn is_noted(ready: bool, table: &mut PlaceTable, name: NameId, place: usize) -> bool
+    ensures ready { result ≡ true → ready ≡ true }
+    ensures noted { result ≡ true → IsNoted table.old table.new name place }
 {
-    if !table.contains_key(&name.0) {
-        table.insert(name.0, place)?;
+    ready && table.note(name, place).is_ok()
+}
+
+/// The class at a place.
+fn class_at(classes: &[BoxedClass], place: usize) -> Option<&ClassDraft>
+    ensures { option_copied result ≡ slice_get classes.now place }
+{
+    Some(classes.get(place)?.class())
+}
+
+/// Notes the place of the first class of each name in a table in which no name has a place.
+fn note_all(table: &mut PlaceTable, classes: &[BoxedClass]) -> Result<(), Memory>
+    requires { IsPlaceTable table.old [] }
+    ensures { OnOk result (IsPlaceTable table.new classes.now) }
+{
+    let mut place = 0;
+    for class in classes {
+        table.note(class.name(), place)?;
+        place += 1;
     }
     Ok(())
 }
 
-/// Notes the place of a name in a table, if the table has the places of all others, and tells whether it has them all then.
-fn is_noted(ready: bool, table: &mut IndexMap<usize, usize>, name: NameId, place: usize) -> bool
-    ensures ready { result ≡ true → ready ≡ true }
-    ensures noted { result ≡ true → IsNoted table.old table.new name place }
+/// Forgets the places of the names of all classes.
+fn forget_all(table: &mut PlaceTable, classes: &[BoxedClass])
+    requires { IsPlaceTable table.old classes.now }
+    ensures { IsPlaceTable table.new [] }
 {
-    ready && note(table, name, place).is_ok()
-}
-
-/// The name of a class.
-fn name_of(class: &ClassDraft) -> NameId
-    ensures { result ≡ class.now.name }
-{
-    class.name
-}
-
-/// The class at a place.
-fn class_at(classes: &[ClassDraft], place: usize) -> Option<&ClassDraft>
-    ensures { option_copied result ≡ slice_get classes.now place }
-{
-    classes.get(place)
-}
-
-/// The place of the first class of each name.
-fn place_table(alloc: Global, classes: &[ClassDraft]) -> Result<IndexMap<usize, usize>, Memory>
-    ensures { IfOk result (λ table. IsPlaceTable table classes.now) }
-{
-    let mut table = IndexMap::new(alloc);
-    let mut place = 0;
     for class in classes {
-        note(&mut table, name_of(class), place)?;
-        place += 1;
+        table.forget(class.name());
     }
-    Ok(table)
 }
 
 /// Gives the class at a place another comment.
-fn set_comment(classes: &mut Vec<ClassDraft>, place: usize, comment: Text)
+fn set_comment(classes: &mut Vec<BoxedClass>, place: usize, comment: Text)
     requires { place < length classes.old.items }
     ensures set { IfSome (slice_get classes.old.items place) (λ c. classes.new.items ≡ slice_set classes.old.items place (record c { comment = comment })) }
     ensures places { (n : ℕ) → place_in classes.new.items n ≡ place_in classes.old.items n }
 {
-    classes[place].comment = comment;
+    classes[place].set_comment(comment);
 }
 
 /// Gives the class at a place other class-instance variables.
-fn set_class_side(classes: &mut Vec<ClassDraft>, place: usize, names: Ids)
+fn set_class_side(classes: &mut Vec<BoxedClass>, place: usize, names: Ids)
     requires { place < length classes.old.items }
     ensures set { IfSome (slice_get classes.old.items place) (λ c. classes.new.items ≡ slice_set classes.old.items place (record c { class_side = names })) }
     ensures places { (n : ℕ) → place_in classes.new.items n ≡ place_in classes.old.items n }
 {
-    classes[place].class_side = names;
+    classes[place].set_class_side(names);
 }
 
 /// Defines the class at a place again.
-fn redefine(classes: &mut Vec<ClassDraft>, place: usize, definition: Definition)
+fn redefine(classes: &mut Vec<BoxedClass>, place: usize, definition: Definition)
     requires { place < length classes.old.items }
     ensures set { IfSome (slice_get classes.old.items place) (λ c. classes.new.items ≡ slice_set classes.old.items place (class_again definition c)) }
     ensures places { (n : ℕ) → place_in classes.new.items n ≡ place_in classes.old.items n }
 {
-    let class = &mut classes[place];
-    class.superclass = definition.superclass;
-    class.instance = definition.instance;
-    class.shared = definition.shared;
-    class.category = definition.category;
+    classes[place].redefine(definition);
+}
+
+/// Takes the classes of a name away.
+fn remove_class(classes: &mut Vec<BoxedClass>, name: NameId)
+    ensures { classes.new.items ≡ filter (λ c. not (nat_eq name c.name)) classes.old.items }
+{
+    classes.retain(|class| !class.is_named(name));
 }

@@ -7,7 +7,10 @@ ghost use Rattle.file_model.specs.Refusals.{definition_refusals, comment_refusal
 ghost use Rattle.file_model.specs.Applied.{defined, with_definition, with_comment, with_class_side};
 ghost use Rattle.image_draft.specs.Early.{told};
 ghost use Rattle.image_draft.specs.Names.{NamesDiffer};
+ghost use Rattle.image_draft.specs.Once.{AreSound};
 
+use crate::arrange::listed;
+use crate::boxed_class::BoxedClass;
 use crate::changes::{change_class_side, change_comment};
 use crate::class_draft::{ClassDraft, Definition};
 use crate::class_list::ClassList;
@@ -56,17 +59,36 @@ impl Classes {
     }
 
     /// The classes in order.
-    pub fn as_slice(&self) -> &[ClassDraft]
+    pub fn as_slice(&self) -> &[BoxedClass]
         ensures { result.now ≡ self.now }
     {
         self.list.as_slice()
     }
 
     /// The classes in order, given away.
-    pub fn into_items(self) -> Vec<ClassDraft>
-        ensures { result.items ≡ self }
+    pub fn into_items(self) -> Result<Vec<ClassDraft>, Memory>
+        ensures { IfOk result (λ items. items.items ≡ self) }
     {
         self.list.into_items()
+    }
+
+    /// Takes the classes out, and leaves none.
+    pub fn take_items(&mut self) -> Result<Vec<ClassDraft>, Memory>
+        ensures taken { IfOk result (λ items. items.items ≡ self.old) }
+        ensures sound { AreSound self.old }
+        ensures left { self.new ≡ [] }
+    {
+        self.list.take_all().into_items()
+    }
+
+    /// These classes.
+    pub fn from_items(alloc: Global, items: Vec<ClassDraft>) -> Result<Classes, Memory>
+        requires { AreSound items.items }
+        ensures { IfOk result (λ classes. classes ≡ items.items) }
+    {
+        Ok(Classes {
+            list: listed(alloc, items)?,
+        })
     }
 
     /// Defines a class, for the first time or again, and puts the classes in order, or tells why it can not be defined;

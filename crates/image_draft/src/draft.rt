@@ -282,7 +282,7 @@ impl Draft {
         self.methods.put(method)
     }
 
-    /// What was read, in parts. The error is want of memory for the list of the methods.
+    /// What was read, in parts. The error is want of memory for the lists of the classes and the methods.
     pub fn into_parts(self, alloc: Global) -> Result<DraftParts, Memory>
         ensures classes { IfOk result (λ parts. parts.classes.items ≡ self.classes) }
         ensures methods { IfOk result (λ parts. parts.methods.items ≡ self.methods) }
@@ -291,7 +291,7 @@ impl Draft {
     {
         let methods = self.methods.into_items(alloc)?;
         Ok(DraftParts {
-            classes: self.classes.into_items(),
+            classes: self.classes.into_items()?,
             methods,
             doits: self.doits,
             heads: self.heads,

@@ -3,7 +3,7 @@ ghost use Rattle.std.specs.Prelude.{◌≡◌, false, nat_eq};
 ghost use Rattle.std.specs.Option.{option_map_or};
 ghost use Rattle.file_model.specs.Hierarchy.{has_class, is_kernel_class, has_subclass};
 
-use crate::class_draft::ClassDraft;
+use crate::boxed_class::BoxedClass;
 use crate::class_list::ClassList;
 use rb_base::NameId;
 
@@ -32,10 +32,10 @@ pub fn has_subclass(classes: &ClassList, name: NameId) -> bool
 }
 
 /// Whether a class has the superclass of a name.
-fn is_below(class: &ClassDraft, name: NameId) -> bool
+fn is_below(class: &BoxedClass, name: NameId) -> bool
     ensures { result ≡ option_map_or (nat_eq name) class.now.superclass false }
 {
-    match class.superclass {
+    match class.superclass() {
         None => false,
         Some(above) => name == above,
     }

@@ -1,18 +1,22 @@
 // Chains of classes while a file-out is read, and the variables on them.
-ghost use Rattle.std.specs.Prelude.{◌≡◌, ◌||◌, not, false, nat_eq, option_copied, IfOk, OnOk};
+ghost use Rattle.std.specs.Prelude.{◌≡◌, ℕ, ◌||◌, [], drop, not, false, true, nat_eq, option_copied, unwrap_or, IfNone, IfSome, IfOk};
 ghost use Rattle.std.specs.List.{list_any};
 ghost use Rattle.std.specs.Option.{option_map_or};
-ghost use Rattle.indexmap.specs.IndexSet.{insert_key};
 ghost use Rattle.image_model.specs.Chain.{chain_from, chain, class_of_name, superclass_of};
 ghost use Rattle.image_model.specs.Means as means;
 ghost use Rattle.file_model.specs.Hierarchy as hierarchy;
 ghost use Rattle.file_model.specs.Hierarchy.{stands_in};
 ghost use Rattle.image_draft.specs.Kinds.{kind_of};
 ghost use Rattle.image_draft.specs.Names.{AreOrdered};
+ghost use Rattle.image_draft.specs.NameSets.{comes_again, has, with_names};
+ghost use Rattle.image_draft.specs.Parts as parts;
+ghost use Rattle.image_draft.specs.Parts.{PartsOnce, is_marked, marked};
+ghost use Rattle.image_draft.specs.Table.{place_in};
 
+use crate::boxed_class::BoxedClass;
 use crate::class_draft::ClassDraft;
 use crate::class_list::ClassList;
-use indexmap::IndexSet;
+use crate::name_set::NameSet;
 use rb_base::{Memory, NameId};
 use std::alloc::Global;
 
@@ -76,42 +80,19 @@ fn variables(class: &ClassDraft, kind: ChainKind) -> &[NameId]
     }
 }
 
-/// The variables of a kind on the chain of a class.
-fn chain_variables(
-    alloc: Global,
-    classes: &ClassList,
-    kind: ChainKind,
-    class: &ClassDraft,
-) -> Result<Vec<NameId>, Memory>
-    ensures { IfOk result (λ names. names.items ≡ hierarchy.chain_variables nat_eq classes.now (kind_of kind) class.now) }
+/// Puts names into a set one after the other, up to the first that is there, and tells whether there was none.
+fn note_all(set: &mut NameSet, names: &[NameId]) -> Result<bool, Memory>
+    ensures fresh { IfOk result (λ fresh. fresh ≡ not (comes_again (has set.old) names.now)) }
+    ensures noted { IfOk result (λ fresh. fresh ≡ true → (m : ℕ) → has set.new m ≡ with_names names.now (has set.old) m) }
 {
-    let mut names = Vec::new(alloc);
-    let mut at = Some(class);
-    let mut left = classes.len();
-    while left > 0 {
-        let Some(class) = at else {
-            return Ok(names);
-        };
-        names.extend_from_slice(variables(class, kind))?;
-        at = superclass_of(classes, class);
-        left -= 1;
+    let mut rest = names;
+    while let Some((name, others)) = rest.split_first() {
+        if !set.note(*name)? {
+            return Ok(false);
+        }
+        rest = others;
     }
-    Ok(names)
-}
-
-/// Notes a name, and tells whether it is new.
-fn note(names: &mut IndexSet<usize>, name: NameId) -> Result<bool, Memory>
-    ensures new { IfOk result (λ new. new ≡ not (list_any (nat_eq name) names.old.keys)) }
-    ensures keys { OnOk result (names.new.keys ≡ insert_key nat_eq names.old.keys name) }
-{
-    Ok(names.insert(name.0)?)
-}
-
-/// Whether a name was noted.
-fn is_noted(name: NameId, names: &IndexSet<usize>) -> bool
-    ensures { result ≡ list_any (nat_eq name) names.now.keys }
-{
-    names.contains(&name.0)
+    Ok(true)
 }
 
 /// Whether a name stands among these.
@@ -139,15 +120,9 @@ fn repeats_among(names: &[NameId]) -> bool
 fn repeats_behind(alloc: Global, names: &[NameId]) -> Result<bool, Memory>
     ensures { IfOk result (λ found. found ≡ hierarchy.has_repeat nat_eq names.now) }
 {
-    let mut seen = IndexSet::new(alloc);
-    let mut rest = names;
-    while let Some((name, others)) = rest.split_first() {
-        if !note(&mut seen, *name)? {
-            return Ok(true);
-        }
-        rest = others;
-    }
-    Ok(false)
+    let mut seen = NameSet::new(alloc);
+    let fresh = note_all(&mut seen, names)?;
+    Ok(!fresh)
 }
 
 /// Whether a name stands twice among these.
@@ -160,60 +135,116 @@ pub fn has_repeat(alloc: Global, names: &[NameId]) -> Result<bool, Memory>
     repeats_behind(alloc, names)
 }
 
-/// Whether a variable of a kind stands twice on the chain of a class.
-fn repeats_on_chain(
+/// The names of the variables of a kind on the chain of a class, unless one stands there twice.
+fn chain_names(
     alloc: Global,
     classes: &ClassList,
     kind: ChainKind,
     class: &ClassDraft,
-) -> Result<bool, Memory>
-    ensures { IfOk result (λ found. found ≡ hierarchy.has_repeat nat_eq (hierarchy.chain_variables nat_eq classes.now (kind_of kind) class.now)) }
+) -> Result<Option<NameSet>, Memory>
+    ensures twice { IfOk result (λ names. IfNone names (hierarchy.has_repeat nat_eq (hierarchy.chain_variables nat_eq classes.now (kind_of kind) class.now) ≡ true)) }
+    ensures once { IfOk result (λ names. IfSome names (λ _. hierarchy.has_repeat nat_eq (hierarchy.chain_variables nat_eq classes.now (kind_of kind) class.now) ≡ false)) }
+    ensures names { IfOk result (λ names. IfSome names (λ set. (m : ℕ) → has set m ≡ list_any (nat_eq m) (hierarchy.chain_variables nat_eq classes.now (kind_of kind) class.now))) }
 {
-    let names = chain_variables(alloc, classes, kind, class)?;
-    has_repeat(alloc, &names)
+    let mut names = NameSet::new(alloc);
+    let mut at = Some(class);
+    let mut left = classes.len();
+    while left > 0 {
+        let Some(class) = at else {
+            return Ok(Some(names));
+        };
+        if !note_all(&mut names, variables(class, kind))? {
+            return Ok(None);
+        }
+        at = superclass_of(classes, class);
+        left -= 1;
+    }
+    Ok(Some(names))
 }
 
 /// Whether the superclass of a class was noted.
-fn is_under(class: &ClassDraft, names: &IndexSet<usize>) -> bool
-    ensures { result ≡ option_map_or (λ s. list_any (nat_eq s) names.now.keys) class.now.superclass false }
+fn is_under(class: &ClassDraft, names: &NameSet) -> bool
+    ensures { result ≡ option_map_or (has names.now) class.now.superclass false }
 {
     match class.superclass {
         None => false,
-        Some(above) => is_noted(above, names),
+        Some(above) => names.has(above),
     }
 }
 
 /// Whether a class is that of a name, or its superclass was noted.
-fn is_marked(name: NameId, names: &IndexSet<usize>, class: &ClassDraft) -> bool
-    ensures { result ≡ (nat_eq name class.now.name || option_map_or (λ s. list_any (nat_eq s) names.now.keys) class.now.superclass false) }
+fn is_marked(name: NameId, names: &NameSet, class: &ClassDraft) -> bool
+    ensures { result ≡ is_marked name (has names.now) class.now }
 {
     name == class.name || is_under(class, names)
 }
 
-/// Whether a variable of a kind stands twice on the chain of a class or of one below it. Since each superclass stands
-/// before its subclasses, one pass from the class on finds those below.
+/// Whether one of these names is in a set.
+fn meets(names: &[NameId], set: &NameSet) -> bool
+    ensures { result ≡ list_any (has set.now) names.now }
+{
+    names.iter().any(|name| set.has(*name))
+}
+
+/// Whether a class of another name than this one defines a variable of a kind that is in a set.
+fn brings(name: NameId, kind: ChainKind, above: &NameSet, class: &ClassDraft) -> bool
+    ensures { result ≡ parts.brings name (kind_of kind) (has above.now) class.now }
+{
+    name != class.name && meets(variables(class, kind), above)
+}
+
+/// Whether one of the classes below that of a name defines a variable of a kind that is in a set. Since each superclass
+/// stands before its subclasses, one pass finds those below; where the set is empty there is nothing to find.
+fn meets_below(
+    alloc: Global,
+    classes: &[BoxedClass],
+    kind: ChainKind,
+    name: NameId,
+    above: &NameSet,
+) -> Result<bool, Memory>
+    ensures { IfOk result (λ found. found ≡ list_any (parts.brings name (kind_of kind) (has above.now)) (marked name (has []) classes.now)) }
+{
+    if above.is_empty() {
+        return Ok(false);
+    }
+    let mut below = NameSet::new(alloc);
+    let mut rest = classes;
+    while let Some((class, others)) = rest.split_first() {
+        if is_marked(name, &below, class.class()) {
+            if brings(name, kind, above, class.class()) {
+                return Ok(true);
+            }
+            below.note(class.name())?;
+        }
+        rest = others;
+    }
+    Ok(false)
+}
+
+/// The classes from that of a name on, or all of them.
+fn from_class(classes: &ClassList, name: NameId) -> &[BoxedClass]
+    ensures { result.now ≡ drop (unwrap_or (place_in classes.now name) 0) classes.now }
+{
+    classes.behind(classes.place(name).unwrap_or(0))
+}
+
+/// Whether a variable of a kind stands twice on the chain of a class or of one below it, where none does on the parts of
+/// chains below that class: then one stands twice on its chain, or a class below it defines one that stands there.
 pub fn stands_twice(
     alloc: Global,
     classes: &ClassList,
     kind: ChainKind,
     name: NameId,
 ) -> Result<bool, Memory>
-    requires { AreOrdered classes.now }
+    requires order { AreOrdered classes.now }
+    requires parts { PartsOnce classes.now (kind_of kind) name }
     ensures { IfOk result (λ found. found ≡ hierarchy.stands_twice nat_eq classes.now (kind_of kind) name) }
 {
-    let Some(place) = classes.place(name) else {
+    let Some(class) = classes.find(name) else {
         return Ok(false);
     };
-    let mut below = IndexSet::new(alloc);
-    let mut rest = classes.behind(place);
-    while let Some((class, others)) = rest.split_first() {
-        if is_marked(name, &below, class) {
-            if repeats_on_chain(alloc, classes, kind, class)? {
-                return Ok(true);
-            }
-            note(&mut below, class.name)?;
-        }
-        rest = others;
-    }
-    Ok(false)
+    let Some(above) = chain_names(alloc, classes, kind, class)? else {
+        return Ok(true);
+    };
+    meets_below(alloc, from_class(classes, name), kind, name, &above)
 }

@@ -1,6 +1,8 @@
 //! The image of a file-out of Smalltalk-80 as it is while the file-out is read. Names are numbers of a table beside it.
 #![tactic(auto)]
 
+mod arrange;
+mod boxed_class;
 mod change;
 mod changes;
 mod class_draft;
@@ -9,18 +11,20 @@ mod classes;
 mod define;
 mod draft;
 mod found;
+mod fronts;
 mod hierarchy;
 mod kept;
 mod method_draft;
 mod method_slots;
 mod methods;
+mod name_set;
 mod order;
+mod place_table;
 mod refusals;
+mod reorder;
 
+pub use arrange::arranged;
 pub use change::{Change, Run};
 pub use class_draft::{ClassDraft, Definition};
 pub use draft::{Draft, DraftParts};
 pub use method_draft::MethodDraft;
-
-#[cfg(test)]
-mod tests;

@@ -8,10 +8,12 @@ ghost use Rattle.file_model.specs.Refusals as refusals;
 ghost use Rattle.file_model.specs.Refusals.{method_refusals};
 ghost use Rattle.file_model.specs.Applied.{with_method};
 ghost use Rattle.image_draft.specs.Early.{told};
+ghost use Rattle.image_draft.specs.Fronts.{in_front};
 ghost use Rattle.image_draft.specs.Entries.{entry_of, run_of};
 ghost use Rattle.image_draft.specs.MethodSlots.{same_key, key_of, those_there, without_its, KeepsMethods};
 ghost use Rattle.std.specs.Option.{option_and_then};
 
+use crate::fronts::kernel_slots_first;
 use crate::method_draft::MethodDraft;
 use file_faults::ImageCause;
 use indexmap::IndexMap;
@@ -250,6 +252,38 @@ impl MethodSlots {
         for place in 0..self.slots.len() {
             self.clear_at(place, class);
         }
+    }
+
+    /// Puts a method whose key is not listed at the end, where there is room for one.
+    fn add_new(&mut self, method: MethodDraft) -> Result<(), Memory>
+        requires { KeepsMethods self.old }
+        ensures added { OnOk result (those_there self.new.slots.items ≡ those_there self.old.slots.items ++ method ∷ []) }
+        ensures keeps { KeepsMethods self.new }
+    {
+        let key = key_of(&method);
+        if self.place_of(key).is_some() || METHOD_LIMIT <= self.count {
+            return Err(Memory);
+        }
+        self.add(key, method)
+    }
+
+    /// These methods, of which no two have one key, and which are not too many; for others it answers want of memory.
+    pub fn from_items(alloc: Global, items: Vec<MethodDraft>) -> Result<MethodSlots, Memory>
+        ensures there { IfOk result (λ s. those_there s.slots.items ≡ items.items) }
+        ensures keeps { IfOk result KeepsMethods }
+    {
+        let mut slots = MethodSlots::new(alloc);
+        for method in items {
+            slots.add_new(method)?;
+        }
+        Ok(slots)
+    }
+
+    /// Whether no method of the kernel stands behind one of the user.
+    pub fn kernel_first(&self) -> bool
+        ensures { result ≡ in_front (λ m. m.kernel) (those_there self.now.slots.items) }
+    {
+        kernel_slots_first(&self.slots)
     }
 
     /// The methods that are there, in order.

@@ -7,6 +7,7 @@ ghost use Rattle.file_model.specs.Refusals as refusals;
 ghost use Rattle.file_model.specs.Refusals.{method_refusals};
 ghost use Rattle.file_model.specs.Applied.{with_method};
 ghost use Rattle.image_draft.specs.Early.{told};
+ghost use Rattle.image_draft.specs.Fronts.{in_front};
 ghost use Rattle.image_draft.specs.Entries.{entry_of, run_of};
 
 use crate::method_draft::MethodDraft;
@@ -15,6 +16,7 @@ use file_faults::ImageCause;
 use rb_base::{Memory, NameId};
 use std::alloc::Global;
 use std::marker::Model;
+use std::mem::replace;
 
 /// The methods while a file-out is read, in order. No two have one class, one side and one selector. Contracts see the list.
 #[derive(Drop)]
@@ -77,6 +79,30 @@ impl Methods {
         ensures { self.new ≡ filter (λ m. not (nat_eq class m.class)) self.old }
     {
         self.slots.remove_of(class);
+    }
+
+    /// Whether no method of the kernel stands behind one of the user.
+    pub fn kernel_first(&self) -> bool
+        ensures { result ≡ in_front (λ m. m.kernel) self.now }
+    {
+        self.slots.kernel_first()
+    }
+
+    /// Takes the methods out, in order, and leaves none.
+    pub fn take_items(&mut self, alloc: Global) -> Result<Vec<MethodDraft>, Memory>
+        ensures { IfOk result (λ items. items.items ≡ self.old) }
+    {
+        replace(self, Methods::new(alloc)).into_items(alloc)
+    }
+
+    /// These methods, of which no two have one class, one side and one selector, and which are not too many; for others it
+    /// answers want of memory.
+    pub fn from_items(alloc: Global, items: Vec<MethodDraft>) -> Result<Methods, Memory>
+        ensures { IfOk result (λ methods. methods ≡ items.items) }
+    {
+        Ok(Methods {
+            slots: MethodSlots::from_items(alloc, items)?,
+        })
     }
 
     /// The methods, in order.

@@ -6,16 +6,16 @@ ghost use Rattle.file_model.specs.Hierarchy as hierarchy;
 ghost use Rattle.file_laws.specs.Settling as settling;
 ghost use Rattle.image_draft.specs.Table.{stands_first};
 
-use crate::class_draft::ClassDraft;
+use crate::boxed_class::BoxedClass;
 use crate::class_list::ClassList;
 use rb_base::{Memory, NameId};
 use std::alloc::Global;
 
 /// Whether a class of a name is one of these.
-fn stands_in(name: NameId, classes: &[ClassDraft]) -> bool
+fn stands_in(name: NameId, classes: &ClassList) -> bool
     ensures { result ≡ hierarchy.stands_in nat_eq name classes.now }
 {
-    classes.iter().any(|class| name == class.name)
+    classes.place(name).is_some()
 }
 
 /// Whether a place stands before another; all that have a place stand before what has none.
@@ -37,60 +37,56 @@ fn comes_first(classes: &ClassList, above: NameId, name: NameId) -> bool
 }
 
 /// Whether the superclass of a class is one of those that wait.
-fn is_held(class: &ClassDraft, waiting: &[ClassDraft]) -> bool
+fn is_held(class: &BoxedClass, waiting: &ClassList) -> bool
     ensures { result ≡ option_map_or (λ s. hierarchy.stands_in nat_eq s waiting.now) class.now.superclass false }
 {
-    match class.superclass {
+    match class.superclass() {
         None => false,
         Some(above) => stands_in(above, waiting),
     }
 }
 
 /// Whether a class waits: it is that of a name, or its superclass is one of those that wait.
-fn waits(name: NameId, waiting: &[ClassDraft], class: &ClassDraft) -> bool
+fn waits(name: NameId, waiting: &ClassList, class: &BoxedClass) -> bool
     ensures { result ≡ settling.waits nat_eq name waiting.now class.now }
 {
-    name == class.name || is_held(class, waiting)
+    class.is_named(name) || is_held(class, waiting)
 }
 
 /// Puts a class among those that wait, or behind those that are placed; behind the class of a second name go those that wait.
 fn place(
-    placed: &mut Vec<ClassDraft>,
-    waiting: &mut Vec<ClassDraft>,
+    placed: &mut Vec<BoxedClass>,
+    waiting: &mut ClassList,
     name: NameId,
     above: NameId,
-    class: ClassDraft,
+    class: BoxedClass,
 ) -> Result<(), Memory>
-    ensures { OnOk result ((rest : List (ClassOf ℕ)) → placed.new.items ++ settling.passed nat_eq name above waiting.new.items rest ≡ placed.old.items ++ settling.passed nat_eq name above waiting.old.items (class ∷ rest)) }
+    ensures { OnOk result ((rest : List (ClassOf ℕ)) → placed.new.items ++ settling.passed nat_eq name above waiting.new rest ≡ placed.old.items ++ settling.passed nat_eq name above waiting.old (class ∷ rest)) }
 {
     if waits(name, waiting, &class) {
-        waiting.push(class)?;
-        return Ok(());
+        return waiting.push_boxed(class);
     }
-    let is_last = above == class.name;
+    let is_last = class.is_named(above);
     placed.push(class)?;
     if is_last {
-        placed.append(waiting)?;
+        waiting.move_behind(placed)?;
     }
     Ok(())
 }
 
 /// The classes with the one of a name, and those that wait for it, behind the class of a second name.
-fn pass(
-    alloc: Global,
-    classes: Vec<ClassDraft>,
-    name: NameId,
-    above: NameId,
-) -> Result<Vec<ClassDraft>, Memory>
-    ensures { IfOk result (λ passed. passed.items ≡ settling.passed nat_eq name above [] classes.items) }
+fn pass(alloc: Global, classes: ClassList, name: NameId, above: NameId) -> Result<ClassList, Memory>
+    ensures { IfOk result (λ ordered. ordered ≡ settling.passed nat_eq name above [] classes) }
 {
-    let mut placed = Vec::with_capacity(alloc, classes.len())?;
-    let mut waiting = Vec::new(alloc);
-    for class in classes {
+    let (items, table) = classes.into_parts();
+    let mut placed = Vec::with_capacity(alloc, items.len())?;
+    let mut waiting = ClassList::from_parts(alloc, Vec::new(alloc), table);
+    for class in items {
         place(&mut placed, &mut waiting, name, above, class)?;
     }
-    placed.append(&mut waiting)?;
-    Ok(placed)
+    waiting.move_behind(&mut placed)?;
+    let (_, table) = waiting.into_parts();
+    Ok(ClassList::from_parts(alloc, placed, table))
 }
 
 /// The classes in order, once the class of a name is defined again with a superclass or without one.
@@ -108,6 +104,5 @@ pub fn put_behind(
     if comes_first(&classes, above, name) {
         return Ok(classes);
     }
-    let passed = pass(alloc, classes.into_items(), name, above)?;
-    Ok(ClassList::from_items(alloc, passed))
+    pass(alloc, classes, name, above)
 }

@@ -1,5 +1,6 @@
 // Why changes are refused.
-ghost use Rattle.std.specs.Prelude.{◌≡◌, ◌∷◌, ◌||◌, [], is_some, false, true, nat_eq, IfNone, IfOk};
+ghost use Rattle.std.specs.Prelude.{◌≡◌, ◌∷◌, ◌||◌, [], Some, is_some, false, true, nat_eq, IfNone, IfOk};
+ghost use Rattle.image_model.specs.Chain.{chain};
 ghost use Rattle.file_model.specs.Causes.{first_cause};
 ghost use Rattle.file_model.specs.Refusals as refusals;
 ghost use Rattle.file_model.specs.Hierarchy as hierarchy;
@@ -7,6 +8,7 @@ ghost use Rattle.file_model.specs.Hierarchy.{stands_twice};
 ghost use Rattle.image_model.specs.Means.{of_instance, of_class_side};
 ghost use Rattle.image_draft.specs.Kinds.{kind_of};
 ghost use Rattle.image_draft.specs.Names.{AreOrdered};
+ghost use Rattle.image_draft.specs.Parts.{PartsOnce};
 ghost use Rattle.image_draft.specs.Early.{told, early_refusals, late_refusals, early_side_refusals, late_side_refusals};
 
 use crate::class_draft::Definition;
@@ -38,6 +40,33 @@ pub fn is_one_class_too_many(classes: &ClassList, name: NameId) -> bool
     !has_class(classes, name) && CLASS_LIMIT <= classes.len()
 }
 
+/// Whether the class of one name stands before that of another; then that other one does not stand above it.
+fn stands_before(classes: &ClassList, class: NameId, name: NameId) -> bool
+    requires { AreOrdered classes.now }
+    ensures { result ≡ true → hierarchy.stands_in nat_eq name (chain nat_eq classes.now (Some class)) ≡ false }
+{
+    let Some(first) = classes.place(class) else {
+        return false;
+    };
+    let Some(second) = classes.place(name) else {
+        return false;
+    };
+    first < second
+}
+
+/// Whether the class of a name is that of another or stands above it.
+fn is_above(classes: &ClassList, name: NameId, class: Option<NameId>) -> bool
+    requires { AreOrdered classes.now }
+    ensures { result ≡ hierarchy.stands_in nat_eq name (chain nat_eq classes.now class) }
+{
+    match class {
+        None => false,
+        Some(class) => {
+            !stands_before(classes, class, name) && stands_above(classes, name, Some(class))
+        }
+    }
+}
+
 /// Whether the class of a definition would stand above itself: no class does that is new or keeps its superclass.
 fn makes_cycle(classes: &ClassList, definition: &Definition) -> bool
     requires { AreOrdered classes.now }
@@ -47,7 +76,7 @@ fn makes_cycle(classes: &ClassList, definition: &Definition) -> bool
         None => false,
         Some(class) => {
             !has_superclass(class, definition.superclass)
-                && stands_above(classes, definition.name, definition.superclass)
+                && is_above(classes, definition.name, definition.superclass)
         }
     }
 }
@@ -116,7 +145,8 @@ pub fn early_side_refusal(classes: &ClassList, name: NameId, names: &[NameId]) -
     None
 }
 
-/// Whether a variable of a kind stands twice on the chain of a class or of one below it; none does where they are kept.
+/// Whether a variable of a kind stands twice on the chain of a class or of one below it, where none does on the parts of
+/// chains below that class; none does at all where they are kept.
 fn repeats_below(
     alloc: Global,
     new: &ClassList,
@@ -125,6 +155,7 @@ fn repeats_below(
     kept: bool,
 ) -> Result<bool, Memory>
     requires order { AreOrdered new.now }
+    requires parts { PartsOnce new.now (kind_of kind) name }
     requires kept { kept ≡ true → stands_twice nat_eq new.now (kind_of kind) name ≡ false }
     ensures { IfOk result (λ found. found ≡ stands_twice nat_eq new.now (kind_of kind) name) }
 {
@@ -142,6 +173,8 @@ fn repeats_on_chains(
     kept: KeptChains,
 ) -> Result<bool, Memory>
     requires order { AreOrdered new.now }
+    requires instance_parts { PartsOnce new.now of_instance name }
+    requires class_side_parts { PartsOnce new.now of_class_side name }
     requires instance { kept.instance ≡ true → stands_twice nat_eq new.now of_instance name ≡ false }
     requires class_side { kept.class_side ≡ true → stands_twice nat_eq new.now of_class_side name ≡ false }
     ensures { IfOk result (λ found. found ≡ (stands_twice nat_eq new.now of_instance name || stands_twice nat_eq new.now of_class_side name)) }
@@ -163,6 +196,8 @@ pub fn late_refusal(
     kept: KeptChains,
 ) -> Result<Option<ImageCause>, Memory>
     requires order { AreOrdered new.now }
+    requires instance_parts { PartsOnce new.now of_instance name }
+    requires class_side_parts { PartsOnce new.now of_class_side name }
     requires instance { kept.instance ≡ true → stands_twice nat_eq new.now of_instance name ≡ false }
     requires class_side { kept.class_side ≡ true → stands_twice nat_eq new.now of_class_side name ≡ false }
     ensures cause { IfOk result (λ cause. told cause ≡ first_cause (late_refusals new.now name repeats too_many)) }
@@ -185,6 +220,7 @@ pub fn late_side_refusal(
     kept: bool,
 ) -> Result<Option<ImageCause>, Memory>
     requires order { AreOrdered new.now }
+    requires parts { PartsOnce new.now of_class_side name }
     requires kept { kept ≡ true → stands_twice nat_eq new.now of_class_side name ≡ false }
     ensures cause { IfOk result (λ cause. told cause ≡ first_cause (late_side_refusals new.now name)) }
     ensures some { IfOk result (λ cause. is_some cause ≡ is_some (first_cause (late_side_refusals new.now name))) }

@@ -5,6 +5,7 @@ use Rattle.file_model.specs.Refusals.{definition_refusals, is_one_class_too_many
 use Rattle.file_model.specs.Applied.{with_definition, defined}
 use Rattle.image_draft.specs.Early.{told}
 use Rattle.image_draft.proofs.Ordered.{IsLet, judged}
+use Rattle.image_draft.proofs.PartsKept.{defined_parts}
 use Rattle.image_draft.proofs.Sound.{untold, kept_free, defined_sound, sound_none}
 use Rattle.image_draft.proofs.define.define_in_order.Goals as goal
 
@@ -14,6 +15,20 @@ late_refusal-requires-clause-instance c = λ same.
     let free : IsLet classes c.args.definition = sym c.early_refusal.ensures.cause ∙ ap told c.in_default.is in
     let is : c.in_ok-after.after ≡ defined nat_eq c.args.kernel c.args.definition classes = c.in_ok-after.ensures.changed ∙ ap (defined nat_eq c.args.kernel c.args.definition) c.take_all-before.ensures.taken in
     kept_free classes c.in_ok-after.after c.args.definition c.args.kernel c.name_of-name.result of_instance c.requires.order c.requires.instance free is c.name_of-name.ensures (c.kept_chains-kept.ensures.instance same)
+
+pub late_refusal-requires-clause-instance_parts : goal.late_refusal-requires-clause-instance_parts
+late_refusal-requires-clause-instance_parts c =
+    let classes : List (ClassOf ℕ) = c.args.classes.now in
+    let free : IsLet classes c.args.definition = sym c.early_refusal.ensures.cause ∙ ap told c.in_default.is in
+    let is : c.in_ok-after.after ≡ defined nat_eq c.args.kernel c.args.definition classes = c.in_ok-after.ensures.changed ∙ ap (defined nat_eq c.args.kernel c.args.definition) c.take_all-before.ensures.taken in
+    defined_parts classes c.in_ok-after.after c.args.definition c.args.kernel c.name_of-name.result of_instance c.requires.order c.requires.instance free is c.name_of-name.ensures
+
+pub late_refusal-requires-clause-class_side_parts : goal.late_refusal-requires-clause-class_side_parts
+late_refusal-requires-clause-class_side_parts c =
+    let classes : List (ClassOf ℕ) = c.args.classes.now in
+    let free : IsLet classes c.args.definition = sym c.early_refusal.ensures.cause ∙ ap told c.in_default.is in
+    let is : c.in_ok-after.after ≡ defined nat_eq c.args.kernel c.args.definition classes = c.in_ok-after.ensures.changed ∙ ap (defined nat_eq c.args.kernel c.args.definition) c.take_all-before.ensures.taken in
+    defined_parts classes c.in_ok-after.after c.args.definition c.args.kernel c.name_of-name.result of_class_side c.requires.order c.requires.class_side free is c.name_of-name.ensures
 
 pub late_refusal-requires-clause-class_side : goal.late_refusal-requires-clause-class_side
 late_refusal-requires-clause-class_side c = λ same.

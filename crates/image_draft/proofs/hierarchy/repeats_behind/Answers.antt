@@ -1,5 +1,8 @@
-use Rattle.image_draft.proofs.Seen.{seen_none}
+use Rattle.std.proofs.Common.{not, ap, ◌∙◌}
+use Rattle.image_draft.specs.NameSets.{has, comes_again}
+use Rattle.image_draft.proofs.NameTests.{again_none, not_not}
 use Rattle.image_draft.proofs.hierarchy.repeats_behind.Goals as goal
 
-pub loop-name-init : goal.loop-name-init
-loop-name-init c = seen_none c.new-seen.result.keys c.args.names.now c.new-seen.ensures.empty
+pub returns : goal.returns
+returns c =
+    ap not c.in_ok-fresh.ensures.fresh ∙ not_not (comes_again (has c.new-seen.result) c.args.names.now) ∙ again_none c.new-seen.result c.args.names.now c.new-seen.ensures
