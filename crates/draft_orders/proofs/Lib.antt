@@ -1,0 +1,6 @@
+mod ByPlace
+mod Chained
+mod Ends
+mod Split
+mod Stated
+mod Waking

@@ -1,0 +1,7 @@
+use Rattle.draft_orders.proofs.Stated.{class_stated}
+use Rattle.draft_orders.proofs.classes.place_table.Goals as goal
+
+pub loop-stated-preserved : goal.loop-stated-preserved
+loop-stated-preserved c =
+    class_stated c.args.places.now c.loop-stated.stated-index c.stated-item.result c.loop-stated.table c.note.new.table c.loop-stated-test.true c.stated-item.is c.loop-stated.invariant
+    c.in_ok-note.ensures
