@@ -1,13 +1,13 @@
 -- Words of strings, and arguments by their number.
-use Rattle.std.proofs.Common.{◌≡◌, ℕ, Bool, true, false, not, cond, List, [], ◌∷◌, length, map, filter, Option, Some, None, refl, sym, ap, ◌∙◌, true≢false, arith, take, drop, suc, zero, ◌+◌}
-use Rattle.std.proofs.lemmas.Bool.{eqb-true}
-use Rattle.std.specs.Prelude.{◌==◌, ◌||◌, ◌&&◌, option_map}
+use Rattle.std.proofs.Common.{◌≡◌, ℕ, Bool, true, false, not, cond, List, [], ◌∷◌, length, filter, Some, None, refl, sym, ap, ◌∙◌, true≢false, arith, take, drop, suc, ◌+◌}
+use Rattle.std.specs.Prelude.{◌==◌, ◌||◌, ◌&&◌}
 use Rattle.std.specs.List.{list_all, slice_split, onto_first, prefix_len}
 use Rattle.tree_model.specs.Tree.{TreeOf, map_trees, trees_of, map_statements}
 use Rattle.st_tree.specs.View.{statements_of}
 use Rattle.st_tree.specs.declared.tree.Statement.{Statement}
-use Rattle.file_model.specs.Forms.{Argument, Symbol, String, Other, arguments_of, the_argument, sent_in_statements, DefinitionStrings, definition_strings}
-use Rattle.chunk_forms.specs.Told.{FirstOf, symbol_first, string_first}
+use Rattle.file_model.specs.Numerals.{place_in}
+use Rattle.file_model.specs.Forms.{Argument, Symbol, String, Numeral, Other, arguments_of, the_argument, sent_in_statements, DefinitionStrings, definition_strings}
+use Rattle.chunk_forms.specs.Told.{FirstOf, FirstStringsOf, symbol_first, string_first, strings_first, one_place}
 
 -- all parts pass or are empty where all that are not empty pass
 pub list_all-filled : (q : List ℕ → Bool) (parts : List (List ℕ)) → list_all (λ (w : List ℕ). (length w == 0) || q w) parts ≡ list_all q (filter (λ (w : List ℕ). not (length w == 0)) parts)
@@ -34,13 +34,15 @@ symbol_is : (xs : List Argument) (r : FirstOf) → Some r ≡ symbol_first xs �
 symbol_is [] r e = absurd (cc)
 symbol_is (Symbol t ∷ xs) r e = cc
 symbol_is (String t ∷ xs) r e = absurd (cc)
+symbol_is (Numeral t ∷ xs) r e = absurd (cc)
 symbol_is (Other ∷ xs) r e = absurd (cc)
 
 -- arguments that begin with a string
-string_is : (xs : List Argument) (r : FirstOf) → Some r ≡ string_first xs → xs ≡ String r.text ∷ r.others
+pub string_is : (xs : List Argument) (r : FirstOf) → Some r ≡ string_first xs → xs ≡ String r.text ∷ r.others
 string_is [] r e = absurd (cc)
 string_is (Symbol t ∷ xs) r e = absurd (cc)
 string_is (String t ∷ xs) r e = cc
+string_is (Numeral t ∷ xs) r e = absurd (cc)
 string_is (Other ∷ xs) r e = absurd (cc)
 
 -- a symbol and three strings
@@ -53,40 +55,47 @@ four xs n i s p a b d e =
     ∙ ap (λ ys. String s.text ∷ ys) (string_is s.others p e)))
 
 -- no fifth string
-missing : (n i s p : List ℕ) (xs : List Argument) → None ≡ string_first xs → definition_strings (Symbol n ∷ String i ∷ String s ∷ String p ∷ xs) ≡ None
+missing : (n i s p : List ℕ) (xs : List Argument) → None ≡ string_first xs → strings_first (Symbol n ∷ String i ∷ String s ∷ String p ∷ xs) ≡ None
 missing n i s p [] e = refl
 missing n i s p (Symbol t ∷ xs) e = refl
 missing n i s p (String t ∷ xs) e = absurd (cc)
+missing n i s p (Numeral t ∷ xs) e = refl
 missing n i s p (Other ∷ xs) e = refl
 
 -- where the fifth argument is no string, there is no definition
 pub no_category : (xs : List Argument) (n i s p : FirstOf) → Some n ≡ symbol_first xs → Some i ≡ string_first n.others → Some s ≡ string_first i.others → Some p ≡ string_first s.others → None ≡ string_first p.others
-    → None ≡ definition_strings xs
+    → None ≡ strings_first xs
 no_category xs n i s p a b d e h =
-    sym (ap definition_strings (four xs n i s p a b d e) ∙ missing n.text i.text s.text p.text p.others h)
+    sym (ap strings_first (four xs n i s p a b d e) ∙ missing n.text i.text s.text p.text p.others h)
 
 -- a symbol and four strings
-five : (xs : List Argument) (n i s p k : FirstOf) → Some n ≡ symbol_first xs → Some i ≡ string_first n.others → Some s ≡ string_first i.others → Some p ≡ string_first s.others → Some k ≡ string_first p.others
-    → xs ≡ Symbol n.text ∷ String i.text ∷ String s.text ∷ String p.text ∷ String k.text ∷ k.others
+pub five : (xs : List Argument) (n i s p k : FirstOf) → Some n ≡ symbol_first xs → Some i ≡ string_first n.others → Some s ≡ string_first i.others → Some p ≡ string_first s.others → Some k ≡ string_first p.others
+    → Some (record { strings = record { name = n.text; instance = i.text; shared = s.text; pools = p.text; category = k.text }; others = k.others }) ≡ strings_first xs
 five xs n i s p k a b d e h =
-    four xs n i s p a b d e ∙ ap (λ ys. Symbol n.text ∷ String i.text ∷ String s.text ∷ String p.text ∷ ys) (string_is p.others k h)
+    sym (ap strings_first (four xs n i s p a b d e ∙ ap (λ ys. Symbol n.text ∷ String i.text ∷ String s.text ∷ String p.text ∷ ys) (string_is p.others k h)))
+
+-- arguments that begin with the strings of a definition
+strings_are : (xs : List Argument) (r : FirstStringsOf) → Some r ≡ strings_first xs
+    → xs ≡ Symbol r.strings.name ∷ String r.strings.instance ∷ String r.strings.shared ∷ String r.strings.pools ∷ String r.strings.category ∷ r.others
+strings_are (Symbol n ∷ String i ∷ String s ∷ String p ∷ String k ∷ xs) r e =
+    let same : record { strings = record { name = n; instance = i; shared = s; pools = p; category = k }; others = xs } ≡ r = cc in
+    ap (λ (q : FirstStringsOf). Symbol q.strings.name ∷ String q.strings.instance ∷ String q.strings.shared ∷ String q.strings.pools ∷ String q.strings.category ∷ q.others) same
+strings_are xs r e = absurd (cc)
 
 -- where a sixth argument follows, there is no definition
-pub more_arguments : (f : ℕ → List ℕ) (xs : List Argument) (n i s p : FirstOf) (k : List ℕ) (ts : List (TreeOf ℕ)) → (length ts == 0) ≡ false
-    → Some n ≡ symbol_first xs → Some i ≡ string_first n.others → Some s ≡ string_first i.others → Some p ≡ string_first s.others
-    → Some (record { text = k; others = arguments_of (map_trees f (trees_of ts)) }) ≡ string_first p.others → None ≡ definition_strings xs
-more_arguments f xs n i s p k [] l a b d e h = absurd (true≢false l)
-more_arguments f xs n i s p k (t ∷ ts) l a b d e h =
-    sym (ap definition_strings (five xs n i s p (record { text = k; others = arguments_of (map_trees f (trees_of (t ∷ ts))) }) a b d e h))
+pub more_arguments : (f : ℕ → List ℕ) (xs : List Argument) (d : DefinitionStrings) (ts : List (TreeOf ℕ)) → (length ts == 0) ≡ false
+    → Some (record { strings = d; others = arguments_of (map_trees f (trees_of ts)) }) ≡ strings_first xs → None ≡ definition_strings xs
+more_arguments f xs d [] l e = absurd (true≢false l)
+more_arguments f xs d (t ∷ ts) l e = sym (ap definition_strings (strings_are xs (record { strings = d; others = arguments_of (map_trees f (trees_of (t ∷ ts))) }) e))
 
--- where none follows, these are the strings of a definition
-pub all_strings : (f : ℕ → List ℕ) (xs : List Argument) (n i s p : FirstOf) (k : List ℕ) (ts : List (TreeOf ℕ)) → (length ts == 0) ≡ true
-    → Some n ≡ symbol_first xs → Some i ≡ string_first n.others → Some s ≡ string_first i.others → Some p ≡ string_first s.others
-    → Some (record { text = k; others = arguments_of (map_trees f (trees_of ts)) }) ≡ string_first p.others
-    → Some (record { name = n.text; instance = i.text; shared = s.text; pools = p.text; category = k }) ≡ definition_strings xs
-all_strings f xs n i s p k [] l a b d e h =
-    sym (ap definition_strings (five xs n i s p (record { text = k; others = [] }) a b d e h))
-all_strings f xs n i s p k (t ∷ ts) l a b d e h = absurd (omega (arith, eqb-true (length (t ∷ ts)) 0 l))
+-- the place that one numeral states
+pub one_numeral : (xs : List Argument) (t : List ℕ) → the_argument xs ≡ Numeral t → place_in t ≡ one_place xs
+one_numeral [] t e = absurd (cc)
+one_numeral (Symbol u ∷ []) t e = absurd (cc)
+one_numeral (String u ∷ []) t e = absurd (cc)
+one_numeral (Numeral u ∷ []) t e = let same : t ≡ u = cc in ap place_in same
+one_numeral (Other ∷ []) t e = absurd (cc)
+one_numeral (x ∷ y ∷ xs) t e = absurd (cc)
 
 -- a text begins with a word that a separator follows
 pub split_word : (p : ℕ → Bool) (xs : List ℕ) (x : ℕ) (others : List ℕ) → drop (prefix_len (λ b. not (p b)) xs) xs ≡ x ∷ others → slice_split p xs ≡ take (prefix_len (λ b. not (p b)) xs) xs ∷ slice_split p others

@@ -21,6 +21,11 @@ pub enum ChunkForm<'a> {
     Evaluates,
     /// A class is defined, for the first time or again.
     Defines(ClassDefinition<'a>),
+    /// A class is defined, for the first time or again, and a place is stated for it.
+    DefinesAt {
+        definition: ClassDefinition<'a>,
+        place: usize,
+    },
     /// A class has a comment.
     Comments {
         class: NameId,
@@ -37,6 +42,15 @@ pub enum ChunkForm<'a> {
         meta: bool,
         protocol: &'a [u8],
     },
+    /// The same, and a place is stated for the first of the methods.
+    OpensAt {
+        class: NameId,
+        meta: bool,
+        protocol: &'a [u8],
+        place: usize,
+    },
+    /// Methods and classes go to the places that were stated for them.
+    Settles,
     /// The method of a class, a side and a selector is removed.
     RemovesMethod {
         class: NameId,

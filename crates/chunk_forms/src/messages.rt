@@ -1,138 +1,21 @@
 // What a message to a class says.
-ghost use Rattle.std.specs.Prelude.{◌≡◌, ◌&&◌, ℕ, List, option_map};
+ghost use Rattle.std.specs.Prelude.{◌≡◌, nat_eq, codes};
+ghost use Rattle.std.specs.List.{starts_with};
 ghost use Rattle.rb_base.specs.Names.{name_at};
 ghost use Rattle.token_model.specs.declared.kind.Dialect.TheVariants.{Second};
-ghost use Rattle.tree_model.specs.Tree.{map_sequence, map_trees, trees_of};
+ghost use Rattle.tree_model.specs.Tree.{map_sequence};
 ghost use Rattle.st_tree.specs.View.{sequence_of};
-ghost use Rattle.file_model.specs.Words.{may_name, may_name_all};
 ghost use Rattle.file_model.specs.Forms as forms;
-ghost use Rattle.chunk_forms.specs.Told.{strings_text, first_text, symbol_first, string_first, sent_text, form_text};
+ghost use Rattle.chunk_forms.specs.Told.{sent_text, form_text};
 
-use crate::form::{ChunkForm, ClassDefinition};
-use crate::sent::{Argument, Sent, argument_of, one_argument, sent_in, text_of};
-use crate::words::{is_blank_string, may_name, may_name_all, same_text};
-use rb_base::{NameId, Names};
+use crate::arguments::{one_argument, one_place, string_first};
+use crate::definitions::{placed_subclass_form, subclass_form};
+use crate::form::ChunkForm;
+use crate::sent::{Argument, Sent, is_to_system, sent_in, text_of};
+use crate::words::{may_name_all, same_text};
+use rb_base::Names;
 use st_kernel::is_reserved;
-use st_tree::{Node, Sequence};
-
-/// The strings of a definition of a class.
-#[derive(Clone, Copy)]
-struct DefinitionStrings<'a> {
-    name: &'a [u8],
-    instance: &'a [u8],
-    shared: &'a [u8],
-    pools: &'a [u8],
-    category: &'a [u8],
-}
-
-/// The text of an argument, and the arguments behind it.
-#[derive(Clone, Copy)]
-struct FirstText<'a> {
-    text: &'a [u8],
-    others: &'a [Node],
-}
-
-/// The symbol with which the arguments begin.
-fn symbol_first(arguments: &[Node]) -> Option<FirstText<'_>>
-    ensures { (f : ℕ → List ℕ) → option_map (first_text f) result ≡ symbol_first (forms.arguments_of (map_trees f (trees_of arguments.now))) }
-{
-    match arguments.split_first() {
-        None => None,
-        Some((first, others)) => match argument_of(first) {
-            Argument::Symbol(text) => Some(FirstText { text, others }),
-            _ => None,
-        },
-    }
-}
-
-/// The string with which the arguments begin.
-fn string_first(arguments: &[Node]) -> Option<FirstText<'_>>
-    ensures { (f : ℕ → List ℕ) → option_map (first_text f) result ≡ string_first (forms.arguments_of (map_trees f (trees_of arguments.now))) }
-{
-    match arguments.split_first() {
-        None => None,
-        Some((first, others)) => match argument_of(first) {
-            Argument::String(text) => Some(FirstText { text, others }),
-            _ => None,
-        },
-    }
-}
-
-/// The strings of a definition, where the arguments are a symbol and four strings.
-fn definition_strings(arguments: &[Node]) -> Option<DefinitionStrings<'_>>
-    ensures { (f : ℕ → List ℕ) → option_map strings_text result ≡ forms.definition_strings (forms.arguments_of (map_trees f (trees_of arguments.now))) }
-{
-    let name = symbol_first(arguments)?;
-    let instance = string_first(name.others)?;
-    let shared = string_first(instance.others)?;
-    let pools = string_first(shared.others)?;
-    let category = string_first(pools.others)?;
-    if !category.others.is_empty() {
-        return None;
-    }
-    Some(DefinitionStrings {
-        name: name.text,
-        instance: instance.text,
-        shared: shared.text,
-        pools: pools.text,
-        category: category.text,
-    })
-}
-
-/// The superclass that a definition names: in the text of the kernel `nil` stands for none.
-fn superclass_named(kernel: bool, class: NameId, names: &Names) -> Option<NameId>
-    ensures { option_map (name_at names.now) result ≡ forms.superclass_named kernel (name_at names.now class) }
-{
-    if kernel && same_text(text_of(names, class), b"nil") {
-        None
-    } else {
-        Some(class)
-    }
-}
-
-/// Whether the class and its variables may have their names.
-fn has_names(strings: &DefinitionStrings<'_>) -> bool
-    ensures { result ≡ (may_name strings.now.name.now && (may_name_all strings.now.instance.now && may_name_all strings.now.shared.now)) }
-{
-    may_name(strings.name) && (may_name_all(strings.instance) && may_name_all(strings.shared))
-}
-
-/// A definition of a class under another.
-fn definition_form<'a>(
-    kernel: bool,
-    class: NameId,
-    strings: DefinitionStrings<'a>,
-    names: &Names,
-) -> ChunkForm<'a>
-    ensures { form_text names.now result ≡ forms.definition_form kernel (name_at names.now class) (strings_text strings.entry) }
-{
-    if !has_names(&strings) {
-        return ChunkForm::IsUnknown;
-    }
-    if !is_blank_string(strings.pools) {
-        return ChunkForm::HasPools;
-    }
-    ChunkForm::Defines(ClassDefinition {
-        name: strings.name,
-        superclass: superclass_named(kernel, class, names),
-        instance: strings.instance,
-        shared: strings.shared,
-        category: strings.category,
-    })
-}
-
-/// What `subclass:instanceVariableNames:classVariableNames:poolDictionaries:category:` says.
-fn subclass_form<'a>(kernel: bool, sent: &Sent<'a>, names: &Names) -> ChunkForm<'a>
-    ensures { form_text names.now result ≡ forms.subclass_form kernel (name_at names.now sent.now.class) sent.now.meta (forms.definition_strings (sent_text names.now sent.now).arguments) }
-{
-    if sent.meta {
-        return ChunkForm::IsUnknown;
-    }
-    match definition_strings(sent.arguments) {
-        None => ChunkForm::IsUnknown,
-        Some(strings) => definition_form(kernel, sent.class, strings, names),
-    }
-}
+use st_tree::Sequence;
 
 /// What `comment:` says.
 fn comment_form<'a>(sent: &Sent<'a>, names: &Names) -> ChunkForm<'a>
@@ -161,6 +44,24 @@ fn run_form<'a>(sent: &Sent<'a>, names: &Names) -> ChunkForm<'a>
             protocol,
         },
         _ => ChunkForm::IsUnknown,
+    }
+}
+
+/// What `methodsFor:at:` says.
+fn placed_run_form<'a>(sent: &Sent<'a>, names: &Names) -> ChunkForm<'a>
+    ensures { form_text names.now result ≡ forms.placed_run_form (name_at names.now sent.now.class) sent.now.meta (sent_text names.now sent.now).arguments }
+{
+    let Some(protocol) = string_first(sent.arguments) else {
+        return ChunkForm::IsUnknown;
+    };
+    match one_place(protocol.others) {
+        None => ChunkForm::IsUnknown,
+        Some(place) => ChunkForm::OpensAt {
+            class: sent.class,
+            meta: sent.meta,
+            protocol: protocol.text,
+            place,
+        },
     }
 }
 
@@ -232,6 +133,34 @@ fn other_form<'a>(sent: &Sent<'a>, selector: &[u8], names: &Names) -> ChunkForm<
     }
 }
 
+/// Whether a text begins with the keyword by which a do-it is replaced.
+fn begins_replacement(selector: &[u8]) -> bool
+    ensures { result ≡ starts_with nat_eq selector.now (codes "replaceDoIt:") }
+{
+    selector.starts_with(b"replaceDoIt:")
+}
+
+/// What a message says that neither defines a class without a place nor sets variables.
+fn further_form<'a>(kernel: bool, sent: &Sent<'a>, selector: &[u8], names: &Names) -> ChunkForm<'a>
+    requires { selector.now ≡ name_at names.now sent.now.selector }
+    ensures { form_text names.now result ≡ forms.further_form kernel (sent_text names.now sent.now) }
+{
+    if same_text(
+        selector,
+        b"subclass:instanceVariableNames:classVariableNames:poolDictionaries:category:at:",
+    ) {
+        placed_subclass_form(kernel, sent, names)
+    } else if same_text(selector, b"methodsFor:at:") {
+        placed_run_form(sent, names)
+    } else if is_to_system(sent, names) && same_text(selector, b"settlePlaces") {
+        ChunkForm::Settles
+    } else if is_to_system(sent, names) && begins_replacement(selector) {
+        ChunkForm::IsUnknown
+    } else {
+        other_form(sent, selector, names)
+    }
+}
+
 /// What a message to a class says.
 fn sent_form<'a>(kernel: bool, sent: &Sent<'a>, names: &Names) -> ChunkForm<'a>
     ensures { form_text names.now result ≡ forms.sent_form Second kernel (sent_text names.now sent.now) }
@@ -245,7 +174,7 @@ fn sent_form<'a>(kernel: bool, sent: &Sent<'a>, names: &Names) -> ChunkForm<'a>
     } else if same_text(selector, b"instanceVariableNames:") {
         class_side_form(sent, names)
     } else {
-        other_form(sent, selector, names)
+        further_form(kernel, sent, selector, names)
     }
 }
 

@@ -4,17 +4,18 @@ ghost use Rattle.rb_base.specs.Names.{name_at};
 ghost use Rattle.tree_model.specs.Tree.{map_literal, map_names, map_trees, map_statements, trees_of, map_sequence};
 ghost use Rattle.st_tree.specs.View.{sequence_of, statements_of};
 ghost use Rattle.file_model.specs.Forms as forms;
-ghost use Rattle.chunk_forms.specs.Told.{argument_text, receiver_text, sent_text, HasOneArgument};
+ghost use Rattle.chunk_forms.specs.Told.{argument_text, receiver_text, sent_text};
 
 use crate::words::same_text;
 use rb_base::{NameId, Names};
 use st_tree::{Literal, LiteralKind, Node, NodeKind, Sequence, Statement};
 
-/// An argument of a message: a symbol, a string, or anything else.
+/// An argument of a message: a symbol, a string, a numeral, or anything else.
 #[derive(Clone, Copy)]
 pub(crate) enum Argument<'a> {
     Symbol(&'a [u8]),
     String(&'a [u8]),
+    Numeral(&'a [u8]),
     Other,
 }
 
@@ -52,6 +53,7 @@ fn argument_of_literal(literal: &Literal) -> Argument<'_>
     match &literal.kind {
         LiteralKind::Str { text } => Argument::String(text.as_slice()),
         LiteralKind::Symbol { text } => Argument::Symbol(text.as_slice()),
+        LiteralKind::Number { text } => Argument::Numeral(text.as_slice()),
         _ => Argument::Other,
     }
 }
@@ -156,18 +158,9 @@ pub(crate) fn sent_in<'a>(body: &'a Sequence, names: &Names) -> Option<Sent<'a>>
     }
 }
 
-/// The argument of a message that has one.
-pub(crate) fn one_argument(arguments: &[Node]) -> Argument<'_>
-    ensures { HasOneArgument arguments.now result }
+/// Whether a message is one to `Smalltalk`.
+pub(crate) fn is_to_system(sent: &Sent<'_>, names: &Names) -> bool
+    ensures { result ≡ forms.is_to_system (sent_text names.now sent.now) }
 {
-    match arguments.split_first() {
-        None => Argument::Other,
-        Some((first, others)) => {
-            if others.is_empty() {
-                argument_of(first)
-            } else {
-                Argument::Other
-            }
-        }
-    }
+    !sent.meta && same_text(text_of(names, sent.class), b"Smalltalk")
 }

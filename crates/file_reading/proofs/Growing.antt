@@ -14,16 +14,25 @@ use Rattle.image_model.specs.Image.{ImageOf, map_image}
 use Rattle.image_model.specs.ImageNames.{ImageNames, OptionNames}
 use Rattle.image_model.proofs.MapImage.{map_image-same, ImageNames-implies}
 use Rattle.file_model.specs.Changes.{RunOf, map_run}
+use Rattle.file_model.specs.Places.{ClassPlaceOf, MethodPlaceOf, PlacesOf, map_places}
 use Rattle.file_model.specs.Filing.{Text}
-use Rattle.image_draft.specs.Drafted.{image_of}
-use Rattle.file_reading.specs.declared.reading.Reading.{Reading}
-use Rattle.file_reading.specs.Filed.{filed, IsNumberIn, IsSound}
+use Rattle.file_numbers.specs.PlacesNames.{MethodPlaceNames, PlacesNames}
+use Rattle.placed_draft.specs.Placed.{image_of, places_of}
+use Rattle.file_reading.specs.declared.reading.Progress.{Progress}
+use Rattle.file_reading.specs.Filed.{filed, run_in, is_at_head, IsNumberIn, IsSoundSoFar}
 
 -- a list keeps what stands in it where more is put behind it
 slice_get-front : (xs ys : List Text) (n : ℕ) → n < length xs → slice_get (xs ++ ys) n ≡ slice_get xs n
 slice_get-front [] ys n h = absurd (omega arith)
 slice_get-front (x ∷ xs) ys zero h = refl
 slice_get-front (x ∷ xs) ys (suc n) h = slice_get-front xs ys n (omega arith)
+
+-- the place of a class, and that of a method, over other names
+abbrev named_class_place : (ℕ → Text) → ClassPlaceOf ℕ → ClassPlaceOf Text
+named_class_place f p = record { class = f p.class; place = p.place }
+
+abbrev named_method_place : (ℕ → Text) → MethodPlaceOf ℕ → MethodPlaceOf Text
+named_method_place f p = record { class = f p.class; meta = p.meta; selector = f p.selector; place = p.place }
 
 module _ {names later : List Text} (g : Grows names later) where
   -- a number that has a text keeps it
@@ -67,16 +76,52 @@ module _ {names later : List Text} (g : Grows names later) where
   run-grown None h = refl
   run-grown (Some r) h = ap (λ (t : Text). Some (record { class = t; meta = r.meta; protocol = r.protocol })) (name_at-grown r.class (h r refl))
 
--- what was read is the same, and still sound
-module _ (r : Reading) (later : List Text) (g : Grows r.names later) (sound : IsSound r) where
-  pub filed-grown : filed (record r { names = later }) ≡ filed r
-  filed-grown = λ i. record { image = image-grown g (image_of r.draft) sound.image i; run = run-grown g r.draft.run sound.run i; at_head = r.draft.at_head }
+  -- in places that are stated
+  class_places-grown : (ps : List (ClassPlaceOf ℕ)) → AllByRecursion (λ (p : ClassPlaceOf ℕ). IsNumberIn names p.class) ps
+      → map (named_class_place (name_at later)) ps ≡ map (named_class_place (name_at names)) ps
+  class_places-grown [] h = refl
+  class_places-grown (p ∷ ps) h = λ i. record { class = name_at-grown p.class h.0 i; place = p.place } ∷ class_places-grown ps h.1 i
 
-  pub IsSound-grown : IsSound (record r { names = later })
-  IsSound-grown = record {
+  method_places-grown : (ps : List (MethodPlaceOf ℕ)) → AllByRecursion (MethodPlaceNames (IsNumberIn names)) ps
+      → map (named_method_place (name_at later)) ps ≡ map (named_method_place (name_at names)) ps
+  method_places-grown [] h = refl
+  method_places-grown (p ∷ ps) h = λ i. record {
+    class = name_at-grown p.class h.0.0 i;
+    meta = p.meta;
+    selector = name_at-grown p.selector h.0.1 i;
+    place = p.place;
+  } ∷ method_places-grown ps h.1 i
+
+  places-grown : (ps : PlacesOf ℕ) → PlacesNames (IsNumberIn names) ps → map_places (name_at later) ps ≡ map_places (name_at names) ps
+  places-grown ps h = λ i. record { classes = class_places-grown ps.classes h.classes i; methods = method_places-grown ps.methods h.methods i; next = ps.next }
+
+  class_place_numbers-grown : (ps : List (ClassPlaceOf ℕ)) → AllByRecursion (λ (p : ClassPlaceOf ℕ). IsNumberIn names p.class) ps → AllByRecursion (λ (p : ClassPlaceOf ℕ). IsNumberIn later p.class) ps
+  class_place_numbers-grown [] h = tt
+  class_place_numbers-grown (p ∷ ps) h = (number-grown p.class h.0, class_place_numbers-grown ps h.1)
+
+  method_place_numbers-grown : (ps : List (MethodPlaceOf ℕ)) → AllByRecursion (MethodPlaceNames (IsNumberIn names)) ps → AllByRecursion (MethodPlaceNames (IsNumberIn later)) ps
+  method_place_numbers-grown [] h = tt
+  method_place_numbers-grown (p ∷ ps) h = ((number-grown p.class h.0.0, number-grown p.selector h.0.1), method_place_numbers-grown ps h.1)
+
+  place_numbers-grown : (ps : PlacesOf ℕ) → PlacesNames (IsNumberIn names) ps → PlacesNames (IsNumberIn later) ps
+  place_numbers-grown ps h = record { classes = class_place_numbers-grown ps.classes h.classes; methods = method_place_numbers-grown ps.methods h.methods }
+
+-- what was read is the same, and still sound
+module _ (p : Progress) (later : List Text) (g : Grows p.names later) (sound : IsSoundSoFar p) where
+  pub filed-grown : filed (record p { names = later }) ≡ filed p
+  filed-grown = λ i. record {
+    image = image-grown g (image_of p.draft) sound.image i;
+    run = run-grown g (run_in p.draft) sound.run i;
+    at_head = is_at_head p.draft;
+    places = places-grown g (places_of p.draft) sound.places i;
+  }
+
+  pub IsSoundSoFar-grown : IsSoundSoFar (record p { names = later })
+  IsSoundSoFar-grown = record {
     whole = sound.whole;
-    image = ImageNames-implies (IsNumberIn r.names) (IsNumberIn later) (number-grown g) (image_of r.draft) sound.image;
+    image = ImageNames-implies (IsNumberIn p.names) (IsNumberIn later) (number-grown g) (image_of p.draft) sound.image;
     run = λ run e. number-grown g run.class (sound.run run e);
+    places = place_numbers-grown g (places_of p.draft) sound.places;
   }
 
 -- a text that was put into a table

@@ -8,8 +8,8 @@ use Rattle.chunk_format.specs.declared.chunk_iter.Unended.{Unended}
 use Rattle.chunk_format.proofs.Unique.{HasChunks-some}
 use Rattle.image_model.specs.Image.{ImageOf}
 use Rattle.file_model.specs.Causes.{Refusal}
-use Rattle.file_model.specs.Filing.{Text, Filing}
-use Rattle.file_model.specs.Reading.{Takes, Over, Cut, Taken, Refused, ReadsText, IsKernelOf, IsImageOf, no_end, no_image}
+use Rattle.file_model.specs.Filing.{Text, Filing, begun}
+use Rattle.file_model.specs.Reading.{Takes, Over, Cut, Taken, Refused, ReadsText, IsKernelOf, no_end, no_image}
 use Rattle.file_faults.specs.declared.fault.ImageFault.{ImageFault}
 use Rattle.file_faults.specs.Faults as faults
 use Rattle.file_faults.specs.Faults.{IsRefused}
@@ -40,11 +40,11 @@ module _ (kernel : Bool) (f : Filing) where
       subst (λ (x : Refusal). TakesLeft kernel f left (Err x)) (sym refused.refusal) (record { pieces = p ∷ rest.0; end = rest.1; chunks = First t rest.2; takes = Refused refused.takes })
 
 -- all that is left of a text at its beginning
-pub text_read : (kernel : Bool) (i : ImageOf Text) (text : Text) (r : Result Filing Refusal) → TakesLeft kernel (record { image = i; run = None; at_head = true }) (start_of text) r → ReadsText Second kernel i text r
+pub text_read : (kernel : Bool) (i : ImageOf Text) (text : Text) (r : Result Filing Refusal) → TakesLeft kernel (begun i) (start_of text) r → ReadsText Second kernel i text r
 text_read kernel i text r t = record { pieces = t.pieces; end = t.end; chunks = t.chunks; takes = t.takes }
 
 module _ (prelude text : Text) (k : Filing) (reads : ReadsText Second true no_image prelude (Ok k)) where
-  is_kernel : IsKernelOf Second prelude k.image
+  pub is_kernel : IsKernelOf Second prelude k.image
   is_kernel = record { end = k; reads = reads; image = refl }
 
   -- it is refused

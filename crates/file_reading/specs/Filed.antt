@@ -1,5 +1,5 @@
 -- What a draft and its names stand for.
-use Rattle.std.specs.Prelude.{ℕ, ◌<◌, List, length}
+use Rattle.std.specs.Prelude.{ℕ, ◌<◌, Bool, List, length, Option}
 use Rattle.std.specs.Option.{option_map, ForSome}
 use Rattle.rb_base.specs.Names.{name_at}
 use Rattle.tree_model.specs.Tree.{map_sequence}
@@ -7,18 +7,44 @@ use Rattle.st_tree.specs.declared.tree.Sequence.{Sequence}
 use Rattle.st_tree.specs.View.{sequence_of}
 use Rattle.image_model.specs.Image.{DoItOf, ImageOf, map_image}
 use Rattle.image_model.specs.ImageNames.{ImageNames}
-use Rattle.file_model.specs.Changes.{map_run}
+use Rattle.file_model.specs.Changes.{RunOf, map_run}
+use Rattle.file_model.specs.Places.{PlacesOf, map_places}
 use Rattle.file_model.specs.Filing.{Text, Filing}
-use Rattle.image_draft.specs.Drafted.{image_of, IsWhole}
+use Rattle.file_numbers.specs.PlacesNames.{PlacesNames}
+use Rattle.image_draft.specs.Drafted as drafted
+use Rattle.placed_draft.specs.Placed.{image_of, places_of, IsWhole}
+use Rattle.placed_draft.specs.declared.placed_draft.PlacedDraft.{PlacedDraft}
+use Rattle.file_reading.specs.declared.reading.Progress.{Progress}
 use Rattle.file_reading.specs.declared.reading.Reading.{Reading}
+
+-- the run of methods in which the next chunk stands, if it stands in one
+abbrev pub run_in : PlacedDraft → Option (RunOf ℕ)
+run_in d = d.draft.run
+
+-- whether all chunks so far that are not blank are do-its
+abbrev pub is_at_head : PlacedDraft → Bool
+is_at_head d = d.draft.at_head
+
+-- the image so far, over the texts of names
+abbrev pub image_so_far : Progress → ImageOf Text
+image_so_far p = map_image (name_at p.names) (image_of p.draft)
+
+-- the places that were stated so far, over the texts of names
+abbrev pub places_so_far : Progress → PlacesOf Text
+places_so_far p = map_places (name_at p.names) (places_of p.draft)
+
+-- how far the file-out was read, over the texts of names
+abbrev pub filed : Progress → Filing
+filed p = record {
+  image = image_so_far p;
+  run = option_map (map_run (name_at p.names)) (run_in p.draft);
+  at_head = is_at_head p.draft;
+  places = places_so_far p;
+}
 
 -- the image, over the texts of names
 abbrev pub text_image : Reading → ImageOf Text
-text_image r = map_image (name_at r.names) (image_of r.draft)
-
--- how far the file-out was read, over the texts of names
-abbrev pub filed : Reading → Filing
-filed r = record { image = text_image r; run = option_map (map_run (name_at r.names)) r.draft.run; at_head = r.draft.at_head }
+text_image r = map_image (name_at r.names) (drafted.image_of r.draft)
 
 -- a do-it, over the texts of names
 abbrev pub text_doit : List Text → Text → Sequence → DoItOf Text
@@ -28,8 +54,15 @@ text_doit names source body = record { source = source; body = map_sequence (nam
 abbrev pub IsNumberIn : List Text → ℕ → Type 0
 IsNumberIn names n = n < length names
 
+-- the draft with stated places is whole, and each number in it has a text
+pub record IsSoundSoFar (p : Progress) : Type 0 where
+  pub whole : IsWhole p.draft
+  pub image : ImageNames (IsNumberIn p.names) (image_of p.draft)
+  pub run : ForSome (run_in p.draft) (λ run. IsNumberIn p.names run.class)
+  pub places : PlacesNames (IsNumberIn p.names) (places_of p.draft)
+
 -- the draft is whole, and each number in it has a text
 pub record IsSound (r : Reading) : Type 0 where
-  pub whole : IsWhole r.draft
-  pub image : ImageNames (IsNumberIn r.names) (image_of r.draft)
+  pub whole : drafted.IsWhole r.draft
+  pub image : ImageNames (IsNumberIn r.names) (drafted.image_of r.draft)
   pub run : ForSome r.draft.run (λ run. IsNumberIn r.names run.class)

@@ -2,13 +2,13 @@
 //! those before it, and the draft of an image that comes of it is made an image.
 #![tactic(auto)]
 
+mod faults;
 mod image;
 mod read;
 mod reading;
+mod replace;
 mod said;
 mod take;
-#[cfg(test)]
-mod tests;
 mod words;
 
 pub use image::read_image;

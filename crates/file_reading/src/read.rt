@@ -1,44 +1,47 @@
 // The loop over the chunks of a text.
-ghost use Rattle.std.specs.Prelude.{◌≡◌, true, None, IfOk, IfErr, Ok, Err};
+ghost use Rattle.std.specs.Prelude.{◌≡◌, IfOk, IfErr, Ok, Err};
 ghost use Rattle.token_model.specs.declared.kind.Dialect.TheVariants.{Second};
-ghost use Rattle.rb_base.specs.Names.{HasNoTwice};
+ghost use Rattle.rb_base.specs.Names.{HasNoTwice, text_eq};
 ghost use Rattle.chunk_format.specs.Chunks.{IsChunk, piece};
+ghost use Rattle.file_model.specs.Filing.{begun};
+ghost use Rattle.file_model.specs.Places.{placed};
 ghost use Rattle.file_model.specs.Reading.{Takes, ReadsText, IsImageOf, no_image};
 ghost use Rattle.file_faults.specs.Faults.{IsRefused};
 ghost use Rattle.st_kernel.specs.KernelText.{prelude_text};
-ghost use Rattle.file_reading.specs.Filed.{text_image, filed, IsSound};
+ghost use Rattle.file_reading.specs.Filed.{text_image, image_so_far, places_so_far, filed, IsSoundSoFar, IsSound};
 ghost use Rattle.file_reading.specs.Loop.{Tells, RefusesChunk};
 
-use crate::reading::{Reading, Stop};
+use crate::reading::{Progress, Reading, Stop};
 use crate::take::take_chunk;
 use crate::words::names_differ;
 use chunk_format::{Chunk, chunks};
 use file_faults::{ImageFault, no_end, refused};
-use image_draft::Draft;
-use rb_base::Names;
+use file_numbers::places_by_numbers;
+use placed_draft::PlacedDraft;
+use rb_base::{Memory, Names};
 use st_kernel::prelude;
 use std::alloc::Global;
 
 /// Nothing is read yet.
-fn nothing(alloc: Global) -> Reading
-    ensures image { text_image result ≡ no_image }
-    ensures sound { IsSound result }
+fn nothing(alloc: Global) -> Progress
+    ensures image { image_so_far result ≡ no_image }
+    ensures sound { IsSoundSoFar result }
 {
-    Reading {
+    Progress {
         names: Names::new(alloc),
-        draft: Draft::new(alloc),
+        draft: PlacedDraft::new(alloc),
     }
 }
 
 /// Begins another text behind what was read.
-fn begin(reading: Reading) -> Reading
-    requires { IsSound reading }
-    ensures sound { IsSound result }
-    ensures filed { filed result ≡ record { image = text_image reading; run = None; at_head = true } }
+fn begin(reading: Progress) -> Progress
+    requires { IsSoundSoFar reading }
+    ensures sound { IsSoundSoFar result }
+    ensures filed { filed result ≡ begun (image_so_far reading) }
 {
-    let Reading { names, mut draft } = reading;
+    let Progress { names, mut draft } = reading;
     draft.begin_file();
-    Reading { names, draft }
+    Progress { names, draft }
 }
 
 /// Takes a chunk, or tells its refusal with its number.
@@ -46,11 +49,11 @@ fn take_numbered(
     alloc: Global,
     kernel: bool,
     chunk: &Chunk<'_>,
-    reading: Reading,
-) -> Result<Reading, ImageFault>
+    reading: Progress,
+) -> Result<Progress, ImageFault>
     requires chunk { IsChunk (piece chunk.now) }
-    requires sound { IsSound reading }
-    ensures sound { IfOk result IsSound }
+    requires sound { IsSoundSoFar reading }
+    ensures sound { IfOk result IsSoundSoFar }
     ensures taken { IfOk result (λ new. Takes Second kernel (filed reading) (piece chunk.now) (Ok (filed new))) }
     ensures refused { IfErr result (Tells (RefusesChunk kernel (filed reading) (piece chunk.now))) }
 {
@@ -66,12 +69,12 @@ fn read_text(
     alloc: Global,
     kernel: bool,
     text: &[u8],
-    reading: Reading,
-) -> Result<Reading, ImageFault>
-    requires { IsSound reading }
-    ensures sound { IfOk result IsSound }
-    ensures read { IfOk result (λ new. ReadsText Second kernel (text_image reading) text.now (Ok (filed new))) }
-    ensures refused { IfErr result (Tells (λ refusal. ReadsText Second kernel (text_image reading) text.now (Err refusal))) }
+    reading: Progress,
+) -> Result<Progress, ImageFault>
+    requires { IsSoundSoFar reading }
+    ensures sound { IfOk result IsSoundSoFar }
+    ensures read { IfOk result (λ new. ReadsText Second kernel (image_so_far reading) text.now (Ok (filed new))) }
+    ensures refused { IfErr result (Tells (λ refusal. ReadsText Second kernel (image_so_far reading) text.now (Err refusal))) }
 {
     let mut reading = begin(reading);
     let mut left = chunks(text);
@@ -82,6 +85,19 @@ fn read_text(
         }
     }
     Ok(reading)
+}
+
+/// Puts methods and classes at the places that are stated for them and not settled yet. Nothing more is read then.
+fn finish(alloc: Global, reading: Progress) -> Result<Reading, Memory>
+    requires { IsSoundSoFar reading }
+    ensures sound { IfOk result IsSound }
+    ensures image { IfOk result (λ last. text_image last ≡ placed text_eq (places_so_far reading) (image_so_far reading)) }
+{
+    places_by_numbers();
+    let Progress { names, draft } = reading;
+    names_differ(&names);
+    let draft = draft.finish(alloc)?;
+    Ok(Reading { names, draft })
 }
 
 /// Reads a file-out of Smalltalk-80 (Krasner, "The Smalltalk-80 Code File Format", 1983) behind the text of the kernel, and
@@ -99,7 +115,8 @@ pub fn read_draft(alloc: Global, text: &[u8]) -> Result<Reading, ImageFault>
         Ok(kernel) => kernel,
         Err(_) => return Err(ImageFault::Memory),
     };
-    let reading = read_text(alloc, false, text, kernel)?;
+    let progress = read_text(alloc, false, text, kernel)?;
+    let reading = finish(alloc, progress)?;
     names_differ(&reading.names);
     Ok(reading)
 }

@@ -4,6 +4,7 @@ ghost use Rattle.file_reading.specs.declared.reading.Stop.TheVariants as stop;
 
 use file_faults::ImageCause;
 use image_draft::Draft;
+use placed_draft::PlacedDraft;
 use rb_base::{Memory, Names};
 
 /// What was read of a file-out, and the names to which its numbers belong.
@@ -11,6 +12,13 @@ use rb_base::{Memory, Names};
 pub struct Reading {
     pub names: Names,
     pub draft: Draft,
+}
+
+/// How far a file-out was read, and the names to which its numbers belong.
+#[derive(Drop)]
+pub(crate) struct Progress {
+    pub(crate) names: Names,
+    pub(crate) draft: PlacedDraft,
 }
 
 /// Why a chunk was not taken.

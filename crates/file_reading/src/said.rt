@@ -6,13 +6,14 @@ ghost use Rattle.tree_model.specs.Tree.{map_sequence};
 ghost use Rattle.st_tree.specs.View.{sequence_of};
 ghost use Rattle.event_trees.specs.Naming.{Grows};
 ghost use Rattle.image_model.specs.ImageNames.{OptionNames};
-ghost use Rattle.file_model.specs.Changes.{map_definition};
+ghost use Rattle.file_model.specs.Changes.{map_definition, map_run};
 ghost use Rattle.file_model.specs.Changes as model;
 ghost use Rattle.file_model.specs.Forms as forms;
 ghost use Rattle.file_model.specs.Words.{words_of};
 ghost use Rattle.file_numbers.specs.ChangeNames.{DefinitionNames};
+ghost use Rattle.chunk_forms.specs.Told.{definition_text};
 ghost use Rattle.file_reading.specs.Filed.{IsNumberIn};
-ghost use Rattle.file_reading.specs.Said.{definition_text, said_text, SaidNames};
+ghost use Rattle.file_reading.specs.Said.{said_text, SaidNames};
 
 use crate::words::{intern, intern_words, known};
 use chunk_forms::{ChunkForm, ClassDefinition, chunk_form};
@@ -28,8 +29,14 @@ pub(crate) enum Said {
     Evaluates,
     /// It changes classes or methods.
     Changes(Change),
+    /// It defines a class, and a place is stated for it.
+    DefinesAt(Definition, usize),
     /// Methods follow.
     Opens(Run),
+    /// Methods follow, and a place is stated for the first of them.
+    OpensAt(Run, usize),
+    /// Methods and classes go to the places that were stated for them.
+    Settles,
     /// It defines a class with pool dictionaries.
     HasPools,
     /// It is a message by which file-outs define and remove, but in no form that has a meaning.
@@ -86,6 +93,21 @@ fn defines(
     Ok(Said::Changes(Change::Define(definition)))
 }
 
+/// A class is defined, and a place is stated for it.
+fn defines_at(
+    alloc: Global,
+    definition: &ClassDefinition<'_>,
+    place: usize,
+    names: &mut Names,
+) -> Result<Said, Memory>
+    ensures text { IfOk result (λ s. said_text names.new s ≡ forms.Changes (model.DefineAt (definition_text names.old definition.now) place)) }
+    ensures known { IfOk result (SaidNames (IsNumberIn names.new)) }
+    ensures grows { Grows names.old names.new }
+{
+    let definition = definition_of(alloc, definition, names)?;
+    Ok(Said::DefinesAt(definition, place))
+}
+
 /// A class has a comment.
 fn comments(alloc: Global, class: NameId, text: &[u8], names: &mut Names) -> Result<Said, Memory>
     ensures text { IfOk result (λ s. said_text names.new s ≡ forms.Changes (model.Comment (name_at names.old class) text.now)) }
@@ -116,6 +138,27 @@ fn sets_class_side(
     }))
 }
 
+/// A run of methods of a class, a side and a protocol.
+fn run_of(
+    alloc: Global,
+    class: NameId,
+    meta: bool,
+    protocol: &[u8],
+    names: &mut Names,
+) -> Result<Run, Memory>
+    ensures text { IfOk result (λ r. map_run (name_at names.new) r ≡ record { class = name_at names.old class; meta = meta; protocol = protocol.now }) }
+    ensures known { IfOk result (λ r. IsNumberIn names.new r.class) }
+    ensures grows { Grows names.old names.new }
+{
+    let protocol = Text::from_slice(alloc, protocol)?;
+    let class = known(names, class)?;
+    Ok(Run {
+        class,
+        meta,
+        protocol,
+    })
+}
+
 /// Methods of a class, a side and a protocol follow.
 fn opens(
     alloc: Global,
@@ -128,13 +171,25 @@ fn opens(
     ensures known { IfOk result (SaidNames (IsNumberIn names.new)) }
     ensures grows { Grows names.old names.new }
 {
-    let protocol = Text::from_slice(alloc, protocol)?;
-    let class = known(names, class)?;
-    Ok(Said::Opens(Run {
-        class,
-        meta,
-        protocol,
-    }))
+    let run = run_of(alloc, class, meta, protocol, names)?;
+    Ok(Said::Opens(run))
+}
+
+/// The same, and a place is stated for the first of them.
+fn opens_at(
+    alloc: Global,
+    class: NameId,
+    meta: bool,
+    protocol: &[u8],
+    place: usize,
+    names: &mut Names,
+) -> Result<Said, Memory>
+    ensures text { IfOk result (λ s. said_text names.new s ≡ forms.OpensAt (record { class = name_at names.old class; meta = meta; protocol = protocol.now }) place) }
+    ensures known { IfOk result (SaidNames (IsNumberIn names.new)) }
+    ensures grows { Grows names.old names.new }
+{
+    let run = run_of(alloc, class, meta, protocol, names)?;
+    Ok(Said::OpensAt(run, place))
 }
 
 /// A method is removed.
@@ -182,6 +237,7 @@ pub(crate) fn said_in(
     match &form {
         ChunkForm::Evaluates => Ok(Said::Evaluates),
         ChunkForm::Defines(definition) => defines(alloc, definition, names),
+        ChunkForm::DefinesAt { definition, place } => defines_at(alloc, definition, *place, names),
         ChunkForm::Comments { class, text } => comments(alloc, *class, text, names),
         ChunkForm::SetsClassSide {
             class,
@@ -192,6 +248,13 @@ pub(crate) fn said_in(
             meta,
             protocol,
         } => opens(alloc, *class, *meta, protocol, names),
+        ChunkForm::OpensAt {
+            class,
+            meta,
+            protocol,
+            place,
+        } => opens_at(alloc, *class, *meta, protocol, *place, names),
+        ChunkForm::Settles => Ok(Said::Settles),
         ChunkForm::RemovesMethod {
             class,
             meta,

@@ -6,88 +6,118 @@ ghost use Rattle.token_model.specs.declared.kind.Dialect.TheVariants.{Second};
 ghost use Rattle.tree_model.specs.Tree.{map_method, map_sequence};
 ghost use Rattle.tree_model.specs.AllNames.{SequenceNames, MethodNames};
 ghost use Rattle.st_tree.specs.View.{sequence_of, method_of};
-ghost use Rattle.st_faults.specs.Faults.{fault_of};
-ghost use Rattle.grammar_model.specs.Checks.{Fault};
+ghost use Rattle.grammar_model.specs.Spelling.{SpellsDoIt};
 ghost use Rattle.chunk_format.specs.Chunks.{IsChunk, piece};
 ghost use Rattle.file_model.specs.Causes.{unless};
-ghost use Rattle.file_model.specs.Changes.{RunOf, map_change, map_run};
+ghost use Rattle.file_model.specs.Changes.{RunOf, DefineAt, map_change, map_run};
+ghost use Rattle.file_model.specs.Places.{no_places, opened_at, places_behind, placed};
 ghost use Rattle.file_model.specs.Refusals.{run_refusals};
 ghost use Rattle.file_model.specs.Applied.{changed, method_added};
 ghost use Rattle.file_model.specs.Forms.{form_of};
 ghost use Rattle.file_model.specs.Filing.{form_taken, with_doit, goes_on};
 ghost use Rattle.file_model.specs.Reading.{Takes};
 ghost use Rattle.file_numbers.specs.ChangeNames.{ChangeNames};
-ghost use Rattle.file_faults.specs.declared.fault.ImageCause.TheVariants as cause;
 ghost use Rattle.image_draft.specs.Drafted.{change_of};
-ghost use Rattle.file_reading.specs.Filed.{text_image, filed, IsSound, IsNumberIn, text_doit};
+ghost use Rattle.file_reading.specs.Filed.{image_so_far, places_so_far, filed, run_in, IsSoundSoFar, IsNumberIn, text_doit};
 ghost use Rattle.file_reading.specs.Said.{said_text, SaidNames};
-ghost use Rattle.file_reading.specs.Answers.{Answers, TakesSource};
-ghost use Rattle.file_reading.specs.declared.reading.Stop.TheVariants as stop;
+ghost use Rattle.file_reading.specs.Answers.{Answers, TakesSource, change_taken};
 
-use crate::reading::{Reading, Stop};
+use crate::faults::stop_of;
+use crate::reading::{Progress, Stop};
+use crate::replace::replace;
 use crate::said::{Said, said_in};
 use crate::words::names_differ;
 use chunk_format::{Chunk, source_in};
+use chunk_forms::replacement_in;
 use class_table::DoIt;
 use file_faults::ImageCause;
-use file_numbers::{changes_by_numbers, methods_by_numbers};
-use image_draft::{Change, Run};
+use file_numbers::{changes_by_numbers, methods_by_numbers, places_by_numbers};
+use image_draft::{Change, Definition, Run};
 use rb_base::Text;
-use st_parser::{ParseFault, parse_doit, parse_method};
+use st_parser::{parse_doit, parse_method};
 use st_tree::{Method, Sequence};
 use std::alloc::Global;
 
-/// Why a chunk is not taken whose source has a fault of the grammar, or for whose tree memory is wanting.
-fn stop_of(fault: ParseFault) -> Stop
-    ensures told { (f : Fault) → fault_of fault ≡ Some f → result ≡ stop.Refused (cause.Syntax fault) }
-    ensures memory { fault_of fault ≡ None → result ≡ stop.Memory }
-{
-    match fault {
-        ParseFault::Memory => Stop::Memory,
-        _ => Stop::Refused(ImageCause::Syntax(fault)),
-    }
-}
-
 /// Makes a change, which ends a run of methods.
-fn make(alloc: Global, kernel: bool, change: Change, reading: Reading) -> Result<Reading, Stop>
-    requires sound { IsSound reading }
+fn make(alloc: Global, kernel: bool, change: Change, reading: Progress) -> Result<Progress, Stop>
+    requires sound { IsSoundSoFar reading }
     requires known { ChangeNames (IsNumberIn reading.names) (change_of change) }
-    ensures { Answers (λ r. r ≡ result_map_both (goes_on None) (λ e. e) (changed text_eq kernel (map_change (name_at reading.names) (change_of change)) (text_image reading))) result }
+    ensures { Answers (λ r. r ≡ change_taken kernel (filed reading) (map_change (name_at reading.names) (change_of change))) result }
 {
     changes_by_numbers();
-    let Reading { names, mut draft } = reading;
+    places_by_numbers();
+    let Progress { names, mut draft } = reading;
     names_differ(&names);
     match draft.change(alloc, kernel, change)? {
-        None => Ok(Reading { names, draft }),
+        None => Ok(Progress { names, draft }),
         Some(cause) => Err(Stop::Refused(cause)),
     }
 }
 
-/// Begins a run of methods.
-fn open(run: Run, reading: Reading) -> Result<Reading, Stop>
-    requires sound { IsSound reading }
-    requires known { IsNumberIn reading.names run.class }
-    ensures { Answers (λ r. r ≡ unless (run_refusals text_eq (text_image reading).classes (map_run (name_at reading.names) run)) (goes_on (Some (map_run (name_at reading.names) run)) (text_image reading))) result }
+/// Defines a class and states a place for it, which ends a run of methods.
+fn define_at(
+    alloc: Global,
+    kernel: bool,
+    definition: Definition,
+    place: usize,
+    reading: Progress,
+) -> Result<Progress, Stop>
+    requires sound { IsSoundSoFar reading }
+    requires known { ChangeNames (IsNumberIn reading.names) (DefineAt definition place) }
+    ensures { Answers (λ r. r ≡ change_taken kernel (filed reading) (map_change (name_at reading.names) (DefineAt definition place))) result }
 {
-    methods_by_numbers();
-    let Reading { names, mut draft } = reading;
+    changes_by_numbers();
+    places_by_numbers();
+    let Progress { names, mut draft } = reading;
     names_differ(&names);
-    match draft.open(run) {
-        None => Ok(Reading { names, draft }),
+    match draft.define_at(alloc, kernel, definition, place)? {
+        None => Ok(Progress { names, draft }),
         Some(cause) => Err(Stop::Refused(cause)),
     }
+}
+
+/// Begins a run of methods. A place may be stated for the first of them.
+fn open(run: Run, place: Option<usize>, reading: Progress) -> Result<Progress, Stop>
+    requires sound { IsSoundSoFar reading }
+    requires known { IsNumberIn reading.names run.class }
+    ensures { Answers (λ r. r ≡ unless (run_refusals text_eq (image_so_far reading).classes (map_run (name_at reading.names) run)) (goes_on (opened_at place (places_so_far reading)) (Some (map_run (name_at reading.names) run)) (image_so_far reading))) result }
+{
+    methods_by_numbers();
+    let Progress { names, mut draft } = reading;
+    names_differ(&names);
+    match draft.open(run, place) {
+        None => Ok(Progress { names, draft }),
+        Some(cause) => Err(Stop::Refused(cause)),
+    }
+}
+
+/// Puts methods and classes at the places that were stated for them.
+fn settle(alloc: Global, reading: Progress) -> Result<Progress, Stop>
+    requires { IsSoundSoFar reading }
+    ensures { Answers (λ r. r ≡ Ok (goes_on no_places None (placed text_eq (places_so_far reading) (image_so_far reading)))) result }
+{
+    places_by_numbers();
+    let Progress { names, mut draft } = reading;
+    names_differ(&names);
+    draft.settle(alloc)?;
+    Ok(Progress { names, draft })
 }
 
 /// Puts a do-it at the end.
-fn add_doit(alloc: Global, source: &[u8], body: Sequence, reading: Reading) -> Result<Reading, Stop>
-    requires sound { IsSound reading }
+fn add_doit(
+    alloc: Global,
+    source: &[u8],
+    body: Sequence,
+    reading: Progress,
+) -> Result<Progress, Stop>
+    requires sound { IsSoundSoFar reading }
     requires known { SequenceNames (IsNumberIn reading.names) (sequence_of body) }
     ensures { Answers (λ r. r ≡ Ok (with_doit (filed reading) (text_doit reading.names source.now body))) result }
 {
-    let Reading { names, mut draft } = reading;
+    let Progress { names, mut draft } = reading;
     let source = Text::from_slice(alloc, source)?;
     draft.add_doit(DoIt { source, body })?;
-    Ok(Reading { names, draft })
+    Ok(Progress { names, draft })
 }
 
 /// Makes what a chunk outside a run of methods says.
@@ -97,9 +127,9 @@ fn take_said(
     source: &[u8],
     body: Sequence,
     said: Said,
-    reading: Reading,
-) -> Result<Reading, Stop>
-    requires sound { IsSound reading }
+    reading: Progress,
+) -> Result<Progress, Stop>
+    requires sound { IsSoundSoFar reading }
     requires known { SequenceNames (IsNumberIn reading.names) (sequence_of body) }
     requires said_known { SaidNames (IsNumberIn reading.names) said }
     ensures { Answers (λ r. r ≡ form_taken kernel (filed reading) (text_doit reading.names source.now body) (said_text reading.names said)) result }
@@ -107,7 +137,10 @@ fn take_said(
     match said {
         Said::Evaluates => add_doit(alloc, source, body, reading),
         Said::Changes(change) => make(alloc, kernel, change, reading),
-        Said::Opens(run) => open(run, reading),
+        Said::DefinesAt(definition, place) => define_at(alloc, kernel, definition, place, reading),
+        Said::Opens(run) => open(run, None, reading),
+        Said::OpensAt(run, place) => open(run, Some(place), reading),
+        Said::Settles => settle(alloc, reading),
         Said::HasPools => Err(Stop::Refused(ImageCause::PoolsNotEmpty)),
         Said::IsUnknown => Err(Stop::Refused(ImageCause::UnknownDefinition)),
     }
@@ -119,27 +152,53 @@ fn take_body(
     kernel: bool,
     source: &[u8],
     body: Sequence,
-    reading: Reading,
-) -> Result<Reading, Stop>
-    requires sound { IsSound reading }
+    reading: Progress,
+) -> Result<Progress, Stop>
+    requires sound { IsSoundSoFar reading }
     requires known { SequenceNames (IsNumberIn reading.names) (sequence_of body) }
     ensures { Answers (λ r. r ≡ form_taken kernel (filed reading) (text_doit reading.names source.now body) (form_of Second kernel (map_sequence (name_at reading.names) (sequence_of body)))) result }
 {
-    let Reading { mut names, draft } = reading;
+    let Progress { mut names, draft } = reading;
     let said = said_in(alloc, kernel, &body, &mut names)?;
-    take_said(alloc, kernel, source, body, said, Reading { names, draft })
+    take_said(alloc, kernel, source, body, said, Progress { names, draft })
+}
+
+/// Takes a chunk outside a run of methods whose source spells a do-it, by what it says or by the do-it that it replaces.
+fn take_spelled(
+    alloc: Global,
+    kernel: bool,
+    source: &[u8],
+    body: Sequence,
+    reading: Progress,
+) -> Result<Progress, Stop>
+    requires sound { IsSoundSoFar reading }
+    requires outside { run_in reading.draft ≡ None }
+    requires some { 0 < length source.now }
+    requires known { SequenceNames (IsNumberIn reading.names) (sequence_of body) }
+    requires spelled { SpellsDoIt Second source.now (map_sequence (name_at reading.names) (sequence_of body)) }
+    ensures { Answers (TakesSource kernel (filed reading) source.now) result }
+{
+    match replacement_in(&body, &reading.names) {
+        Some(replacement) => replace(alloc, kernel, &replacement, reading),
+        None => take_body(alloc, kernel, source, body, reading),
+    }
 }
 
 /// Takes a chunk outside a run of methods, by its source.
-fn take_doit(alloc: Global, kernel: bool, source: &[u8], reading: Reading) -> Result<Reading, Stop>
-    requires sound { IsSound reading }
-    requires outside { reading.draft.run ≡ None }
+fn take_doit(
+    alloc: Global,
+    kernel: bool,
+    source: &[u8],
+    reading: Progress,
+) -> Result<Progress, Stop>
+    requires sound { IsSoundSoFar reading }
+    requires outside { run_in reading.draft ≡ None }
     requires some { 0 < length source.now }
     ensures { Answers (TakesSource kernel (filed reading) source.now) result }
 {
-    let Reading { mut names, draft } = reading;
+    let Progress { mut names, draft } = reading;
     match parse_doit(alloc, source, &mut names) {
-        Ok(body) => take_body(alloc, kernel, source, body, Reading { names, draft }),
+        Ok(body) => take_spelled(alloc, kernel, source, body, Progress { names, draft }),
         Err(fault) => Err(stop_of(fault)),
     }
 }
@@ -150,18 +209,19 @@ fn put_method(
     kernel: bool,
     source: &[u8],
     tree: Method,
-    reading: Reading,
-) -> Result<Reading, Stop>
-    requires sound { IsSound reading }
+    reading: Progress,
+) -> Result<Progress, Stop>
+    requires sound { IsSoundSoFar reading }
     requires known { MethodNames (IsNumberIn reading.names) (method_of tree) }
-    ensures { (run : RunOf ℕ) → reading.draft.run ≡ Some run → Answers (λ r. r ≡ result_map_both (goes_on (Some (map_run (name_at reading.names) run))) (λ e. e) (method_added text_eq kernel (map_run (name_at reading.names) run) source.now (map_method (name_at reading.names) (method_of tree)) (text_image reading))) result }
+    ensures { (run : RunOf ℕ) → run_in reading.draft ≡ Some run → Answers (λ r. r ≡ result_map_both (goes_on (places_behind (name_at reading.names run.class) run.meta (name_at reading.names (method_of tree).selector) (places_so_far reading)) (Some (map_run (name_at reading.names) run))) (λ e. e) (method_added text_eq kernel (map_run (name_at reading.names) run) source.now (map_method (name_at reading.names) (method_of tree)) (image_so_far reading))) result }
 {
     methods_by_numbers();
-    let Reading { names, mut draft } = reading;
+    places_by_numbers();
+    let Progress { names, mut draft } = reading;
     names_differ(&names);
     let source = Text::from_slice(alloc, source)?;
     match draft.add_method(alloc, kernel, source, tree)? {
-        None => Ok(Reading { names, draft }),
+        None => Ok(Progress { names, draft }),
         Some(cause) => Err(Stop::Refused(cause)),
     }
 }
@@ -171,29 +231,29 @@ fn take_method(
     alloc: Global,
     kernel: bool,
     source: &[u8],
-    reading: Reading,
-) -> Result<Reading, Stop>
-    requires sound { IsSound reading }
-    requires inside { IsSome reading.draft.run }
+    reading: Progress,
+) -> Result<Progress, Stop>
+    requires sound { IsSoundSoFar reading }
+    requires inside { IsSome (run_in reading.draft) }
     requires some { 0 < length source.now }
     ensures { Answers (TakesSource kernel (filed reading) source.now) result }
 {
-    let Reading { mut names, draft } = reading;
+    let Progress { mut names, draft } = reading;
     match parse_method(alloc, source, kernel, &mut names) {
-        Ok(tree) => put_method(alloc, kernel, source, tree, Reading { names, draft }),
+        Ok(tree) => put_method(alloc, kernel, source, tree, Progress { names, draft }),
         Err(fault) => Err(stop_of(fault)),
     }
 }
 
 /// Takes a blank chunk, which ends a run of methods.
-fn take_blank(reading: Reading) -> Reading
-    requires { IsSound reading }
-    ensures sound { IsSound result }
+fn take_blank(reading: Progress) -> Progress
+    requires { IsSoundSoFar reading }
+    ensures sound { IsSoundSoFar result }
     ensures blank { filed result ≡ record (filed reading) { run = None } }
 {
-    let Reading { names, mut draft } = reading;
+    let Progress { names, mut draft } = reading;
     draft.end_run();
-    Reading { names, draft }
+    Progress { names, draft }
 }
 
 /// Takes a chunk by its source.
@@ -201,9 +261,9 @@ fn take_source(
     alloc: Global,
     kernel: bool,
     source: &[u8],
-    reading: Reading,
-) -> Result<Reading, Stop>
-    requires { IsSound reading }
+    reading: Progress,
+) -> Result<Progress, Stop>
+    requires { IsSoundSoFar reading }
     ensures { Answers (TakesSource kernel (filed reading) source.now) result }
 {
     if source.is_empty() {
@@ -220,10 +280,10 @@ pub(crate) fn take_chunk(
     alloc: Global,
     kernel: bool,
     chunk: &Chunk<'_>,
-    reading: Reading,
-) -> Result<Reading, Stop>
+    reading: Progress,
+) -> Result<Progress, Stop>
     requires chunk { IsChunk (piece chunk.now) }
-    requires sound { IsSound reading }
+    requires sound { IsSoundSoFar reading }
     ensures { Answers (Takes Second kernel (filed reading) (piece chunk.now)) result }
 {
     let mut room = Text::new(alloc);

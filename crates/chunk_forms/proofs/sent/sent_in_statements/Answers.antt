@@ -1,4 +1,4 @@
-use Rattle.std.proofs.Common.{◌∙◌, sym}
+use Rattle.std.proofs.Common.{sym}
 use Rattle.rb_base.specs.Names.{name_at}
 use Rattle.chunk_forms.proofs.Strings.{no_one_statement}
 use Rattle.chunk_forms.proofs.sent.sent_in_statements.Goals as goal

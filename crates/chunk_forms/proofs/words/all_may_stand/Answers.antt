@@ -1,4 +1,4 @@
-use Rattle.std.proofs.Common.{◌≡◌, ◌∙◌, sym, ap, ℕ, Bool, List, length}
+use Rattle.std.proofs.Common.{◌∙◌, sym, ap, ℕ, Bool, List, length}
 use Rattle.std.specs.Prelude.{◌==◌, ◌||◌, ◌&&◌}
 use Rattle.std.specs.List.{list_all, slice_split}
 use Rattle.chunk_format.specs.Blank.{is_blank}

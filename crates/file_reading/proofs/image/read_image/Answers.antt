@@ -7,7 +7,6 @@ use Rattle.image_model.specs.Image.{ImageOf, map_image}
 use Rattle.class_table.specs.View.{number_image}
 use Rattle.file_model.specs.Reading.{IsImageOf}
 use Rattle.file_faults.specs.Faults.{WantsMemory}
-use Rattle.image_draft.specs.Drafted.{image_of}
 use Rattle.file_reading.proofs.image.read_image.Goals as goal
 
 pub returns-clause-ok : goal.returns-clause-ok

@@ -11,6 +11,6 @@ returns c =
     let names = c.args.reading.names in
     let later = c.add_doit.new.self in
     let added = was_added names c.args.reading.draft c.requires.sound (record { source = c.in_ok-source.source; body = sequence_of c.args.body }) later c.requires.known
-    c.in_ok-add_doit.ensures.image c.in_ok-add_doit.ensures.run c.in_ok-add_doit.ensures.head c.in_ok-add_doit.ensures.whole in
+    c.in_ok-add_doit.ensures.image c.in_ok-add_doit.ensures.run c.in_ok-add_doit.ensures.head c.in_ok-add_doit.ensures.places c.in_ok-add_doit.ensures.whole in
     let sourced : Text → Result Filing Cause = λ (s : Text). Ok (with_doit (filed c.args.reading) (text_doit names s c.args.body)) in
     (added.0, added.1 ∙ ap sourced c.in_ok-source.ensures)

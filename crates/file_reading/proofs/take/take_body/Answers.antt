@@ -7,12 +7,12 @@ use Rattle.file_model.specs.Forms.{form_of}
 use Rattle.file_model.specs.Filing.{form_taken}
 use Rattle.file_reading.specs.Filed.{filed, text_doit}
 use Rattle.file_reading.specs.Said.{said_text}
-use Rattle.file_reading.proofs.Growing.{filed-grown, IsSound-grown, sequence-grown, sequence_numbers-grown}
+use Rattle.file_reading.proofs.Growing.{filed-grown, IsSoundSoFar-grown, sequence-grown, sequence_numbers-grown}
 use Rattle.file_reading.proofs.Taking.{Answers-weaker, with_draft}
 use Rattle.file_reading.proofs.take.take_body.Goals as goal
 
 pub take_said-requires-clause-sound : goal.take_said-requires-clause-sound
-take_said-requires-clause-sound c = IsSound-grown c.args.reading c.said_in.new.names c.in_ok-said.ensures.grows c.requires.sound
+take_said-requires-clause-sound c = IsSoundSoFar-grown c.args.reading c.said_in.new.names c.in_ok-said.ensures.grows c.requires.sound
 
 pub take_said-requires-clause-known : goal.take_said-requires-clause-known
 take_said-requires-clause-known c = sequence_numbers-grown c.in_ok-said.ensures.grows (sequence_of c.args.body) c.requires.known

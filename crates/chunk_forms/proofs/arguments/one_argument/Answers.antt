@@ -1,6 +1,6 @@
-use Rattle.std.proofs.Common.{◌∙◌, sym}
+use Rattle.std.proofs.Common.{sym}
 use Rattle.chunk_forms.proofs.Strings.{no_one_argument}
-use Rattle.chunk_forms.proofs.sent.one_argument.Goals as goal
+use Rattle.chunk_forms.proofs.arguments.one_argument.Goals as goal
 
 pub returns-else-is_empty : goal.returns-else-is_empty
 returns-else-is_empty c =
