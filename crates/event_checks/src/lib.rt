@@ -7,7 +7,5 @@ mod check;
 mod duplicates;
 mod heights;
 mod scopes;
-#[cfg(test)]
-mod tests;
 
 pub use check::check_tree;

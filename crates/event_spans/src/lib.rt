@@ -7,8 +7,6 @@ mod laws;
 mod place;
 mod runs;
 mod search;
-#[cfg(test)]
-mod tests;
 
 pub use laws::law_spans;
 pub use place::{Place, Places};

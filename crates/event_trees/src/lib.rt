@@ -6,7 +6,5 @@ mod last;
 mod naming;
 mod sequences;
 mod stacks;
-#[cfg(test)]
-mod tests;
 
 pub use sequences::{build_doit, build_method};

@@ -5,6 +5,7 @@ use std::alloc::Global;
 use std::process::Abort;
 use std::test::Fail;
 
+mod places;
 mod texts;
 
 /// Compares the answer to `format I` with this file.
@@ -56,6 +57,34 @@ fn file_outs_are_refused(rt: HostRuntime) -> Result<(), Fail> {
     answers(&rt, alloc, 3, &texts::refused_one())?;
     answers(&rt, alloc, 3, &texts::refused_two())?;
     answers(&rt, alloc, 3, &texts::refused_three())?;
+    Ok(())
+}
+
+#[test]
+fn classes_and_methods_go_to_their_places(rt: HostRuntime) -> Result<(), Fail> {
+    let alloc = rt.alloc();
+    answers(&rt, alloc, 0, &places::placed_one())?;
+    answers(&rt, alloc, 0, &places::placed_two())?;
+    answers(&rt, alloc, 0, &places::settled())?;
+    answers(&rt, alloc, 0, &places::ordered())?;
+    answers(&rt, alloc, 0, &places::placed_methods())?;
+    Ok(())
+}
+
+#[test]
+fn do_its_are_replaced(rt: HostRuntime) -> Result<(), Fail> {
+    let alloc = rt.alloc();
+    answers(&rt, alloc, 0, &places::replaced())?;
+    answers(&rt, alloc, 0, &places::nearly_placed())?;
+    Ok(())
+}
+
+#[test]
+fn places_and_replacements_are_refused(rt: HostRuntime) -> Result<(), Fail> {
+    let alloc = rt.alloc();
+    answers(&rt, alloc, 3, &places::refused_whole())?;
+    answers(&rt, alloc, 3, &places::refused_small())?;
+    answers(&rt, alloc, 3, &places::refused_unordered())?;
     Ok(())
 }
 

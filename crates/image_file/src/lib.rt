@@ -7,8 +7,6 @@ mod file_text;
 mod laws;
 mod method_texts;
 mod strings;
-#[cfg(test)]
-mod tests;
 
 pub use file_text::write_image;
 pub use laws::writes_orderly_images;

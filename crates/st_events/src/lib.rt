@@ -15,8 +15,6 @@ mod reader;
 mod reading;
 mod sequences;
 mod takes;
-#[cfg(test)]
-mod tests;
 mod texts;
 mod token;
 mod tokens;
