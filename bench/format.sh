@@ -28,13 +28,42 @@ awk 'BEGIN {
     for (n = 0; n < 100000; n++) printf "m%d ^%d!\n", n, n
     printf " !\n"
 }' > "$folder/methods.st"
+# Classes that are defined twice. The first word is how they are defined for the first time, the second one how they are
+# defined again: in chains of 100, below Object, as one chain in which each is below the one before it, or below the one
+# behind it; the third word is what is new the second time.
+classes() {
+    awk -v first="$1" -v second="$2" -v fresh="$3" '
+    function above(shape, n) {
+        if (shape == "chains") return n % 100 == 0 ? "Object" : "C" (n - 1)
+        if (shape == "chain") return n == 0 ? "Object" : "C" (n - 1)
+        if (shape == "behind") return n == 9899 ? "Object" : "C" (n + 1)
+        return "Object"
+    }
+    function defines(shape, n, variable, more) {
+        printf "%s subclass: #C%d instanceVariableNames: '"'%s'"' classVariableNames: '"''"' poolDictionaries: '"''"' category: '"''"'%s!\n", above(shape, n), n, variable, more
+    }
+    BEGIN {
+        for (n = 0; n < 9900; n++) defines(first, n, fresh == "variable" || fresh == "variables" ? "v" n : "", "")
+        if (second == "behind") for (n = 9899; n >= 0; n--) defines(second, n, "", "")
+        else if (second != "none") for (n = 0; n < 9900; n++)
+            defines(second, n, fresh == "variable" ? "w" n : "", fresh == "place" ? " at: " (9900 - n) : fresh == "mixed" && n % 2 ? " at: 1" : "")
+    }'
+}
+classes chains chains none > "$folder/same.st"
+classes chains object none > "$folder/lower.st"
+classes chains chains variable > "$folder/variable.st"
+classes chain none variables > "$folder/deep.st"
+classes chain chain variable > "$folder/deeper.st"
+classes object chain none > "$folder/chain.st"
+classes object behind none > "$folder/behind.st"
+classes object object place > "$folder/placed.st"
+classes chains chains mixed > "$folder/mixed.st"
 awk 'BEGIN {
-    for (round = 0; round < 2; round++)
-        for (n = 0; n < 9900; n++)
-            printf "%s subclass: #C%d instanceVariableNames: '"''"' classVariableNames: '"''"' poolDictionaries: '"''"' category: '"'c%d'"'!\n", (n % 100 == 0 ? "Object" : "C" (n - 1)), n, round
-}' > "$folder/classes.st"
+    printf "Object subclass: #A instanceVariableNames: '"''"' classVariableNames: '"''"' poolDictionaries: '"''"' category: '"''"'!\n"
+    for (n = 80000; n > 0; n--) printf "!A methodsFor: '"''"' at: %d!m%d ^1! !\n", n, n
+}' > "$folder/places.st"
 
-for name in ordinary blanks marks comment method methods classes; do
+for name in ordinary blanks marks comment method methods same lower variable deep deeper chain behind placed mixed places; do
     file=$folder/$name.st
     status=0
     /usr/bin/env time -f '%U %S %M' -o "$folder/times" "$program" format "$file" > "$folder/out" || status=$?
