@@ -15,9 +15,10 @@ mod RunsMapped
 mod Agreeing
 mod Widened
 mod MatchedByMaps
+pub mod NodesBelow
 mod ChangedLemmas
 mod NamesFound
 mod OwnResolved
-mod NamesOfImagesHold
+pub mod NamesOfImagesHold
 mod ChangedImageLemmas
-mod RenamedVariableLemmas
+pub mod RenamedVariableLemmas

@@ -84,7 +84,7 @@ module _ (i : ImageOf Name) where
 
   module _ (ordered : HasOrderedClasses i) where
     -- a class is the one of its name
-    named-found : (cs : List (ClassOf Name)) → HasNoRepeat (class_names cs) → (j : ℕ) (c : ClassOf Name) → slice_get cs j ≡ Some c → find (λ (b : ClassOf Name). text_eq c.name b.name) cs ≡ Some c
+    pub named-found : (cs : List (ClassOf Name)) → HasNoRepeat (class_names cs) → (j : ℕ) (c : ClassOf Name) → slice_get cs j ≡ Some c → find (λ (b : ClassOf Name). text_eq c.name b.name) cs ≡ Some c
     named-found [] once j c e = absurd (nothing-there c e)
     named-found (b ∷ cs) once zero c e =
         let same : b ≡ c = cc in

@@ -25,7 +25,7 @@ use Rattle.mapped_model.proofs.MatchedByMaps.{matched-mapped}
 use Rattle.mapped_model.proofs.ChangedImageLemmas.{image-changed}
 
 -- a fact of each item, at its place
-all-at : {X : Type 0} (P : X → Type 0) (xs : List X) (j : ℕ) (x : X) → AllByRecursion P xs → slice_get xs j ≡ Some x → P x
+pub all-at : {X : Type 0} (P : X → Type 0) (xs : List X) (j : ℕ) (x : X) → AllByRecursion P xs → slice_get xs j ≡ Some x → P x
 all-at P [] j x a e = absurd (nothing e)
   where
     nothing : None ≡ Some x → ⊥
@@ -34,7 +34,7 @@ all-at P (y ∷ ys) zero x a e = let same : y ≡ x = cc in subst P same a.0
 all-at P (y ∷ ys) (suc j) x a e = all-at P ys j x a.1 e
 
 -- a fact of the item at each place
-at-all : {X : Type 0} (P : X → Type 0) (xs : List X) → ((j : ℕ) (x : X) → slice_get xs j ≡ Some x → P x) → AllByRecursion P xs
+pub at-all : {X : Type 0} (P : X → Type 0) (xs : List X) → ((j : ℕ) (x : X) → slice_get xs j ≡ Some x → P x) → AllByRecursion P xs
 at-all P [] h = tt
 at-all P (x ∷ xs) h = (h 0 x refl, at-all P xs (λ j y e. h (suc j) y e))
 

@@ -1,0 +1,3 @@
+mod KnownNames
+mod AssignedNames
+mod ScopesFree

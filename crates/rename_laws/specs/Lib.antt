@@ -1,0 +1,3 @@
+pub mod BehindKernel
+pub mod OneRenamed
+pub mod VariablesOnce
