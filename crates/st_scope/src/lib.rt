@@ -16,3 +16,4 @@ pub use control::is_control;
 pub use free::{free_names, free_names_doit};
 pub use local::{local_at, local_at_doit};
 pub use scope_model::Local;
+pub use special::is_pseudo;

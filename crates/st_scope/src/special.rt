@@ -67,8 +67,8 @@ fn form_of_text(text: &[u8]) -> ControlForm
     }
 }
 
-/// Whether the name is a pseudo-variable's.
-pub(crate) fn is_pseudo(names: &Names, name: NameId) -> bool
+/// Whether the name is a pseudo-variable's. A number without a text is not.
+pub fn is_pseudo(names: &Names, name: NameId) -> bool
     ensures { result ≡ is_pseudo_in names.now name }
 {
     is_pseudo_text(text_of(names, name))

@@ -1,0 +1,4 @@
+pub mod Walks
+pub mod Numbers
+pub mod DoItClass
+pub mod Globals

@@ -1,0 +1,9 @@
+//! What names stand for at a place in a method or a do-it of an image of Smalltalk-80 (Goldberg and Robson 1983).
+#![tactic(auto)]
+
+mod behind;
+mod meaning;
+mod place;
+
+pub use meaning::{Meaning, VariableKind};
+pub use place::{doit_meaning, method_meaning};
