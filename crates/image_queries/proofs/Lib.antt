@@ -1,0 +1,11 @@
+pub mod Unmarked
+pub mod Lists
+pub mod Split
+pub mod KnownNames
+pub mod Fitting
+pub mod Tests
+pub mod Places
+pub mod Lined
+pub mod Wholes
+pub mod Texts
+pub mod Records

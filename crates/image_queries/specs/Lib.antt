@@ -1,0 +1,4 @@
+pub mod Spelled
+pub mod Asked
+pub mod Marks
+pub mod Parts
