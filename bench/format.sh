@@ -30,7 +30,7 @@ awk 'BEGIN {
 }' > "$folder/methods.st"
 # Classes that are defined twice. The first word is how they are defined for the first time, the second one how they are
 # defined again: in chains of 100, below Object, as one chain in which each is below the one before it, or below the one
-# behind it; the third word is what is new the second time.
+# behind it; the third word is what is new the second time, or `one` where each class has a variable of one name at first.
 classes() {
     awk -v first="$1" -v second="$2" -v fresh="$3" '
     function above(shape, n) {
@@ -43,7 +43,7 @@ classes() {
         printf "%s subclass: #C%d instanceVariableNames: '"'%s'"' classVariableNames: '"''"' poolDictionaries: '"''"' category: '"''"'%s!\n", above(shape, n), n, variable, more
     }
     BEGIN {
-        for (n = 0; n < 9900; n++) defines(first, n, fresh == "variable" || fresh == "variables" ? "v" n : "", "")
+        for (n = 0; n < 9900; n++) defines(first, n, fresh == "variable" || fresh == "variables" ? "v" n : fresh == "one" ? "v" : "", "")
         if (second == "behind") for (n = 9899; n >= 0; n--) defines(second, n, "", "")
         else if (second != "none") for (n = 0; n < 9900; n++)
             defines(second, n, fresh == "variable" ? "w" n : "", fresh == "place" ? " at: " (9900 - n) : fresh == "mixed" && n % 2 ? " at: 1" : "")
@@ -56,6 +56,7 @@ classes chain none variables > "$folder/deep.st"
 classes chain chain variable > "$folder/deeper.st"
 classes object chain none > "$folder/chain.st"
 classes object behind none > "$folder/behind.st"
+classes object behind one > "$folder/worst.st"
 classes object object place > "$folder/placed.st"
 classes chains chains mixed > "$folder/mixed.st"
 awk 'BEGIN {
@@ -63,7 +64,7 @@ awk 'BEGIN {
     for (n = 80000; n > 0; n--) printf "!A methodsFor: '"''"' at: %d!m%d ^1! !\n", n, n
 }' > "$folder/places.st"
 
-for name in ordinary blanks marks comment method methods same lower variable deep deeper chain behind placed mixed places; do
+for name in ordinary blanks marks comment method methods same lower variable deep deeper chain behind worst placed mixed places; do
     file=$folder/$name.st
     status=0
     /usr/bin/env time -f '%U %S %M' -o "$folder/times" "$program" format "$file" > "$folder/out" || status=$?

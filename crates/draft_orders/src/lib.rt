@@ -11,8 +11,6 @@ mod places;
 mod ready;
 mod settling;
 mod sort;
-#[cfg(test)]
-mod tests;
 
 pub use classes::put_classes_again;
 pub use methods::put_methods_again;

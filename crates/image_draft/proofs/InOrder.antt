@@ -8,7 +8,7 @@ use Rattle.image_draft.specs.Arranged.{put_in_front, in_order, at_places}
 use Rattle.image_draft.proofs.ClassPlaces.{find_place}
 
 -- one more of those in front
-taken_more : {X : Type 0} (xs : List X) (i : ℕ) (x : X) → i < length xs → x ≡ get_or xs i x → take (i + 1) xs ≡ take i xs ++ x ∷ []
+pub taken_more : {X : Type 0} (xs : List X) (i : ℕ) (x : X) → i < length xs → x ≡ get_or xs i x → take (i + 1) xs ≡ take i xs ++ x ∷ []
 taken_more xs i x h r = take_more xs i x h ∙ ap (λ y. take i xs ++ y ∷ []) (sym r)
 
 pub map_more : {X Y : Type 0} (f : X → Y) (xs : List X) (i : ℕ) (x : X) → i < length xs → x ≡ get_or xs i x → map f (take (i + 1) xs) ≡ map f (take i xs) ++ f x ∷ []

@@ -7,10 +7,15 @@ pub mod Ordered
 mod ClassPlaces
 mod NameTests
 mod Marks
+mod Passed
 mod Beside
 mod Sound
 mod Parts
 mod PartsKept
+mod Apart
+mod Owned
+mod Notes
+mod Alone
 pub mod MethodClasses
 pub mod Drafts
 pub mod InOrder

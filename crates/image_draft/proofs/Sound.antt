@@ -144,7 +144,7 @@ module _ (n : ℕ) (g : ClassOf ℕ → ClassOf ℕ) (cs : List (ClassOf ℕ)) (
 
 -- a definition that is not refused
 module _ (cs : List (ClassOf ℕ)) (d : DefinitionOf ℕ) (kernel : Bool) (o : AreOrdered cs) (let_in : IsLet cs d) (kind : VariableKind) (none : NoneTwice cs kind) where
-  moved : (n : ℕ) → stands_twice nat_eq (with_definition nat_eq kernel d cs) kind n ≡ stands_twice nat_eq (defined nat_eq kernel d cs) kind n
+  pub moved : (n : ℕ) → stands_twice nat_eq (with_definition nat_eq kernel d cs) kind n ≡ stands_twice nat_eq (defined nat_eq kernel d cs) kind n
   moved n = defined_twice nat_eq nat_itself nat_equal cs d kernel (order_of cs o) (lacks_none cs d let_in) (cycle_none cs d let_in) kind n
 
   pub beside : IsBeside d.name (with_definition nat_eq kernel d cs) cs
@@ -274,7 +274,7 @@ module _ (cs : List (ClassOf ℕ)) (n : ℕ) (names : List ℕ) (s : AreSound cs
       }
 
 -- whether any item passes, where none does
-none_stands : {X : Type 0} (q : X → Bool) (xs : List X) → AllByRecursion (λ x. q x ≡ false) xs → list_any q xs ≡ false
+pub none_stands : {X : Type 0} (q : X → Bool) (xs : List X) → AllByRecursion (λ x. q x ≡ false) xs → list_any q xs ≡ false
 none_stands q [] all = refl
 none_stands q (x ∷ xs) all = ap (λ b. b || list_any q xs) all.0 ∙ none_stands q xs all.1
 
@@ -321,24 +321,34 @@ module _ (cs : List (ClassOf ℕ)) (o : AreOrdered cs) (n k : ℕ) (c : ClassOf 
           let less : e.0 < k = e.2 in
           absurd (omega (arith, same, less))
 
+  all_other : (q : Option (ClassOf ℕ)) → OptionNames Earlier q → AllByRecursion (λ (x : ClassOf ℕ). nat_eq n x.name ≡ false) (chain_from nat_eq cs q)
+  all_other q first =
+      all-implies Earlier (λ (x : ClassOf ℕ). nat_eq n x.name ≡ false) other (chain_from nat_eq cs q)
+      (upwards-all Earlier (superclass_of nat_eq cs) (λ x e. earlier x e.0 e.1 (superclass_of nat_eq cs x) refl e.2) (length cs) q first)
+
   earlier_clear : (q : Option (ClassOf ℕ)) → OptionNames Earlier q → stands_in nat_eq n (chain_from nat_eq cs q) ≡ false
-  earlier_clear q first =
-      none_stands (λ (x : ClassOf ℕ). nat_eq n x.name) (chain_from nat_eq cs q)
-      (all-implies Earlier (λ (x : ClassOf ℕ). nat_eq n x.name ≡ false) other (chain_from nat_eq cs q)
-      (upwards-all Earlier (superclass_of nat_eq cs) (λ x e. earlier x e.0 e.1 (superclass_of nat_eq cs x) refl e.2) (length cs) q first))
+  earlier_clear q first = none_stands (λ (x : ClassOf ℕ). nat_eq n x.name) (chain_from nat_eq cs q) (all_other q first)
+
+-- the classes above a class have other names
+pub others_above : (cs : List (ClassOf ℕ)) → AreOrdered cs → (k : ℕ) (c : ClassOf ℕ) → slice_get cs k ≡ Some c → AllByRecursion (λ (x : ClassOf ℕ). nat_eq c.name x.name ≡ false) (chain_from nat_eq cs (superclass_of nat_eq cs c))
+others_above cs o k c at = all_other cs o c.name k c at refl (superclass_of nat_eq cs c) (first (superclass_of nat_eq cs c) refl)
+  where
+    first : (q : Option (ClassOf ℕ)) → superclass_of nat_eq cs c ≡ q → OptionNames (λ (x : ClassOf ℕ). (j : ℕ) × (slice_get cs j ≡ Some x) × (j < k)) q
+    first None e = tt
+    first (Some y) e = let up = superclass_before nat_eq nat_itself cs o.before k c y at e in (up.0, up.2, up.1)
+
+-- a class that stands behind another is not on its chain
+pub none_earlier : (cs : List (ClassOf ℕ)) → AreOrdered cs → (n k : ℕ) (c : ClassOf ℕ) → slice_get cs k ≡ Some c → n ≡ c.name → (d : ClassOf ℕ) (j : ℕ) → slice_get cs j ≡ Some d → j < k → stands_in nat_eq n (chain_from nat_eq cs (Some d)) ≡ false
+none_earlier cs o n k c at named d j there less = earlier_clear cs o n k c at named (Some d) (j, there, less)
 
 -- no class stands above itself
 pub never_above : (cs : List (ClassOf ℕ)) (n : ℕ) (c : ClassOf ℕ) (s : Option ℕ) → AreOrdered cs → class_named nat_eq cs n ≡ Some c → c.superclass ≡ s → stands_in nat_eq n (chain nat_eq cs s) ≡ false
 never_above cs n c s o found under =
-    ap (λ (q : Option ℕ). stands_in nat_eq n (chain nat_eq cs q)) (sym under)
-    ∙ earlier_clear cs o n place.0 c place.1 (nat_equal n c.name (finds (λ (y : ClassOf ℕ). nat_eq n y.name) cs c found)) (superclass_of nat_eq cs c) (first (superclass_of nat_eq cs c) refl)
+    (λ i. stands_in nat_eq (nat_equal n c.name (finds (λ (y : ClassOf ℕ). nat_eq n y.name) cs c found) i) (chain nat_eq cs (sym under i)))
+    ∙ none_stands (λ (x : ClassOf ℕ). nat_eq c.name x.name) (chain nat_eq cs c.superclass) (others_above cs o place.0 c place.1)
   where
     place : (k : ℕ) × (slice_get cs k ≡ Some c)
     place = find-place (λ (x : ClassOf ℕ). nat_eq n x.name) cs c found
-
-    first : (q : Option (ClassOf ℕ)) → superclass_of nat_eq cs c ≡ q → OptionNames (λ (x : ClassOf ℕ). (j : ℕ) × (slice_get cs j ≡ Some x) × (j < place.0)) q
-    first None e = tt
-    first (Some y) e = let up = superclass_before nat_eq nat_itself cs o.before place.0 c y place.1 e in (up.0, up.2, up.1)
 
 -- and none above one that stands before it
 pub behind_clear : (cs : List (ClassOf ℕ)) (n p j k : ℕ) → AreOrdered cs → place_in cs p ≡ Some j → place_in cs n ≡ Some k → j < k → stands_in nat_eq n (chain nat_eq cs (Some p)) ≡ false

@@ -5,6 +5,7 @@ pub mod MethodSlots
 pub mod Early
 pub mod Names
 pub mod Once
+pub mod Owners
 pub mod NameSets
 pub mod Parts
 pub mod Table

@@ -1,5 +1,5 @@
 -- Classes of which none has a variable twice on its chain.
-use Rattle.std.specs.Prelude.{◌≡◌, ℕ, List, false, nat_eq, Some}
+use Rattle.std.specs.Prelude.{◌≡◌, ℕ, List, false, nat_eq, Some, IfSome}
 use Rattle.image_model.specs.Image.{ClassOf}
 use Rattle.image_model.specs.Chain.{class_named}
 use Rattle.image_model.specs.Means.{VariableKind, of_instance, of_class_side, variables}
@@ -24,6 +24,10 @@ pub record KeepsChains (classes : List (ClassOf ℕ)) (d : DefinitionOf ℕ) (ki
   pub found : class_named nat_eq classes d.name ≡ Some class
   pub superclass : class.superclass ≡ d.superclass
   pub variables : variables kind (class_again d class) ≡ variables kind class
+
+-- a class is new, or is defined again under the same superclass
+abbrev pub StaysUnder : List (ClassOf ℕ) → DefinitionOf ℕ → Type 0
+StaysUnder classes d = IfSome (class_named nat_eq classes d.name) (λ (c : ClassOf ℕ). c.superclass ≡ d.superclass)
 
 -- the class of a name has these class-instance variables
 pub record KeepsSide (classes : List (ClassOf ℕ)) (n : ℕ) (names : List ℕ) : Type 0 where

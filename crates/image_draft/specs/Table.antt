@@ -19,6 +19,11 @@ abbrev pub IsNoted : List (Option ℕ) → List (Option ℕ) → ℕ → ℕ →
 IsNoted before after name place =
     (n : ℕ) → place_at after n ≡ cond (is_some (place_at before name)) (place_at before n) (cond (nat_eq name n) (Some place) (place_at before n))
 
+-- a place, if it is before another
+abbrev pub place_before : ℕ → Option ℕ → Option ℕ
+place_before k None = None
+place_before k (Some j) = cond (nat_lt j k) (Some j) None
+
 -- whether a place stands before another, where all that have a place stand before what has none
 abbrev pub stands_first : Option ℕ → Option ℕ → Bool
 stands_first None other = false

@@ -1,5 +1,6 @@
 // Classes in a list, found by their names.
-ghost use Rattle.std.specs.Prelude.{◌≡◌, ℕ, ◌<◌, ◌∷◌, ◌++◌, [], true, drop, filter, length, not, position, slice_get, slice_set, nat_eq, option_copied, IfSome, IfOk, OnOk};
+ghost use Rattle.std.specs.Prelude.{◌≡◌, ℕ, List, ◌<◌, ◌≤◌, ◌∷◌, ◌++◌, [], true, drop, take, filter, length, not, position, slice_get, slice_set, nat_eq, option_copied, IfSome, IfOk, OnOk};
+ghost use Rattle.image_model.specs.Image.{ClassOf};
 ghost use Rattle.image_model.specs.Chain.{class_named};
 ghost use Rattle.file_model.specs.Applied.{class_again};
 ghost use Rattle.image_draft.specs.Table.{place_in, IsPlaceTable, IsNoted};
@@ -20,10 +21,12 @@ pub struct ClassList {
     // Whether the table has the place of each name.
     ready: bool,
     by_name: PlaceTable,
+    // A table in which no name has a place, for a list of classes that are put elsewhere.
+    spare: PlaceTable,
 }
 
 impl Model for ClassList {
-    ghost use Rattle.std.specs.Prelude.{◌≡◌, ℕ, List, true};
+    ghost use Rattle.std.specs.Prelude.{◌≡◌, ℕ, List, [], true};
     ghost use Rattle.image_model.specs.Image.{ClassOf};
     ghost use Rattle.image_draft.specs.Table.{IsPlaceTable};
 
@@ -31,7 +34,7 @@ impl Model for ClassList {
 
     ghost view = { λ a. a.items.items };
 
-    ghost invariant = { λ a. a.ready ≡ true → IsPlaceTable a.by_name a.items.items };
+    ghost invariant = { λ a. (a.ready ≡ true → IsPlaceTable a.by_name a.items.items) × (IsPlaceTable a.spare []) };
 }
 
 impl ClassList {
@@ -44,6 +47,7 @@ impl ClassList {
             items: Vec::new(alloc),
             ready: true,
             by_name: PlaceTable::new(alloc),
+            spare: PlaceTable::new(alloc),
         }
     }
 
@@ -59,6 +63,7 @@ impl ClassList {
             items,
             ready,
             by_name,
+            spare: PlaceTable::new(alloc),
         }
     }
 
@@ -156,16 +161,55 @@ impl ClassList {
         Ok(())
     }
 
+    /// Puts classes last.
+    fn push_all(&mut self, items: Vec<BoxedClass>) -> Result<(), Memory>
+        ensures { OnOk result (self.new ≡ self.old ++ items.items) }
+    {
+        for class in items {
+            self.push_boxed(class)?;
+        }
+        Ok(())
+    }
+
     /// Moves all classes to the end of a list, and keeps its table for other classes.
-    pub fn move_behind(&mut self, list: &mut Vec<BoxedClass>) -> Result<(), Memory>
-        ensures moved { OnOk result (list.new.items ≡ list.old.items ++ self.old) }
+    pub fn move_behind(&mut self, list: &mut ClassList) -> Result<(), Memory>
+        ensures moved { OnOk result (list.new ≡ list.old ++ self.old) }
         ensures left { OnOk result (self.new ≡ []) }
     {
         let (items, table) = self.take_all().into_parts();
-        let mut left = items;
-        list.append(&mut left)?;
-        *self = ClassList::from_parts(self.alloc, left, table);
+        list.push_all(items)?;
+        *self = ClassList::from_parts(self.alloc, Vec::new(self.alloc), table);
         Ok(())
+    }
+
+    /// Takes the classes from a place on out.
+    pub fn split_off(&mut self, place: usize) -> Result<Vec<BoxedClass>, Memory>
+        requires { place ≤ length self.old }
+        ensures left { OnOk result (self.new ≡ take place self.old) }
+        ensures taken { IfOk result (λ items. items.items ≡ drop place self.old) }
+    {
+        let items = self.items.split_off(place)?;
+        if self.ready {
+            forget_from(&mut self.by_name, &items, place);
+        }
+        Ok(items)
+    }
+
+    /// A list without classes, which takes the spare table of this one.
+    pub fn with_spare(&mut self) -> ClassList
+        ensures none { result ≡ [] }
+        ensures same { self.new ≡ self.old }
+    {
+        let table = replace(&mut self.spare, PlaceTable::new(self.alloc));
+        ClassList::from_parts(self.alloc, Vec::new(self.alloc), table)
+    }
+
+    /// Keeps the table of a list that is done with as the spare one.
+    pub fn keep_spare(&mut self, list: ClassList)
+        ensures { self.new ≡ self.old }
+    {
+        let (_, table) = list.into_parts();
+        self.spare = table;
     }
 
     /// Gives the class at a place another comment.
@@ -245,6 +289,15 @@ fn forget_all(table: &mut PlaceTable, classes: &[BoxedClass])
 {
     for class in classes {
         table.forget(class.name());
+    }
+}
+
+/// Forgets the places of the names of classes that stand from a place on, but those of names that have one before it.
+fn forget_from(table: &mut PlaceTable, classes: &[BoxedClass], place: usize)
+    ensures { (front : List (ClassOf ℕ)) → length front ≡ place → IsPlaceTable table.old (front ++ classes.now) → IsPlaceTable table.new front }
+{
+    for class in classes {
+        table.forget_from(class.name(), place);
     }
 }
 

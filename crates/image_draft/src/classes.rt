@@ -16,6 +16,7 @@ use crate::class_draft::{ClassDraft, Definition};
 use crate::class_list::ClassList;
 use crate::define::define_in_order;
 use crate::found;
+use crate::owners::{Owners, owners_of};
 use crate::refusals::class_removal_refusal;
 use file_faults::ImageCause;
 use rb_base::{Ids, Memory, NameId, Text};
@@ -27,18 +28,20 @@ use std::marker::Model;
 #[derive(Drop)]
 pub struct Classes {
     list: ClassList,
+    owners: Owners,
 }
 
 impl Model for Classes {
     ghost use Rattle.std.specs.Prelude.{ℕ, List};
     ghost use Rattle.image_model.specs.Image.{ClassOf};
     ghost use Rattle.image_draft.specs.Once.{AreSound};
+    ghost use Rattle.image_draft.specs.Owners.{AreOwned};
 
     ghost Value = { List (ClassOf ℕ) };
 
     ghost view = { λ a. a.list };
 
-    ghost invariant = { λ a. AreSound a.list };
+    ghost invariant = { λ a. (AreSound a.list) × (AreOwned a.owners a.list) };
 }
 
 impl Classes {
@@ -48,6 +51,7 @@ impl Classes {
     {
         Classes {
             list: ClassList::new(alloc),
+            owners: Owners::new(alloc),
         }
     }
 
@@ -86,9 +90,9 @@ impl Classes {
         requires { AreSound items.items }
         ensures { IfOk result (λ classes. classes ≡ items.items) }
     {
-        Ok(Classes {
-            list: listed(alloc, items)?,
-        })
+        let list = listed(alloc, items)?;
+        let owners = owners_of(alloc, list.as_slice())?;
+        Ok(Classes { list, owners })
     }
 
     /// Defines a class, for the first time or again, and puts the classes in order, or tells why it can not be defined;
@@ -106,7 +110,7 @@ impl Classes {
         ensures before { SuperclassesStandBefore self.new }
         ensures kept { IfOk result (λ cause. IfNone cause ((n : ℕ) → has_class nat_eq self.old n ≡ true → has_class nat_eq self.new n ≡ true)) }
     {
-        define_in_order(alloc, &mut self.list, kernel, definition)
+        define_in_order(alloc, &mut self.list, &mut self.owners, kernel, definition)
     }
 
     /// Gives the class of a name another comment, or tells why it can not be given; then nothing is changed.
@@ -137,7 +141,7 @@ impl Classes {
         ensures before { SuperclassesStandBefore self.new }
         ensures kept { IfOk result (λ cause. IfNone cause ((n : ℕ) → has_class nat_eq self.old n ≡ true → has_class nat_eq self.new n ≡ true)) }
     {
-        change_class_side(alloc, &mut self.list, name, names)
+        change_class_side(alloc, &mut self.list, &mut self.owners, name, names)
     }
 
     /// Why the class of a name can not be removed, if so.

@@ -8,13 +8,15 @@ ghost use Rattle.file_laws.specs.Settling as settling;
 ghost use Rattle.image_draft.specs.Early.{told, early_refusals};
 ghost use Rattle.image_draft.specs.Names.{NamesDiffer, AreOrdered};
 ghost use Rattle.image_draft.specs.Once.{AreSound};
+ghost use Rattle.image_draft.specs.Owners.{AreOwned};
 
 use crate::class_draft::{ClassDraft, Definition};
 use crate::class_list::ClassList;
 use crate::found::has_class;
 use crate::hierarchy::has_repeat;
-use crate::kept::kept_chains;
+use crate::kept::{kept_alone, kept_chains, stays_under};
 use crate::order::put_behind;
+use crate::owners::Owners;
 use crate::refusals::{early_refusal, is_one_class_too_many, late_refusal};
 use file_faults::ImageCause;
 use rb_base::{Ids, Memory, NameId, Text};
@@ -86,7 +88,6 @@ fn superclass_of(definition: &Definition) -> Option<NameId>
 
 /// The classes in order, once the class of a name, which was there before or not, is defined with a superclass or without one.
 fn in_order(
-    alloc: Global,
     classes: ClassList,
     was_there: bool,
     name: NameId,
@@ -95,7 +96,7 @@ fn in_order(
     ensures { IfOk result (λ ordered. ordered ≡ (if was_there then settling.put_behind nat_eq name superclass classes else classes)) }
 {
     if was_there {
-        put_behind(alloc, classes, name, superclass)
+        put_behind(classes, name, superclass)
     } else {
         Ok(classes)
     }
@@ -106,14 +107,17 @@ fn in_order(
 pub fn define_in_order(
     alloc: Global,
     classes: &mut ClassList,
+    owners: &mut Owners,
     kernel: bool,
     definition: Definition,
 ) -> Result<Option<ImageCause>, Memory>
-    requires { AreSound classes.old }
+    requires sound { AreSound classes.old }
+    requires owned { AreOwned owners.old classes.old }
     ensures cause { IfOk result (λ cause. told cause ≡ first_cause (definition_refusals nat_eq classes.old definition (with_definition nat_eq kernel definition classes.old))) }
     ensures some { IfOk result (λ cause. is_some cause ≡ is_some (first_cause (definition_refusals nat_eq classes.old definition (with_definition nat_eq kernel definition classes.old)))) }
     ensures changed { IfOk result (λ cause. IfNone cause (classes.new ≡ defined nat_eq kernel definition classes.old)) }
     ensures sound { AreSound classes.new }
+    ensures owned { AreOwned owners.new classes.new }
     ensures kept { IfOk result (λ cause. IfNone cause ((n : ℕ) → hierarchy.has_class nat_eq classes.old n ≡ true → hierarchy.has_class nat_eq classes.new n ≡ true)) }
 {
     if let Some(cause) = early_refusal(classes, &definition) {
@@ -123,7 +127,10 @@ pub fn define_in_order(
     let repeats = repeats_shared(alloc, &definition)?;
     let too_many = is_one_class_too_many(classes, name);
     let kept = kept_chains(classes, &definition);
+    let stays = stays_under(classes, &definition);
     let before = classes.take_all();
+    let noted = owners.note_definition(alloc, &definition)?;
+    let kept = kept.or(noted.apart).or(kept_alone(stays, noted.alone));
     let after = put_in_order(alloc, before, kernel, definition)?;
     let refusal = late_refusal(alloc, &after, name, repeats, too_many, kept)?;
     if refusal.is_some() {
@@ -151,5 +158,5 @@ fn put_in_order(
     let was_there = has_class(&classes, name);
     let mut items = classes;
     put_definition(alloc, &mut items, kernel, definition)?;
-    in_order(alloc, items, was_there, name, superclass)
+    in_order(items, was_there, name, superclass)
 }

@@ -180,7 +180,7 @@ fn is_marked(name: NameId, names: &NameSet, class: &ClassDraft) -> bool
 }
 
 /// Whether one of these names is in a set.
-fn meets(names: &[NameId], set: &NameSet) -> bool
+pub fn meets(names: &[NameId], set: &NameSet) -> bool
     ensures { result ≡ list_any (has set.now) names.now }
 {
     names.iter().any(|name| set.has(*name))

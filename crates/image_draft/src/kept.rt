@@ -1,19 +1,32 @@
-// What stays on the chains of classes where one of them is changed.
-ghost use Rattle.std.specs.Prelude.{◌≡◌, true};
+// Chains on which no variable can stand twice where a class is changed.
+ghost use Rattle.std.specs.Prelude.{◌≡◌, ◌&&◌, ◌||◌, true};
 ghost use Rattle.image_model.specs.Means.{of_instance, of_class_side};
-ghost use Rattle.image_draft.specs.Once.{KeepsChains, KeepsSide};
+ghost use Rattle.image_draft.specs.Once.{KeepsChains, KeepsSide, StaysUnder};
 
 use crate::class_draft::{ClassDraft, Definition};
 use crate::class_list::ClassList;
 use rb_base::NameId;
 
-/// Which variables stand as they did on the chain of a class that is defined again and on those below it.
+/// Of which kinds no variable can stand twice on the chain of a class that is defined and on those below it.
 #[derive(Clone, Copy)]
 pub struct KeptChains {
     /// Whether it is so of the instance variables.
     pub instance: bool,
     /// Whether it is so of the class-instance variables.
     pub class_side: bool,
+}
+
+impl KeptChains {
+    /// The kinds of these and of others.
+    pub fn or(self, others: KeptChains) -> KeptChains
+        ensures instance { result.instance ≡ (self.instance || others.instance) }
+        ensures class_side { result.class_side ≡ (self.class_side || others.class_side) }
+    {
+        KeptChains {
+            instance: self.instance || others.instance,
+            class_side: self.class_side || others.class_side,
+        }
+    }
 }
 
 /// Whether these are the same names in the same order.
@@ -55,6 +68,28 @@ pub fn kept_chains(classes: &ClassList, definition: &Definition) -> KeptChains
             class_side: false,
         },
         Some(class) => kept_under(class, definition),
+    }
+}
+
+/// Whether the class of a definition is new, or keeps its superclass.
+pub fn stays_under(classes: &ClassList, definition: &Definition) -> bool
+    ensures { result ≡ true → StaysUnder classes.now definition.now }
+{
+    match classes.find(definition.name) {
+        None => true,
+        Some(class) => has_superclass(class, definition.superclass),
+    }
+}
+
+/// The kinds of variables of a definition, where it is known whether its class is new or keeps its superclass, and whether
+/// no other class has its instance variables. Class-instance variables stay as they were.
+pub fn kept_alone(stays: bool, alone: bool) -> KeptChains
+    ensures instance { result.instance ≡ (stays && alone) }
+    ensures class_side { result.class_side ≡ stays }
+{
+    KeptChains {
+        instance: stays && alone,
+        class_side: stays,
     }
 }
 

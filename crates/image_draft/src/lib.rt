@@ -19,6 +19,7 @@ mod method_slots;
 mod methods;
 mod name_set;
 mod order;
+mod owners;
 mod place_table;
 mod refusals;
 mod reorder;

@@ -1,5 +1,5 @@
 // The order of classes, once one of them is defined again under another superclass.
-ghost use Rattle.std.specs.Prelude.{◌≡◌, ◌∷◌, ◌++◌, [], List, ℕ, false, nat_eq, IfOk, OnOk};
+ghost use Rattle.std.specs.Prelude.{◌≡◌, ◌≤◌, ◌∷◌, ◌++◌, [], List, ℕ, drop, length, take, false, nat_eq, IfOk, OnOk};
 ghost use Rattle.std.specs.Option.{option_map_or};
 ghost use Rattle.image_model.specs.Image.{ClassOf};
 ghost use Rattle.file_model.specs.Hierarchy as hierarchy;
@@ -9,7 +9,6 @@ ghost use Rattle.image_draft.specs.Table.{stands_first};
 use crate::boxed_class::BoxedClass;
 use crate::class_list::ClassList;
 use rb_base::{Memory, NameId};
-use std::alloc::Global;
 
 /// Whether a class of a name is one of these.
 fn stands_in(name: NameId, classes: &ClassList) -> bool
@@ -55,43 +54,51 @@ fn waits(name: NameId, waiting: &ClassList, class: &BoxedClass) -> bool
 
 /// Puts a class among those that wait, or behind those that are placed; behind the class of a second name go those that wait.
 fn place(
-    placed: &mut Vec<BoxedClass>,
+    placed: &mut ClassList,
     waiting: &mut ClassList,
     name: NameId,
     above: NameId,
     class: BoxedClass,
 ) -> Result<(), Memory>
-    ensures { OnOk result ((rest : List (ClassOf ℕ)) → placed.new.items ++ settling.passed nat_eq name above waiting.new rest ≡ placed.old.items ++ settling.passed nat_eq name above waiting.old (class ∷ rest)) }
+    ensures { OnOk result ((rest : List (ClassOf ℕ)) → placed.new ++ settling.passed nat_eq name above waiting.new rest ≡ placed.old ++ settling.passed nat_eq name above waiting.old (class ∷ rest)) }
 {
     if waits(name, waiting, &class) {
         return waiting.push_boxed(class);
     }
     let is_last = class.is_named(above);
-    placed.push(class)?;
+    placed.push_boxed(class)?;
     if is_last {
         waiting.move_behind(placed)?;
     }
     Ok(())
 }
 
+/// The place of the class of a name, or the first place where there is none: no class before it waits.
+fn first_place(classes: &ClassList, name: NameId) -> usize
+    ensures within { result ≤ length classes.now }
+    ensures before { (above : ℕ) → take result classes.now ++ settling.passed nat_eq name above [] (drop result classes.now) ≡ settling.passed nat_eq name above [] classes.now }
+{
+    classes.place(name).unwrap_or(0)
+}
+
 /// The classes with the one of a name, and those that wait for it, behind the class of a second name.
-fn pass(alloc: Global, classes: ClassList, name: NameId, above: NameId) -> Result<ClassList, Memory>
+fn pass(classes: ClassList, name: NameId, above: NameId) -> Result<ClassList, Memory>
     ensures { IfOk result (λ ordered. ordered ≡ settling.passed nat_eq name above [] classes) }
 {
-    let (items, table) = classes.into_parts();
-    let mut placed = Vec::with_capacity(alloc, items.len())?;
-    let mut waiting = ClassList::from_parts(alloc, Vec::new(alloc), table);
-    for class in items {
+    let mut placed = classes;
+    let first = first_place(&placed, name);
+    let rest = placed.split_off(first)?;
+    let mut waiting = placed.with_spare();
+    for class in rest {
         place(&mut placed, &mut waiting, name, above, class)?;
     }
     waiting.move_behind(&mut placed)?;
-    let (_, table) = waiting.into_parts();
-    Ok(ClassList::from_parts(alloc, placed, table))
+    placed.keep_spare(waiting);
+    Ok(placed)
 }
 
 /// The classes in order, once the class of a name is defined again with a superclass or without one.
 pub fn put_behind(
-    alloc: Global,
     classes: ClassList,
     name: NameId,
     superclass: Option<NameId>,
@@ -104,5 +111,5 @@ pub fn put_behind(
     if comes_first(&classes, above, name) {
         return Ok(classes);
     }
-    pass(alloc, classes, name, above)
+    pass(classes, name, above)
 }

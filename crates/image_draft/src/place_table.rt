@@ -1,6 +1,6 @@
 // Places by the numbers of names.
 ghost use Rattle.std.specs.Prelude.{◌≡◌, ℕ, ◌<◌, [], None, cond, length, nat_eq, OnOk};
-ghost use Rattle.image_draft.specs.Table.{place_at, IsNoted};
+ghost use Rattle.image_draft.specs.Table.{place_at, place_before, IsNoted};
 
 use rb_base::{Memory, NameId};
 use std::alloc::Global;
@@ -78,6 +78,17 @@ impl PlaceTable {
     {
         if name.0 < self.places.len() {
             self.set(name, None);
+        }
+    }
+
+    /// Forgets the place of a name, unless it is before another place.
+    pub fn forget_from(&mut self, name: NameId, place: usize)
+        ensures { (n : ℕ) → place_at self.new n ≡ cond (nat_eq name n) (place_before place (place_at self.old n)) (place_at self.old n) }
+    {
+        if let Some(noted) = self.get(name) {
+            if place <= noted {
+                self.forget(name);
+            }
         }
     }
 }

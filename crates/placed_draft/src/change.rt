@@ -110,10 +110,34 @@ impl PlacedDraft {
         ensures whole { IfOk result (λ cause. IfNone cause (IsWhole self.new)) }
     {
         if self.draft.has_class(name_of(&definition)) {
-            self.define_again(alloc, kernel, definition, order)
+            self.define_there(alloc, kernel, definition, order)
         } else {
             self.define_kept(alloc, kernel, definition, order)
         }
+    }
+
+    /// Defines a class again, or tells why it is refused; where the classes stand in the order of the names, it is noted no
+    /// more.
+    fn define_there(
+        &mut self,
+        alloc: Global,
+        kernel: bool,
+        definition: Definition,
+        order: Ids,
+    ) -> Result<Option<ImageCause>, Memory>
+        requires whole { IsWhole (with_order order self.old) }
+        requires taken { self.old.order ≡ None }
+        requires there { has_class nat_eq self.old.draft.classes definition.name ≡ true }
+        ensures made { IfOk result (λ cause. Makes cause (changed nat_eq kernel (Define definition) (image_of (with_order order self.old))) (image_of self.new)) }
+        ensures run { IfOk result (λ cause. IfNone cause (self.new.draft.run ≡ None)) }
+        ensures head { IfOk result (λ cause. IfNone cause (self.new.draft.at_head ≡ false)) }
+        ensures places { self.new.places ≡ self.old.places }
+        ensures whole { IfOk result (λ cause. IfNone cause (IsWhole self.new)) }
+    {
+        if self.stands_in(alloc, &order)? {
+            return self.draft.change(alloc, kernel, Change::Define(definition));
+        }
+        self.define_again(alloc, kernel, definition, order)
     }
 
     /// Defines a class again and puts the classes in order, or tells why it is refused.

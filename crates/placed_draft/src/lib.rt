@@ -7,7 +7,5 @@ mod order;
 mod placed_draft;
 mod places;
 mod settle;
-#[cfg(test)]
-mod tests;
 
 pub use placed_draft::PlacedDraft;

@@ -2,7 +2,9 @@ use Rattle.std.proofs.Common.{◌≡◌, ℕ, Bool, List, Option, refl, IfSome, 
 use Rattle.image_model.specs.Image.{ClassOf}
 use Rattle.file_model.specs.Hierarchy.{has_class}
 use Rattle.image_draft.specs.Once.{AreSound}
+use Rattle.image_draft.specs.Owners.{AreOwned}
 use Rattle.image_draft.proofs.Differ.{has_class-changed}
+use Rattle.image_draft.proofs.Owned.{commented_owned}
 use Rattle.image_draft.proofs.Places.{placed, unplaced, changed-at, changed-none}
 use Rattle.image_draft.proofs.Sound.{commented_sound}
 use Rattle.image_draft.proofs.changes.put_comment.Goals as goal
@@ -39,3 +41,9 @@ pub returns-in_default-clause-names : goal.returns-in_default-clause-names
 returns-in_default-clause-names c =
     let g : ClassOf ℕ → ClassOf ℕ = λ d. record d { comment = c.args.comment } in
     λ n. ap (λ (ds : List (ClassOf ℕ)). has_class nat_eq ds n) (returns-in_default-clause-changed c) ∙ has_class-changed c.args.name g (λ d. refl) c.args.classes.now n
+
+pub returns-in-Some-clause-owned : goal.returns-in-Some-clause-owned
+returns-in-Some-clause-owned c = λ owners o. subst (AreOwned owners) (sym (returns-in-Some-clause-changed c)) (commented_owned owners c.args.name c.args.comment c.args.classes.now o)
+
+pub returns-in_default-clause-owned : goal.returns-in_default-clause-owned
+returns-in_default-clause-owned c = λ owners o. subst (AreOwned owners) (sym (returns-in_default-clause-changed c)) (commented_owned owners c.args.name c.args.comment c.args.classes.now o)
