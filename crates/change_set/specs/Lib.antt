@@ -1,0 +1,4 @@
+pub mod Code
+pub mod Change
+pub mod Changes
+pub mod ChangeCode
