@@ -12,7 +12,7 @@ use Rattle.file_model.specs.Written.{file_of}
 use Rattle.file_model.proofs.OneImage.{one_image, one_refusal, no_image_where_refused}
 use Rattle.canonical_image.specs.Formatted.{formatted}
 use Rattle.browse.specs.declared.status.Status.{Status}
-use Rattle.command_words.specs.Forms.{Form, Apply, Format, Run, Later, NoForm, files_of, form_of}
+use Rattle.command_words.specs.Forms.{Form, Apply, Format, Run, Find, Later, NoForm, files_of, form_of}
 use Rattle.browse.specs.Loads.{World, Loads, Given, Refused, Refuses, MayFail, IsTold, IsHonest}
 use Rattle.grammar_model.specs.Whole.{DoIt}
 use Rattle.grammar_model.proofs.Texts.{no_fault_DoIt, one_SpellsDoIt, one_HasFirstFault}
@@ -20,8 +20,11 @@ use Rattle.tree_model.specs.Tree.{SequenceOf}
 use Rattle.image_model.specs.Image.{plus}
 use Rattle.image_doits.specs.Added.{IsWithDoIt}
 use Rattle.run_model.specs.Runs.{run, printed_run}
+use Rattle.query_model.specs.Queries.{QueryOf}
+use Rattle.query_model.specs.Lines.{IsAnswer}
+use Rattle.query_model.proofs.OneAnswer.{one_answer}
 use Rattle.browse.specs.ImageLines.{image_refusal, expression_refusal}
-use Rattle.browse.specs.Answers.{Answer, Reads, Applies, Unread, Judged, judged, Formats, Formatted, Refused as Stopped, status_of, RunsIn, NoDoIt, Ran, Runs, NoImage, InImage, AnswersForm, Answers, image_limit, script_limit}
+use Rattle.browse.specs.Answers.{Answer, Reads, Applies, Unread, Judged, judged, Formats, Formatted, Refused as Stopped, status_of, RunsIn, NoDoIt, Ran, Runs, NoImage, InImage, Finds, NoImageThere, Found, AnswersForm, Answers, image_limit, script_limit}
 
 -- both answers are one
 abbrev pub SameAnswer : Status → Status → List ℕ → List ℕ → Type 0
@@ -118,6 +121,15 @@ runs_one text expression budget s t x y (InImage i read p) (NoImage r wrong is l
 runs_one text expression budget s t x y (InImage i read p) (InImage j read' q) =
     runs_in_one j expression budget s t x y (subst (λ (k : ImageOf (List ℕ)). RunsIn k expression budget s x) (one_image Second prelude_text text i j read read') p) q
 
+-- a text and a question that are answered have one answer
+finds_one : (text : List ℕ) (q : QueryOf (List ℕ)) (s t : Status) (x y : List ℕ) → Finds text q s x → Finds text q t y → SameAnswer s t x y
+finds_one text q s t x y (NoImageThere r wrong is line) (NoImageThere r' wrong' is' line') =
+    (is ∙ sym is', line ∙ ap image_refusal (one_refusal Second prelude_text text r r' wrong wrong') ∙ sym line')
+finds_one text q s t x y (NoImageThere r wrong is line) (Found i read lines is') = absurd (no_image_where_refused Second prelude_text text i r read wrong)
+finds_one text q s t x y (Found i read lines is) (NoImageThere r wrong is' line) = absurd (no_image_where_refused Second prelude_text text i r read wrong)
+finds_one text q s t x y (Found i read lines is) (Found j read' lines' is') =
+    (is ∙ sym is', one_answer j q x y (subst (λ (k : ImageOf (List ℕ)). IsAnswer k q x) (one_image Second prelude_text text i j read read') lines) lines')
+
 form_one : (w : World) (form : Form) (s t : Status) (x y : List ℕ) → IsHonest w (files_of form) → AnswersForm w form s x → AnswersForm w form t y → SameAnswer s t x y
 form_one w (Apply image script) s t x y honest p q =
     loads_one w image image_limit s t x y _ _ honest.told.0 honest.fine
@@ -126,6 +138,8 @@ form_one w (Format image) s t x y honest p q =
     loads_one w image image_limit s t x y _ _ honest.told.0 honest.fine (λ i. formats_one i s t x y) p q
 form_one w (Run image expression budget) s t x y honest p q =
     loads_one w image image_limit s t x y _ _ honest.told.0 honest.fine (λ i. runs_one i expression budget s t x y) p q
+form_one w (Find image question) s t x y honest p q =
+    loads_one w image image_limit s t x y _ _ honest.told.0 honest.fine (λ i. finds_one i question s t x y) p q
 form_one w Later s t x y honest p q = (p.0 ∙ sym q.0, p.1 ∙ sym q.1)
 form_one w NoForm s t x y honest p q = (p.0 ∙ sym q.0, p.1 ∙ sym q.1)
 

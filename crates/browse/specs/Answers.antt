@@ -22,7 +22,9 @@ use Rattle.grammar_model.specs.Spelling.{HasFirstFault}
 use Rattle.run_model.specs.Values.{Outcome, done, failed, spent}
 use Rattle.run_model.specs.Runs.{run, printed_run}
 use Rattle.image_doits.specs.Added.{IsWithDoIt}
-use Rattle.command_words.specs.Forms.{Form, Apply, Format, Run, Later, NoForm, form_of}
+use Rattle.query_model.specs.Queries.{QueryOf}
+use Rattle.query_model.specs.Lines.{IsAnswer}
+use Rattle.command_words.specs.Forms.{Form, Apply, Format, Run, Find, Later, NoForm, form_of}
 use Rattle.browse.specs.Loads.{World, Loads, line}
 use Rattle.browse.specs.ImageLines.{image_refusal, expression_refusal}
 
@@ -90,11 +92,17 @@ pub data Runs (text expression : List ℕ) (budget : ℕ) (s : Status) (sent : L
   NoImage : (r : Refusal) → HasRefusal Second prelude_text text r → s ≡ status.ImageText → sent ≡ image_refusal r → Runs text expression budget s sent
   InImage : (i : ImageOf (List ℕ)) → IsImageOf Second prelude_text text i → RunsIn i expression budget s sent → Runs text expression budget s sent
 
+-- `find` answers this text and this question with the status and the bytes
+pub data Finds (text : List ℕ) (q : QueryOf (List ℕ)) (s : Status) (sent : List ℕ) : Type 0 where
+  NoImageThere : (r : Refusal) → HasRefusal Second prelude_text text r → s ≡ status.ImageText → sent ≡ image_refusal r → Finds text q s sent
+  Found : (i : ImageOf (List ℕ)) → IsImageOf Second prelude_text text i → IsAnswer i q sent → s ≡ status.Done → Finds text q s sent
+
 -- the form is answered with the status and the bytes
 abbrev pub AnswersForm : World → Form → Status → List ℕ → Type 0
 AnswersForm w (Apply image script) s sent = Loads w image image_limit s sent (λ i. Loads w script script_limit s sent (λ c. Applies i c s sent))
 AnswersForm w (Format image) s sent = Loads w image image_limit s sent (λ i. Formats i s sent)
 AnswersForm w (Run image expression budget) s sent = Loads w image image_limit s sent (λ i. Runs i expression budget s sent)
+AnswersForm w (Find image question) s sent = Loads w image image_limit s sent (λ i. Finds i question s sent)
 AnswersForm w Later s sent = (s ≡ status.Unbuilt) × (sent ≡ unbuilt)
 AnswersForm w NoForm s sent = (s ≡ status.Usage) × (sent ≡ usage)
 

@@ -2,9 +2,11 @@
 #![tactic(auto)]
 
 mod apply;
+mod find;
 mod format;
 mod image_lines;
 mod load;
+mod query;
 mod run;
 mod send;
 mod status;

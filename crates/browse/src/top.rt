@@ -7,6 +7,7 @@ ghost use Rattle.browse.specs.Loads.{World, world, IsHonest};
 ghost use Rattle.browse.specs.Answers.{Answers, usage};
 
 use crate::apply::{apply, unbuilt};
+use crate::find::find;
 use crate::format::format;
 use crate::load::push_line;
 use crate::run::run;
@@ -45,6 +46,7 @@ fn answer<F: Shelf>(
             expression,
             budget,
         } => run(alloc, shelf, image, expression, budget, out),
+        Words::Find { image, question } => find(alloc, shelf, image, question, out),
         Words::Later => unbuilt(out),
         Words::NoForm => usage(out),
     }

@@ -2,7 +2,9 @@
 use Rattle.std.specs.Prelude.{ℕ, Bool, ◌&&◌, ◌||◌, List, [], ◌∷◌, codes, if◌then◌else◌}
 use Rattle.std.specs.Option.{option_map_or}
 use Rattle.std.specs.Str.{bytes_eq}
-use Rattle.command_words.specs.Spelling.{is_number, number_of, is_query}
+use Rattle.query_model.specs.Queries.{QueryOf}
+use Rattle.command_words.specs.Spelling.{is_number, number_of}
+use Rattle.command_words.specs.Questions.{question_of, asks}
 use Rattle.command_words.specs.declared.words.Words.{Words}
 use Rattle.command_words.specs.declared.words.Words.TheVariants as words
 
@@ -14,6 +16,8 @@ pub data Form : Type 0 where
   Format : List ℕ → Form
   -- `run IMAGE EXPRESSION` and `run IMAGE EXPRESSION BUDGET`, with the number of ticks
   Run : List ℕ → List ℕ → ℕ → Form
+  -- `find IMAGE KIND NAME`, with what is asked
+  Find : List ℕ → QueryOf (List ℕ) → Form
   -- words in a form that is not built yet
   Later : Form
   -- words in no form
@@ -40,18 +44,20 @@ form_of_three command image word =
 abbrev pub run_of : List ℕ → List ℕ → List ℕ → Form
 run_of image expression budget = option_map_or (Run image expression) (number_of 10000000 budget) NoForm
 
--- `find IMAGE KIND NAME`, `rewrite IMAGE PATTERN REPLACEMENT` and `strip IMAGE EXPRESSION sets`
-abbrev pub is_later_of_four : List ℕ → List ℕ → List ℕ → Bool
-is_later_of_four command word last =
-    (bytes_eq command (codes "find") && is_query word last)
-    || bytes_eq command (codes "rewrite")
-    || (bytes_eq command (codes "strip") && bytes_eq last (codes "sets"))
+-- `find IMAGE KIND NAME` with a name that is spelled as the kind wants it
+abbrev pub find_of : List ℕ → List ℕ → List ℕ → Form
+find_of image kind name = option_map_or (Find image) (question_of kind name) NoForm
+
+-- `rewrite IMAGE PATTERN REPLACEMENT` and `strip IMAGE EXPRESSION sets`
+abbrev pub is_later_of_four : List ℕ → List ℕ → Bool
+is_later_of_four command last = bytes_eq command (codes "rewrite") || (bytes_eq command (codes "strip") && bytes_eq last (codes "sets"))
 
 -- the forms of four words above
 abbrev pub form_of_four : List ℕ → List ℕ → List ℕ → List ℕ → Form
 form_of_four command image word last =
     if bytes_eq command (codes "run") then run_of image word last else
-    (if is_later_of_four command word last then Later else NoForm)
+    (if bytes_eq command (codes "find") then find_of image word last else
+    (if is_later_of_four command last then Later else NoForm))
 
 abbrev pub form_of : List (List ℕ) → Form
 form_of (command ∷ word ∷ []) = form_of_two command word
@@ -64,6 +70,7 @@ abbrev pub files_of : Form → List (List ℕ)
 files_of (Apply image script) = image ∷ script ∷ []
 files_of (Format image) = image ∷ []
 files_of (Run image expression budget) = image ∷ []
+files_of (Find image question) = image ∷ []
 files_of Later = []
 files_of NoForm = []
 
@@ -72,5 +79,6 @@ abbrev pub shows : Words → Form
 shows (words.Apply image script) = Apply image.now script.now
 shows (words.Format image) = Format image.now
 shows (words.Run image expression budget) = Run image.now expression.now budget
+shows (words.Find image question) = Find image.now (asks question)
 shows words.Later = Later
 shows words.NoForm = NoForm

@@ -1,9 +1,11 @@
 //! The words of a command line, and the form that they are in.
 #![tactic(auto)]
 
+mod questions;
 mod spelling;
 #[cfg(test)]
 mod tests;
 mod words;
 
+pub use questions::{Question, VariableKind};
 pub use words::{Words, words_of};

@@ -3,7 +3,7 @@ ghost use Rattle.std.specs.Prelude.{◌≡◌, ◌-◌, nat_le, IsTrue, Option, 
 ghost use Rattle.std.specs.List.{list_all};
 ghost use Rattle.token_model.specs.Bytes as class;
 ghost use Rattle.text_model.specs.Literals as literal;
-ghost use Rattle.command_words.specs.Spelling.{value_after, is_numeral, is_number, number_of, ends_as_member, is_member, takes_any_name, takes_member, is_query};
+ghost use Rattle.command_words.specs.Spelling.{value_after, is_numeral, is_number, number_of};
 
 /// Whether the byte is a decimal digit.
 fn is_digit(byte: u8) -> bool
@@ -41,7 +41,7 @@ fn are_words(text: &[u8]) -> bool
 }
 
 /// Whether the bytes are an identifier: a letter, and then letters and digits.
-fn is_identifier(text: &[u8]) -> bool
+pub(crate) fn is_identifier(text: &[u8]) -> bool
     ensures { result ≡ literal.is_identifier text.now }
 {
     match text.split_first() {
@@ -99,52 +99,4 @@ pub(crate) fn is_number(word: &[u8], most: u32) -> bool
     ensures { result ≡ is_number most word.now }
 {
     number_of(word, most).is_some()
-}
-
-/// Whether the bytes are letters and digits, then a period and an identifier.
-fn ends_as_member(text: &[u8]) -> bool
-    ensures { result ≡ ends_as_member text.now }
-{
-    let mut rest = text;
-    while let Some((byte, others)) = rest.split_first() {
-        if *byte == b'.' {
-            return is_identifier(others);
-        }
-        if !is_word(*byte) {
-            return false;
-        }
-        rest = others;
-    }
-    false
-}
-
-/// Whether the word names a variable of a class: two identifiers with a period between them.
-fn is_member(word: &[u8]) -> bool
-    ensures { result ≡ is_member word.now }
-{
-    match word.split_first() {
-        None => false,
-        Some((first, rest)) => is_letter(*first) && ends_as_member(rest),
-    }
-}
-
-/// Whether a thing of this kind may be searched for by any name.
-fn takes_any_name(kind: &str) -> bool
-    ensures { result ≡ takes_any_name kind.now }
-{
-    kind == "senders" || kind == "implementors" || kind == "class"
-}
-
-/// Whether a thing of this kind is searched for by a class and a variable.
-fn takes_member(kind: &str) -> bool
-    ensures { result ≡ takes_member kind.now }
-{
-    kind == "inst" || kind == "shared" || kind == "classInst"
-}
-
-/// Whether the words name a kind of thing to search for, and one of that kind.
-pub(crate) fn is_query(kind: &str, name: &str) -> bool
-    ensures { result ≡ is_query kind.now name.now }
-{
-    takes_any_name(kind) || (takes_member(kind) && is_member(name.as_bytes()))
 }

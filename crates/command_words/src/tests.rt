@@ -14,12 +14,27 @@ fn given(alloc: Global, words: &[&str]) -> Result<Vec<String>, Memory> {
     Ok(given)
 }
 
-/// The form that words are in, as a word.
+/// What is searched for, as a word.
+fn asked(question: Question<'_>) -> &'static str {
+    match question {
+        Question::Senders(_) => "senders",
+        Question::Implementors(_) => "implementors",
+        Question::Class(_) => "class",
+        Question::Variable { kind, .. } => match kind {
+            VariableKind::Instance => "inst",
+            VariableKind::ClassSide => "classInst",
+            VariableKind::Shared => "shared",
+        },
+    }
+}
+
+/// The form that words are in, as a word; of a search what is searched for.
 fn form(words: Words<'_>) -> &'static str {
     match words {
         Words::Apply { .. } => "apply",
         Words::Format { .. } => "format",
         Words::Run { .. } => "run",
+        Words::Find { question, .. } => asked(question),
         Words::Later => "later",
         Words::NoForm => "none",
     }
@@ -67,7 +82,7 @@ fn words_have_their_forms(rt: HostRuntime) -> Result<(), Fail> {
         (&["format", "I"], "format"),
         (&["run", "I", "3"], "run"),
         (&["run", "I", "3", "100"], "run"),
-        (&["find", "I", "class", "?"], "later"),
+        (&["find", "I", "class", "?"], "class"),
         (&["search", "I", "P"], "later"),
         (&["rewrite", "I", "P", "R"], "later"),
         (&["demo", "3"], "later"),
@@ -129,13 +144,15 @@ fn numbers_have_limits(rt: HostRuntime) -> Result<(), Fail> {
 #[test]
 fn names_are_spelled_by_their_kind(rt: HostRuntime) -> Result<(), Fail> {
     for (kind, name, wanted) in [
-        ("senders", "", "later"),
-        ("implementors", "at:put:", "later"),
-        ("class", "A.x", "later"),
-        ("inst", "A.x", "later"),
-        ("shared", "a1.X2", "later"),
-        ("classInst", "A.x", "later"),
+        ("senders", "", "senders"),
+        ("implementors", "at:put:", "implementors"),
+        ("class", "A.x", "class"),
+        ("inst", "A.x", "inst"),
+        ("shared", "a1.X2", "shared"),
+        ("classInst", "A.x", "classInst"),
         ("inst", ".x", "none"),
+        ("inst", "", "none"),
+        ("shared", ".", "none"),
         ("inst", "A.", "none"),
         ("inst", "A", "none"),
         ("inst", "A.x.y", "none"),

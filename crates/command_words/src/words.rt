@@ -1,8 +1,9 @@
 // The words of a command line.
 ghost use Rattle.std.specs.Prelude.{◌≡◌, map, string_bytes};
-ghost use Rattle.command_words.specs.Forms.{form_of, form_of_two, form_of_three, form_of_four, run_of, is_later_of_three, is_later_of_four, shows};
+ghost use Rattle.command_words.specs.Forms.{form_of, form_of_two, form_of_three, form_of_four, run_of, find_of, is_later_of_three, is_later_of_four, shows};
 
-use crate::spelling::{is_number, is_query, number_of};
+use crate::questions::{Question, question_of};
+use crate::spelling::{is_number, number_of};
 
 /// The highest number of `demo`.
 const MOST_CLASSES: u32 = 2000;
@@ -31,6 +32,11 @@ pub enum Words<'w> {
         expression: &'w str,
         /// How many ticks the run has, from 1 to 10,000,000; 1,000,000 where no budget is given.
         budget: u32,
+    },
+    /// `find IMAGE KIND NAME`.
+    Find {
+        image: &'w str,
+        question: Question<'w>,
     },
     /// Words in a form that is not built yet.
     Later,
@@ -80,13 +86,11 @@ fn form_of_three<'w>(command: &str, image: &'w str, word: &'w str) -> Words<'w>
     }
 }
 
-/// Whether four words are in a form that is not built yet; the second one is that of an image.
-fn is_later_of_four(command: &str, word: &str, last: &str) -> bool
-    ensures { result ≡ is_later_of_four command.now word.now last.now }
+/// Whether four words are in a form that is not built yet.
+fn is_later_of_four(command: &str, last: &str) -> bool
+    ensures { result ≡ is_later_of_four command.now last.now }
 {
-    (command == "find" && is_query(word, last))
-        || command == "rewrite"
-        || (command == "strip" && last == "sets")
+    command == "rewrite" || (command == "strip" && last == "sets")
 }
 
 /// The form that a run with a budget is in.
@@ -103,13 +107,25 @@ fn run_of<'w>(image: &'w str, expression: &'w str, budget: &str) -> Words<'w>
     }
 }
 
+/// The form that a search is in.
+fn find_of<'w>(image: &'w str, kind: &str, name: &'w str) -> Words<'w>
+    ensures { shows result ≡ find_of image.now kind.now name.now }
+{
+    match question_of(kind, name) {
+        Some(question) => Words::Find { image, question },
+        None => Words::NoForm,
+    }
+}
+
 /// The form that four words are in.
-fn form_of_four<'w>(command: &str, image: &'w str, word: &'w str, last: &str) -> Words<'w>
+fn form_of_four<'w>(command: &str, image: &'w str, word: &'w str, last: &'w str) -> Words<'w>
     ensures { shows result ≡ form_of_four command.now image.now word.now last.now }
 {
     if command == "run" {
         run_of(image, word, last)
-    } else if is_later_of_four(command, word, last) {
+    } else if command == "find" {
+        find_of(image, word, last)
+    } else if is_later_of_four(command, last) {
         Words::Later
     } else {
         Words::NoForm

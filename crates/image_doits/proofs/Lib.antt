@@ -1,1 +1,1 @@
-mod Grown
+pub mod Grown

@@ -1,0 +1,77 @@
+-- No answer says that the output failed.
+use Rattle.std.proofs.Common.{◌≡◌, ℕ, List, inl, inr, ap, sym, ◌∙◌, arith, Option, Some, None}
+use Rattle.std.specs.Option.{option_map_or}
+use Rattle.first_path.specs.Images.{FileImage}
+use Rattle.first_path.specs.Texts.{file_of}
+use Rattle.first_path.specs.Commands.{first_false, renamed}
+use Rattle.first_path.specs.declared.command.Command.{Command}
+use Rattle.first_path.specs.declared.command.FalseCondition.{FalseCondition}
+use Rattle.image_model.specs.Image.{ImageOf}
+use Rattle.run_model.specs.Values.{Outcome, done, failed, spent}
+use Rattle.run_model.specs.Runs.{run}
+use Rattle.query_model.specs.Queries.{QueryOf}
+use Rattle.command_words.specs.Forms.{Form, Apply, Format, Run, Find, Later, NoForm, form_of}
+use Rattle.browse.specs.declared.status.Status.{Status}
+use Rattle.browse.specs.declared.status.Status.TheVariants as status
+use Rattle.browse.specs.Statuses.{number_of}
+use Rattle.browse.specs.Loads.{World, Loads, Given, Refused, Refuses}
+use Rattle.browse.specs.Answers.{Answer, refusal, judged, Applies, Unread, Judged, Formats, Formatted, Refused as Stopped, status_of, RunsIn, NoDoIt, Ran, Runs, NoImage, InImage, Finds, NoImageThere, Found, AnswersForm, Answers, image_limit, script_limit}
+
+-- the status does not say that the output failed
+abbrev IsOther : Status → Type 0
+IsOther s = ¬ (number_of s ≡ 6)
+
+other : (s t : Status) → s ≡ t → IsOther t → IsOther s
+other s t is unlike e = unlike (sym (ap number_of is) ∙ e)
+
+refuses : (w : World) (name : List ℕ) (limit : ℕ) (s : Status) (x : List ℕ) → Refuses w name limit s x → IsOther s
+refuses w name limit s x (inl (may, is, line)) = other s status.Read is (λ e. omega (arith, e))
+refuses w name limit s x (inr (large, is, line)) = other s status.TooLarge is (λ e. omega (arith, e))
+
+loads : (w : World) (name : List ℕ) (limit : ℕ) (s : Status) (x : List ℕ) (P : List ℕ → Type 0) → ((bytes : List ℕ) → P bytes → IsOther s) → Loads w name limit s x P → IsOther s
+loads w name limit s x P next (Given bytes may p) = next bytes p
+loads w name limit s x P next (Refused r) = refuses w name limit s x r
+
+judged_other : (i : FileImage) (c : Command) → IsOther (judged i c).0
+judged_other i c = by (first_false i c)
+  where
+    by : (o : Option FalseCondition) → IsOther (option_map_or {U = Answer} (λ (f : FalseCondition). (status.Condition, refusal c f)) o (status.Done, file_of (renamed c i))).0
+    by None e = omega (arith, e)
+    by (Some f) e = omega (arith, e)
+
+applies : (image script : List ℕ) (s : Status) (x : List ℕ) → Applies image script s x → IsOther s
+applies image script s x (Unread none is line) = other s status.Unbuilt is (λ e. omega (arith, e))
+applies image script s x (Judged i c reads is) = other s (judged i c).0 (ap (λ (a : Answer). a.0) is) (judged_other i c)
+
+formats : (text : List ℕ) (s : Status) (x : List ℕ) → Formats text s x → IsOther s
+formats text s x (Stopped r wrong is line) = other s status.ImageText is (λ e. omega (arith, e))
+formats text s x (Formatted i read is line) = other s status.Done is (λ e. omega (arith, e))
+
+outcome_other : (o : Outcome) → IsOther (status_of o)
+outcome_other (done v) e = omega (arith, e)
+outcome_other (failed f) e = omega (arith, e)
+outcome_other spent e = omega (arith, e)
+
+runs_in : (i : ImageOf (List ℕ)) (expression : List ℕ) (budget : ℕ) (s : Status) (x : List ℕ) → RunsIn i expression budget s x → IsOther s
+runs_in i expression budget s x (NoDoIt f wrong is line) = other s status.ScriptText is (λ e. omega (arith, e))
+runs_in i expression budget s x (Ran j added is line) = other s (status_of (run j budget).outcome) is (outcome_other (run j budget).outcome)
+
+runs : (text expression : List ℕ) (budget : ℕ) (s : Status) (x : List ℕ) → Runs text expression budget s x → IsOther s
+runs text expression budget s x (NoImage r wrong is line) = other s status.ImageText is (λ e. omega (arith, e))
+runs text expression budget s x (InImage i read p) = runs_in i expression budget s x p
+
+finds : (text : List ℕ) (q : QueryOf (List ℕ)) (s : Status) (x : List ℕ) → Finds text q s x → IsOther s
+finds text q s x (NoImageThere r wrong is line) = other s status.ImageText is (λ e. omega (arith, e))
+finds text q s x (Found i read lines is) = other s status.Done is (λ e. omega (arith, e))
+
+form_other : (w : World) (form : Form) (s : Status) (x : List ℕ) → AnswersForm w form s x → IsOther s
+form_other w (Apply image script) s x p = loads w image image_limit s x _ (λ i q. loads w script script_limit s x _ (λ c. applies i c s x) q) p
+form_other w (Format image) s x p = loads w image image_limit s x _ (λ i. formats i s x) p
+form_other w (Run image expression budget) s x p = loads w image image_limit s x _ (λ i. runs i expression budget s x) p
+form_other w (Find image question) s x p = loads w image image_limit s x _ (λ i. finds i question s x) p
+form_other w Later s x p = other s status.Unbuilt p.0 (λ e. omega (arith, e))
+form_other w NoForm s x p = other s status.Usage p.0 (λ e. omega (arith, e))
+
+-- so no answer is that the output failed
+pub no_write : (w : World) (words : List (List ℕ)) (s : Status) (x : List ℕ) → Answers w words s x → s ≡ status.Write → ⊥
+no_write w words s x p is = form_other w (form_of words) s x p (ap number_of is)
