@@ -244,5 +244,13 @@ module _ (n : ℕ) (cs : List (ClassOf ℕ)) (none : has_subclass nat_eq cs n �
       (all_place (λ (x : ClassOf ℕ). option_map_or (nat_eq n) x.superclass false ≡ false) others k c
       (All-filter (λ (x : ClassOf ℕ). option_map_or (nat_eq n) x.superclass false ≡ false) (λ (x : ClassOf ℕ). not (nat_eq n x.name)) cs (none_pass (λ (x : ClassOf ℕ). option_map_or (nat_eq n) x.superclass false) cs none)) at)
 
+  -- nor above one of another name
+  pub clear_above : (m : ℕ) → nat_eq n m ≡ false → stands_in nat_eq n (chain_from nat_eq cs (class_named nat_eq cs m)) ≡ false
+  clear_above m differs = by (class_named nat_eq cs m) refl
+    where
+      by : (q : Option (ClassOf ℕ)) → class_named nat_eq cs m ≡ q → stands_in nat_eq n (chain_from nat_eq cs q) ≡ false
+      by None e = ap (stands_in nat_eq n) (upwards-none (superclass_of nat_eq cs) (length cs))
+      by (Some d) e = let place = find-place (λ (x : ClassOf ℕ). nat_eq m x.name) others d (sym (named_without m differs) ∙ e) in without_clear place.0 d place.1
+
   pub without_beside : has_class nat_eq cs n ≡ true → SuperclassesStandBefore others → IsBeside n cs others
   without_beside there before = record { there = there; agree = named_without; from_old = stays_at cs; long = shorter cs; before = before }

@@ -34,7 +34,7 @@ module _ (n : ℕ) (g : ClassOf ℕ → ClassOf ℕ) (keeps : (c : ClassOf ℕ) 
       by false = refl
 
 -- a name is absent from a list, and from its first class and the rest
-absent-both : (x : ClassOf ℕ) (xs : List (ClassOf ℕ)) (m : ℕ) → has_class nat_eq (x ∷ xs) m ≡ false → (nat_eq m x.name ≡ false) × (has_class nat_eq xs m ≡ false)
+pub absent-both : (x : ClassOf ℕ) (xs : List (ClassOf ℕ)) (m : ℕ) → has_class nat_eq (x ∷ xs) m ≡ false → (nat_eq m x.name ≡ false) × (has_class nat_eq xs m ≡ false)
 absent-both x xs m h = by (nat_eq m x.name) refl h
   where
     by : (b : Bool) → nat_eq m x.name ≡ b → is_some (cond b (Some x) (find (λ (c : ClassOf ℕ). nat_eq m c.name) xs)) ≡ false → (nat_eq m x.name ≡ false) × (has_class nat_eq xs m ≡ false)

@@ -15,7 +15,9 @@ mod PartsKept
 mod Apart
 mod Owned
 mod Notes
+mod PutBack
 mod Alone
+mod Childless
 pub mod MethodClasses
 pub mod Drafts
 pub mod InOrder

@@ -17,7 +17,7 @@ use Rattle.image_draft.specs.declared.method_draft.MethodDraft.{MethodDraft}
 use Rattle.image_draft.specs.Entries.{entry_of}
 
 -- a name is one of those of the classes where there is a class of it
-named : (cs : List (ClassOf ℕ)) (n : ℕ) → has_class nat_eq cs n ≡ true → Contains (class_names cs) n
+pub named : (cs : List (ClassOf ℕ)) (n : ℕ) → has_class nat_eq cs n ≡ true → Contains (class_names cs) n
 named [] n h = absurd (true≢false (sym h))
 named (x ∷ xs) n h = by (nat_eq n x.name) refl h (named xs n)
   where

@@ -1,7 +1,8 @@
 -- Where each variable is noted for its class, it stays so where classes are changed, and where no two classes have one of one name, none stands twice on a chain.
-use Rattle.std.proofs.Common.{◌≡◌, ℕ, Bool, true, false, List, [], ◌∷◌, ◌++◌, filter, nat_eq, refl, sym, subst, ◌∙◌}
+use Rattle.std.proofs.Common.{◌≡◌, ℕ, Bool, true, false, List, [], ◌∷◌, ◌++◌, filter, Option, Some, None, nat_eq, refl, sym, subst, ◌∙◌}
 use Rattle.std.specs.Prelude.{◌||◌, if◌then◌else◌}
 use Rattle.std.specs.List.{AllByRecursion}
+use Rattle.std.specs.Option.{option_map_or}
 use Rattle.image_model.specs.Image.{ClassOf}
 use Rattle.image_model.specs.Means.{VariableKind, of_instance, of_class_side, variables}
 use Rattle.image_model.proofs.Ends.{all-end}
@@ -12,9 +13,10 @@ use Rattle.file_model.specs.Applied.{changed_class, class_again, new_class, with
 use Rattle.file_laws.proofs.OtherOrder.{same_itself, all_reordered}
 use Rattle.file_laws.proofs.OtherOrderChanges.{defined_alike}
 use Rattle.file_laws.proofs.Sound.{All-filter}
+use Rattle.image_draft.specs.NameSets.{has}
 use Rattle.image_draft.specs.Names.{AreOrdered}
 use Rattle.image_draft.specs.Once.{AreSound}
-use Rattle.image_draft.specs.Owners.{is_noted_for, AreNoted, AreOwned, KeepsNotes, NoneShared}
+use Rattle.image_draft.specs.Owners.{is_noted_for, AreNoted, AreOwned, IsUnderNoted, KeepsNames, KeepsNotes, NoneShared}
 use Rattle.image_draft.specs.declared.owners.Owners.{Owners}
 use Rattle.image_draft.specs.declared.owners.VariableOwners.{VariableOwners}
 use Rattle.image_draft.proofs.Numbers.{nat_itself, nat_equal}
@@ -38,6 +40,14 @@ pub noted_still : (before after : VariableOwners) → KeepsNotes before after �
 noted_still before after kept kind cs noted =
     all-implies (IsNotedOf before kind) (IsNotedOf after kind)
     (λ c h. all-implies (λ m. is_noted_for before c.name m ≡ true) (λ m. is_noted_for after c.name m ≡ true) (λ m e. kept c.name m e) (variables kind c) h) cs noted
+
+-- a superclass that is noted is so among more names
+pub under_still : (before after : List Bool) → KeepsNames before after → (cs : List (ClassOf ℕ)) → AllByRecursion (IsUnderNoted before) cs → AllByRecursion (IsUnderNoted after) cs
+under_still before after kept cs noted = all-implies (IsUnderNoted before) (IsUnderNoted after) (λ c h. by c.superclass h) cs noted
+  where
+    by : (o : Option ℕ) → option_map_or (has before) o true ≡ true → option_map_or (has after) o true ≡ true
+    by None h = refl
+    by (Some s) h = kept s h
 
 -- what is known of each class and of the class of a name that is changed
 module _ (P : ClassOf ℕ → Type 0) (n : ℕ) (g : ClassOf ℕ → ClassOf ℕ) (keeps : (c : ClassOf ℕ) → nat_eq n c.name ≡ true → P c → P (g c)) where
@@ -63,15 +73,17 @@ module _ (P : ClassOf ℕ → Type 0) (d : DefinitionOf ℕ) (kernel : Bool) (ag
 
 -- no classes
 pub owned_none : (t : Owners) (cs : List (ClassOf ℕ)) → cs ≡ [] → AreOwned t cs
-owned_none t cs e = subst (AreOwned t) (sym e) (record { instance = tt; class_side = tt })
+owned_none t cs e = subst (AreOwned t) (sym e) (record { instance = tt; class_side = tt; superclasses = tt })
 
 -- a definition whose instance variables are noted
 module _ (cs new : List (ClassOf ℕ)) (d : DefinitionOf ℕ) (kernel : Bool) (s : AreSound cs) (let_in : IsLet cs d) (is : new ≡ defined nat_eq kernel d cs) (before after : Owners) (owned : AreOwned before cs)
-    (instance_kept : KeepsNotes before.instance after.instance) (class_side_kept : KeepsNotes before.class_side after.class_side) (noted : AllByRecursion (λ m. is_noted_for after.instance d.name m ≡ true) d.instance) where
+    (instance_kept : KeepsNotes before.instance after.instance) (class_side_kept : KeepsNotes before.class_side after.class_side) (superclasses_kept : KeepsNames before.superclasses after.superclasses) (noted : AllByRecursion (λ m. is_noted_for after.instance d.name m ≡ true) d.instance)
+    (under : option_map_or (has after.superclasses) d.superclass true ≡ true) where
   pub defined_owned : AreOwned after new
   defined_owned = subst (AreOwned after) (sym is) (record {
     instance = defined_each (IsNotedOf after.instance of_instance) d kernel (λ c e h. subst (λ (n : ℕ). AllByRecursion (λ m. is_noted_for after.instance n m ≡ true) d.instance) (nat_equal d.name c.name e) noted) noted cs s.order let_in (noted_still before.instance after.instance instance_kept of_instance cs owned.instance);
     class_side = defined_each (IsNotedOf after.class_side of_class_side) d kernel (λ c e h. h) tt cs s.order let_in (noted_still before.class_side after.class_side class_side_kept of_class_side cs owned.class_side);
+    superclasses = defined_each (IsUnderNoted after.superclasses) d kernel (λ c e h. under) under cs s.order let_in (under_still before.superclasses after.superclasses superclasses_kept cs owned.superclasses);
   })
 
   ordered : AreOrdered new
@@ -90,7 +102,7 @@ module _ (cs new : List (ClassOf ℕ)) (d : DefinitionOf ℕ) (kernel : Bool) (s
 
 -- class-instance variables that are noted
 module _ (cs new : List (ClassOf ℕ)) (n : ℕ) (names : List ℕ) (s : AreSound cs) (is : new ≡ with_class_side nat_eq n names cs) (before after : Owners) (owned : AreOwned before cs)
-    (instance_kept : KeepsNotes before.instance after.instance) (class_side_kept : KeepsNotes before.class_side after.class_side) (noted : AllByRecursion (λ m. is_noted_for after.class_side n m ≡ true) names) where
+    (instance_kept : KeepsNotes before.instance after.instance) (class_side_kept : KeepsNotes before.class_side after.class_side) (superclasses_kept : KeepsNames before.superclasses after.superclasses) (noted : AllByRecursion (λ m. is_noted_for after.class_side n m ≡ true) names) where
   abbrev with_side : ClassOf ℕ → ClassOf ℕ
   with_side c = record c { class_side = names }
 
@@ -98,6 +110,7 @@ module _ (cs new : List (ClassOf ℕ)) (n : ℕ) (names : List ℕ) (s : AreSoun
   side_owned = subst (AreOwned after) (sym is) (record {
     instance = changed_each (IsNotedOf after.instance of_instance) n with_side (λ c e h. h) cs (noted_still before.instance after.instance instance_kept of_instance cs owned.instance);
     class_side = changed_each (IsNotedOf after.class_side of_class_side) n with_side (λ c e h. subst (λ (k : ℕ). AllByRecursion (λ m. is_noted_for after.class_side k m ≡ true) names) (nat_equal n c.name e) noted) cs (noted_still before.class_side after.class_side class_side_kept of_class_side cs owned.class_side);
+    superclasses = changed_each (IsUnderNoted after.superclasses) n with_side (λ c e h. h) cs (under_still before.superclasses after.superclasses superclasses_kept cs owned.superclasses);
   })
 
   pub side_apart : NoneShared after.class_side → has_repeat nat_eq names ≡ false → (m : ℕ) → stands_twice nat_eq new of_class_side m ≡ false
@@ -110,6 +123,7 @@ pub commented_owned : (t : Owners) (n : ℕ) (text : List ℕ) (cs : List (Class
 commented_owned t n text cs owned = record {
   instance = changed_each (IsNotedOf t.instance of_instance) n (λ (c : ClassOf ℕ). record c { comment = text }) (λ c e h. h) cs owned.instance;
   class_side = changed_each (IsNotedOf t.class_side of_class_side) n (λ (c : ClassOf ℕ). record c { comment = text }) (λ c e h. h) cs owned.class_side;
+  superclasses = changed_each (IsUnderNoted t.superclasses) n (λ (c : ClassOf ℕ). record c { comment = text }) (λ c e h. h) cs owned.superclasses;
 }
 
 -- fewer classes
@@ -117,4 +131,5 @@ pub filtered_owned : (t : Owners) (p : ClassOf ℕ → Bool) (cs : List (ClassOf
 filtered_owned t p cs owned = record {
   instance = All-filter (IsNotedOf t.instance of_instance) p cs owned.instance;
   class_side = All-filter (IsNotedOf t.class_side of_class_side) p cs owned.class_side;
+  superclasses = All-filter (IsUnderNoted t.superclasses) p cs owned.superclasses;
 }

@@ -1,14 +1,19 @@
--- A pass that begins at the class of a name, and the table of the classes before it.
+-- A pass that begins at the class of a name, one in which it goes alone, and the table of the classes before it.
 use Rattle.std.proofs.Common.{◌≡◌, ℕ, suc, ◌+◌, ◌<◌, ◌≤◌, Bool, true, false, cond, List, [], ◌∷◌, ◌++◌, length, take, drop, get_or, is_some, option_map, Option, Some, None, nat_eq, nat_lt, refl, sym, ap, ◌∙◌, arith}
 use Rattle.std.specs.Prelude.{◌||◌, if◌then◌else◌, unwrap_or}
+use Rattle.std.specs.List.{insert}
 use Rattle.std.specs.Option.{option_map_or, option_or}
 use Rattle.std.proofs.lemmas.Bool.{lt-ltb, le-ltb}
 use Rattle.std.proofs.lemmas.Option.{slice_get_within}
 use Rattle.image_model.specs.Image.{ClassOf}
-use Rattle.file_model.specs.Hierarchy.{stands_in}
+use Rattle.file_model.specs.Hierarchy.{has_class, has_subclass, stands_in}
 use Rattle.file_laws.specs.Settling.{waits, passed}
+use Rattle.image_draft.specs.Names.{NamesDiffer}
+use Rattle.image_draft.specs.Alone.{put_back}
 use Rattle.image_draft.specs.Table.{place_at, place_in, place_before, IsPlaceTable}
+use Rattle.image_draft.proofs.Beside.{or_false}
 use Rattle.image_draft.proofs.ClassPlaces.{place_cons, place_taken}
+use Rattle.image_draft.proofs.Differ.{absent-both, differ_back}
 use Rattle.image_draft.proofs.Numbers.{nat_equal}
 use Rattle.image_draft.proofs.Places.{placed}
 
@@ -44,6 +49,71 @@ passed_from n p (x ∷ xs) = ap From (place_cons x xs n) ∙ by (nat_eq n x.name
     by false e None rest = refl
     by false e (Some k) rest = ap (λ (ys : List (ClassOf ℕ)). x ∷ ys) rest ∙ sym (passed_over n p x xs e)
 
+-- where no class has the name nothing moves
+passed_none : (n p : ℕ) (cs : List (ClassOf ℕ)) → has_class nat_eq cs n ≡ false → passed nat_eq n p [] cs ≡ cs
+passed_none n p [] h = refl
+passed_none n p (x ∷ xs) h = let parts = absent-both x xs n h in passed_over n p x xs parts.0 ∙ ap (λ (ys : List (ClassOf ℕ)). x ∷ ys) (passed_none n p xs parts.1)
+
+-- a class waits that is the superclass of none
+module _ (n p : ℕ) (x : ClassOf ℕ) (named : nat_eq n x.name ≡ true) where
+  waits_alone : (y : ClassOf ℕ) → nat_eq n y.name ≡ false → option_map_or (nat_eq n) y.superclass false ≡ false → waits nat_eq n (x ∷ []) y ≡ false
+  waits_alone y other above = ap (λ (b : Bool). b || option_map_or (λ (s : ℕ). stands_in nat_eq s (x ∷ [])) y.superclass false) other ∙ by y.superclass above
+    where
+      by : (o : Option ℕ) → option_map_or (nat_eq n) o false ≡ false → option_map_or (λ (s : ℕ). stands_in nat_eq s (x ∷ [])) o false ≡ false
+      by None h = refl
+      by (Some s) h = ap (λ (b : Bool). b || false) (ap (nat_eq s) (sym (nat_equal n x.name named)) ∙ differ_back n s h)
+
+  -- it goes behind the other class
+  held : (ys : List (ClassOf ℕ)) (t : ℕ) → has_class nat_eq ys n ≡ false → has_subclass nat_eq ys n ≡ false → place_in ys p ≡ Some t → passed nat_eq n p (x ∷ []) ys ≡ insert ys (suc t) x
+  held [] t absent free here = absurd (cc)
+  held (y ∷ ys) t absent free here = by (nat_eq p y.name) refl (place_in ys p) refl (sym (place_cons y ys p) ∙ here) (λ k h. held ys k names.1 under.1 h)
+    where
+      names : (nat_eq n y.name ≡ false) × (has_class nat_eq ys n ≡ false)
+      names = absent-both y ys n absent
+
+      under : (option_map_or (nat_eq n) y.superclass false ≡ false) × (has_subclass nat_eq ys n ≡ false)
+      under = or_false (option_map_or (nat_eq n) y.superclass false) (has_subclass nat_eq ys n) free
+
+      step : (b : Bool) → nat_eq p y.name ≡ b → passed nat_eq n p (x ∷ []) (y ∷ ys) ≡ y ∷ (if b then x ∷ passed nat_eq n p [] ys else passed nat_eq n p (x ∷ []) ys)
+      step b e =
+          ap (λ (a : Bool). if a then passed nat_eq n p (x ∷ y ∷ []) ys else y ∷ (if nat_eq p y.name then x ∷ passed nat_eq n p [] ys else passed nat_eq n p (x ∷ []) ys)) (waits_alone y names.0 under.0)
+          ∙ ap (λ (a : Bool). y ∷ (if a then x ∷ passed nat_eq n p [] ys else passed nat_eq n p (x ∷ []) ys)) e
+
+      by : (b : Bool) → nat_eq p y.name ≡ b → (o : Option ℕ) → place_in ys p ≡ o → cond b (Some 0) (option_map suc o) ≡ Some t → ((k : ℕ) → place_in ys p ≡ Some k → passed nat_eq n p (x ∷ []) ys ≡ insert ys (suc k) x)
+          → passed nat_eq n p (x ∷ []) (y ∷ ys) ≡ insert (y ∷ ys) (suc t) x
+      by true e o q r rest =
+          let first : t ≡ 0 = cc in
+          step true e ∙ ap (λ (zs : List (ClassOf ℕ)). y ∷ x ∷ zs) (passed_none n p ys names.1) ∙ ap (λ (k : ℕ). insert (y ∷ ys) (suc k) x) (sym first)
+      by false e None q r rest = absurd (cc)
+      by false e (Some k) q r rest =
+          let later : t ≡ suc k = cc in
+          step false e ∙ ap (λ (zs : List (ClassOf ℕ)). y ∷ zs) (rest k q) ∙ ap (λ (m : ℕ). insert (y ∷ ys) (suc m) x) (sym later)
+
+-- so one pass puts it there, and all others stay in their order
+pub passed_alone : (n p : ℕ) (cs : List (ClassOf ℕ)) (k j : ℕ) → NamesDiffer cs → has_subclass nat_eq cs n ≡ false → place_in cs n ≡ Some k → place_in cs p ≡ Some j → k < j → passed nat_eq n p [] cs ≡ put_back k j cs
+passed_alone n p [] k j differ free here there less = absurd (cc)
+passed_alone n p (x ∷ xs) k j differ free here there less =
+    by (nat_eq p x.name) (place_in xs p) refl (sym (place_cons x xs p) ∙ there) (nat_eq n x.name) refl (place_in xs n) refl (sym (place_cons x xs n) ∙ here) (λ a b h t l. passed_alone n p xs a b differ.1 under.1 h t l)
+  where
+    under : (option_map_or (nat_eq n) x.superclass false ≡ false) × (has_subclass nat_eq xs n ≡ false)
+    under = or_false (option_map_or (nat_eq n) x.superclass false) (has_subclass nat_eq xs n) free
+
+    by : (d : Bool) (r : Option ℕ) → place_in xs p ≡ r → cond d (Some 0) (option_map suc r) ≡ Some j → (b : Bool) → nat_eq n x.name ≡ b → (o : Option ℕ) → place_in xs n ≡ o → cond b (Some 0) (option_map suc o) ≡ Some k
+        → ((a b : ℕ) → place_in xs n ≡ Some a → place_in xs p ≡ Some b → a < b → passed nat_eq n p [] xs ≡ put_back a b xs) → passed nat_eq n p [] (x ∷ xs) ≡ put_back k j (x ∷ xs)
+    by true r s t b e o q h next = let first : j ≡ 0 = cc in absurd (omega (arith, less, first))
+    by false None s t b e o q h next = absurd (cc)
+    by false (Some i) s t true e o q h next =
+        let first : k ≡ 0 = cc in
+        let later : j ≡ suc i = cc in
+        ap (λ (c : Bool). if c then passed nat_eq n p (x ∷ []) xs else x ∷ (if nat_eq p x.name then [] ++ passed nat_eq n p [] xs else passed nat_eq n p [] xs)) (waits_for_none n x ∙ e)
+        ∙ held n p x e xs i (ap (has_class nat_eq xs) (nat_equal n x.name e) ∙ differ.0) under.1 s
+        ∙ (λ m. put_back (sym first m) (sym later m) (x ∷ xs))
+    by false (Some i) s t false e None q h next = absurd (cc)
+    by false (Some i) s t false e (Some a) q h next =
+        let first : k ≡ suc a = cc in
+        let later : j ≡ suc i = cc in
+        passed_over n p x xs e ∙ ap (λ (ys : List (ClassOf ℕ)). x ∷ ys) (next a i q s (omega (arith, less, first, later))) ∙ (λ m. put_back (sym first m) (sym later m) (x ∷ xs))
+
 -- which is within the list
 pub place_within : (n : ℕ) (cs : List (ClassOf ℕ)) → unwrap_or (place_in cs n) 0 ≤ length cs
 place_within n cs = by (place_in cs n) refl
@@ -53,7 +123,7 @@ place_within n cs = by (place_in cs n) refl
     by (Some k) e = let at = placed (λ (c : ClassOf ℕ). nat_eq n c.name) cs k e in let less : k < length cs = slice_get_within cs k at.0 at.1 in omega (arith, less)
 
 -- the place of a name in two lists behind one another
-place_append : (xs ys : List (ClassOf ℕ)) (q : ℕ) → place_in (xs ++ ys) q ≡ option_or (place_in xs q) (option_map (λ (k : ℕ). length xs + k) (place_in ys q))
+pub place_append : (xs ys : List (ClassOf ℕ)) (q : ℕ) → place_in (xs ++ ys) q ≡ option_or (place_in xs q) (option_map (λ (k : ℕ). length xs + k) (place_in ys q))
 place_append [] ys q = same (place_in ys q)
   where
     same : (o : Option ℕ) → o ≡ option_map (λ (k : ℕ). 0 + k) o

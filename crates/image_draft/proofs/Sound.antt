@@ -60,7 +60,7 @@ none_any q p (x ∷ xs) all = by (p x) (none_any q p xs all.1)
     by false rest = rest
 
 -- a class stands on its own chain
-own_chain : (cs : List (ClassOf ℕ)) (l : ℕ) (c : ClassOf ℕ) → 0 < l → stands_in nat_eq c.name (upwards (superclass_of nat_eq cs) l (Some c)) ≡ true
+pub own_chain : (cs : List (ClassOf ℕ)) (l : ℕ) (c : ClassOf ℕ) → 0 < l → stands_in nat_eq c.name (upwards (superclass_of nat_eq cs) l (Some c)) ≡ true
 own_chain cs zero c less = absurd (omega (arith, less))
 own_chain cs (suc l) c less = ap (λ b. b || stands_in nat_eq c.name (upwards (superclass_of nat_eq cs) l (superclass_of nat_eq cs c))) (nat_itself c.name)
 
@@ -165,6 +165,16 @@ module _ (cs : List (ClassOf ℕ)) (d : DefinitionOf ℕ) (kernel : Bool) (o : A
       again : with_definition nat_eq kernel d cs ≡ changed_class nat_eq d.name (class_again d) cs
       again = ap (λ (b : Bool). if b then changed_class nat_eq d.name (class_again d) cs else cs ++ new_class kernel d ∷ []) (ap is_some k.found)
 
+-- no class is taken away where none has the name
+pub all_left : (n : ℕ) (cs : List (ClassOf ℕ)) → has_class nat_eq cs n ≡ false → filter (λ (c : ClassOf ℕ). not (nat_eq n c.name)) cs ≡ cs
+all_left n [] h = refl
+all_left n (x ∷ xs) h = at (nat_eq n x.name) h (all_left n xs)
+  where
+    at : (b : Bool) → is_some (cond b (Some x) (class_named nat_eq xs n)) ≡ false → (has_class nat_eq xs n ≡ false → filter (λ (c : ClassOf ℕ). not (nat_eq n c.name)) xs ≡ xs)
+        → cond (not b) (x ∷ filter (λ (c : ClassOf ℕ). not (nat_eq n c.name)) xs) (filter (λ (c : ClassOf ℕ). not (nat_eq n c.name)) xs) ≡ x ∷ xs
+    at true k rest = absurd (true≢false k)
+    at false k rest = ap (λ (ys : List (ClassOf ℕ)). x ∷ ys) (rest k)
+
 -- a class that is the superclass of none is taken away
 pub removed_once : (n : ℕ) (cs : List (ClassOf ℕ)) → has_subclass nat_eq cs n ≡ false → AreOrdered cs → (kind : VariableKind) → NoneTwice cs kind → NoneTwice (filter (λ (c : ClassOf ℕ). not (nat_eq n c.name)) cs) kind
 removed_once n cs free o kind none = by (has_class nat_eq cs n) refl
@@ -172,17 +182,8 @@ removed_once n cs free o kind none = by (has_class nat_eq cs n) refl
     left : List (ClassOf ℕ)
     left = filter (λ (c : ClassOf ℕ). not (nat_eq n c.name)) cs
 
-    all_left : (ds : List (ClassOf ℕ)) → has_class nat_eq ds n ≡ false → filter (λ (c : ClassOf ℕ). not (nat_eq n c.name)) ds ≡ ds
-    all_left [] h = refl
-    all_left (x ∷ xs) h = at (nat_eq n x.name) h (all_left xs)
-      where
-        at : (b : Bool) → is_some (cond b (Some x) (class_named nat_eq xs n)) ≡ false → (has_class nat_eq xs n ≡ false → filter (λ (c : ClassOf ℕ). not (nat_eq n c.name)) xs ≡ xs)
-            → cond (not b) (x ∷ filter (λ (c : ClassOf ℕ). not (nat_eq n c.name)) xs) (filter (λ (c : ClassOf ℕ). not (nat_eq n c.name)) xs) ≡ x ∷ xs
-        at true k rest = absurd (true≢false k)
-        at false k rest = ap (λ (ys : List (ClassOf ℕ)). x ∷ ys) (rest k)
-
     by : (b : Bool) → has_class nat_eq cs n ≡ b → NoneTwice left kind
-    by false e = subst (λ (ds : List (ClassOf ℕ)). NoneTwice ds kind) (sym (all_left cs e)) none
+    by false e = subst (λ (ds : List (ClassOf ℕ)). NoneTwice ds kind) (sym (all_left n cs e)) none
     by true e =
         let b = without_beside n cs free e (removed_ordered n cs free o).before in
         none_of left kind

@@ -4,6 +4,7 @@ pub mod MethodCode
 pub mod MethodSlots
 pub mod Early
 pub mod Names
+pub mod Alone
 pub mod Once
 pub mod Owners
 pub mod NameSets

@@ -1,4 +1,4 @@
--- Which classes have which variables.
+-- Which classes have which variables, and which names are those of superclasses.
 use Rattle.std.specs.Prelude.{◌≡◌, ℕ, List, Bool, true, false, ◌||◌, nat_eq}
 use Rattle.std.specs.List.{AllByRecursion}
 use Rattle.std.specs.Option.{option_map_or}
@@ -29,7 +29,16 @@ KeepsNotes before after = (n m : ℕ) → is_noted_for before n m ≡ true → i
 abbrev pub NoneShared : VariableOwners → Type 0
 NoneShared t = (m : ℕ) → has t.shared m ≡ false
 
--- each variable of which no two of one name may stand on a chain is noted for its class
+-- the names that are noted stay so
+abbrev pub KeepsNames : List Bool → List Bool → Type 0
+KeepsNames before after = (m : ℕ) → has before m ≡ true → has after m ≡ true
+
+-- the superclass of a class, if it has one, is noted
+abbrev pub IsUnderNoted : List Bool → ClassOf ℕ → Type 0
+IsUnderNoted names c = option_map_or (has names) c.superclass true ≡ true
+
+-- each variable of which no two of one name may stand on a chain is noted for its class, and each superclass is noted
 pub record AreOwned (t : Owners) (cs : List (ClassOf ℕ)) : Type 0 where
   pub instance : AreNoted t.instance of_instance cs
   pub class_side : AreNoted t.class_side of_class_side cs
+  pub superclasses : AllByRecursion (IsUnderNoted t.superclasses) cs

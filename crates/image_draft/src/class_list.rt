@@ -1,9 +1,12 @@
 // Classes in a list, found by their names.
-ghost use Rattle.std.specs.Prelude.{◌≡◌, ℕ, List, ◌<◌, ◌≤◌, ◌∷◌, ◌++◌, [], true, drop, take, filter, length, not, position, slice_get, slice_set, nat_eq, option_copied, IfSome, IfOk, OnOk};
+ghost use Rattle.std.specs.Prelude.{◌≡◌, ℕ, List, ◌+◌, ◌<◌, ◌≤◌, ◌∷◌, ◌++◌, [], true, drop, take, filter, length, not, position, slice_get, slice_set, nat_eq, option_copied, option_map, IfSome, IfOk, OnOk};
+ghost use Rattle.std.specs.Option.{option_or};
 ghost use Rattle.image_model.specs.Image.{ClassOf};
 ghost use Rattle.image_model.specs.Chain.{class_named};
 ghost use Rattle.file_model.specs.Applied.{class_again};
-ghost use Rattle.image_draft.specs.Table.{place_in, IsPlaceTable, IsNoted};
+ghost use Rattle.image_draft.specs.Names.{NamesDiffer};
+ghost use Rattle.image_draft.specs.Alone.{put_back};
+ghost use Rattle.image_draft.specs.Table.{place_at, place_in, IsPlaceTable, IsNoted};
 
 use crate::boxed_class::BoxedClass;
 use crate::class_draft::{ClassDraft, Definition};
@@ -195,6 +198,17 @@ impl ClassList {
         Ok(items)
     }
 
+    /// Puts the class at a place behind the one at a later place; those between them move up.
+    pub fn put_back(&mut self, from: usize, to: usize)
+        requires differ { NamesDiffer self.old }
+        requires before { from < to }
+        requires within { to < length self.old }
+        ensures { self.new ≡ put_back from to self.old }
+    {
+        put_back(&mut self.items, from, to);
+        self.ready = are_noted(self.ready, &mut self.by_name, &self.items, from, to);
+    }
+
     /// A list without classes, which takes the spare table of this one.
     pub fn with_spare(&mut self) -> ClassList
         ensures none { result ≡ [] }
@@ -260,6 +274,51 @@ fn is_noted(ready: bool, table: &mut PlaceTable, name: NameId, place: usize) -> 
     ensures noted { result ≡ true → IsNoted table.old table.new name place }
 {
     ready && table.note(name, place).is_ok()
+}
+
+/// Puts the class at a place behind the one at a later place.
+fn put_back(classes: &mut Vec<BoxedClass>, from: usize, to: usize)
+    requires before { from < to }
+    requires within { to < length classes.old.items }
+    ensures { classes.new.items ≡ put_back from to classes.old.items }
+{
+    classes[from..to + 1].rotate_left(1);
+}
+
+/// Notes the places from one to another anew.
+fn note_places(
+    table: &mut PlaceTable,
+    classes: &[BoxedClass],
+    from: usize,
+    to: usize,
+) -> Result<(), Memory>
+    requires before { from ≤ to }
+    requires within { to < length classes.now }
+    ensures { OnOk result ((n : ℕ) → place_at table.new n ≡ option_or (option_map (λ k. from + k) (place_in (drop from (take (to + 1) classes.now)) n)) (place_at table.old n)) }
+{
+    let mut place = to + 1;
+    while place > from {
+        place -= 1;
+        table.put(classes[place].name(), place)?;
+    }
+    Ok(())
+}
+
+/// Notes the places from one to another anew, if the table has the places of all names, and tells whether it has them all
+/// then.
+fn are_noted(
+    ready: bool,
+    table: &mut PlaceTable,
+    classes: &[BoxedClass],
+    from: usize,
+    to: usize,
+) -> bool
+    requires before { from ≤ to }
+    requires within { to < length classes.now }
+    ensures ready { result ≡ true → ready ≡ true }
+    ensures noted { result ≡ true → (n : ℕ) → place_at table.new n ≡ option_or (option_map (λ k. from + k) (place_in (drop from (take (to + 1) classes.now)) n)) (place_at table.old n) }
+{
+    ready && note_places(table, classes, from, to).is_ok()
 }
 
 /// The class at a place.

@@ -1,11 +1,12 @@
 // Definitions of classes.
-ghost use Rattle.std.specs.Prelude.{◌≡◌, ℕ, ◌<◌, ◌∷◌, ◌++◌, [], None, true, if◌then◌else◌, is_some, nat_eq, IfNone, IfOk, OnOk};
+ghost use Rattle.std.specs.Prelude.{◌≡◌, ℕ, ◌<◌, ◌∷◌, ◌++◌, [], None, true, false, if◌then◌else◌, is_some, nat_eq, IfNone, IfOk, OnOk};
 ghost use Rattle.file_model.specs.Causes.{first_cause};
 ghost use Rattle.file_model.specs.Hierarchy as hierarchy;
 ghost use Rattle.file_model.specs.Refusals.{definition_refusals};
 ghost use Rattle.file_model.specs.Applied.{new_class, with_definition, defined};
 ghost use Rattle.file_laws.specs.Settling as settling;
 ghost use Rattle.image_draft.specs.Early.{told, early_refusals};
+ghost use Rattle.image_draft.specs.Alone.{IsChildless};
 ghost use Rattle.image_draft.specs.Names.{NamesDiffer, AreOrdered};
 ghost use Rattle.image_draft.specs.Once.{AreSound};
 ghost use Rattle.image_draft.specs.Owners.{AreOwned};
@@ -14,10 +15,11 @@ use crate::class_draft::{ClassDraft, Definition};
 use crate::class_list::ClassList;
 use crate::found::has_class;
 use crate::hierarchy::has_repeat;
-use crate::kept::{kept_alone, kept_chains, stays_under};
+use crate::kept::kept_chains;
 use crate::order::put_behind;
 use crate::owners::Owners;
 use crate::refusals::{early_refusal, is_one_class_too_many, late_refusal};
+use crate::standing::{kept_alone, standing_of};
 use file_faults::ImageCause;
 use rb_base::{Ids, Memory, NameId, Text};
 use std::alloc::Global;
@@ -86,17 +88,21 @@ fn superclass_of(definition: &Definition) -> Option<NameId>
     definition.superclass
 }
 
-/// The classes in order, once the class of a name, which was there before or not, is defined with a superclass or without one.
+/// The classes in order, once the class of a name, which was there before or not, is defined with a superclass or without
+/// one, where it may be known that it is the superclass of none.
 fn in_order(
     classes: ClassList,
     was_there: bool,
     name: NameId,
     superclass: Option<NameId>,
+    childless: bool,
 ) -> Result<ClassList, Memory>
+    requires differ { NamesDiffer classes }
+    requires childless { childless ≡ true → hierarchy.has_subclass nat_eq classes name ≡ false }
     ensures { IfOk result (λ ordered. ordered ≡ (if was_there then settling.put_behind nat_eq name superclass classes else classes)) }
 {
     if was_there {
-        put_behind(classes, name, superclass)
+        put_behind(classes, name, superclass, childless)
     } else {
         Ok(classes)
     }
@@ -120,18 +126,18 @@ pub fn define_in_order(
     ensures owned { AreOwned owners.new classes.new }
     ensures kept { IfOk result (λ cause. IfNone cause ((n : ℕ) → hierarchy.has_class nat_eq classes.old n ≡ true → hierarchy.has_class nat_eq classes.new n ≡ true)) }
 {
-    if let Some(cause) = early_refusal(classes, &definition) {
+    let standing = standing_of(classes, owners, &definition);
+    if let Some(cause) = early_refusal(classes, &definition, standing) {
         return Ok(Some(cause));
     }
     let name = name_of(&definition);
     let repeats = repeats_shared(alloc, &definition)?;
     let too_many = is_one_class_too_many(classes, name);
     let kept = kept_chains(classes, &definition);
-    let stays = stays_under(classes, &definition);
     let before = classes.take_all();
     let noted = owners.note_definition(alloc, &definition)?;
-    let kept = kept.or(noted.apart).or(kept_alone(stays, noted.alone));
-    let after = put_in_order(alloc, before, kernel, definition)?;
+    let kept = kept.or(noted.apart).or(kept_alone(standing, noted.alone));
+    let after = put_in_order(alloc, before, kernel, definition, standing.childless)?;
     let refusal = late_refusal(alloc, &after, name, repeats, too_many, kept)?;
     if refusal.is_some() {
         return Ok(refusal);
@@ -140,14 +146,17 @@ pub fn define_in_order(
     Ok(None)
 }
 
-/// The classes in order with a definition that those before it do not refuse in the place of the former one, or last.
+/// The classes in order with a definition that those before it do not refuse in the place of the former one, or last, where
+/// it may be known that its class is the superclass of none.
 fn put_in_order(
     alloc: Global,
     classes: ClassList,
     kernel: bool,
     definition: Definition,
+    childless: bool,
 ) -> Result<ClassList, Memory>
     requires order { AreOrdered classes }
+    requires childless { childless ≡ true → IsChildless classes definition.name }
     requires free { first_cause (early_refusals classes definition) ≡ None }
     ensures changed { IfOk result (λ ordered. ordered ≡ defined nat_eq kernel definition classes) }
     ensures order { IfOk result (λ ordered. AreOrdered ordered) }
@@ -158,5 +167,5 @@ fn put_in_order(
     let was_there = has_class(&classes, name);
     let mut items = classes;
     put_definition(alloc, &mut items, kernel, definition)?;
-    in_order(items, was_there, name, superclass)
+    in_order(items, was_there, name, superclass, childless)
 }

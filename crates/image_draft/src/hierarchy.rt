@@ -222,7 +222,7 @@ fn meets_below(
 }
 
 /// The classes from that of a name on, or all of them.
-fn from_class(classes: &ClassList, name: NameId) -> &[BoxedClass]
+pub fn from_class(classes: &ClassList, name: NameId) -> &[BoxedClass]
     ensures { result.now ≡ drop (unwrap_or (place_in classes.now name) 0) classes.now }
 {
     classes.behind(classes.place(name).unwrap_or(0))

@@ -1,7 +1,7 @@
 // Chains on which no variable can stand twice where a class is changed.
 ghost use Rattle.std.specs.Prelude.{◌≡◌, ◌&&◌, ◌||◌, true};
 ghost use Rattle.image_model.specs.Means.{of_instance, of_class_side};
-ghost use Rattle.image_draft.specs.Once.{KeepsChains, KeepsSide, StaysUnder};
+ghost use Rattle.image_draft.specs.Once.{KeepsChains, KeepsSide};
 
 use crate::class_draft::{ClassDraft, Definition};
 use crate::class_list::ClassList;
@@ -68,28 +68,6 @@ pub fn kept_chains(classes: &ClassList, definition: &Definition) -> KeptChains
             class_side: false,
         },
         Some(class) => kept_under(class, definition),
-    }
-}
-
-/// Whether the class of a definition is new, or keeps its superclass.
-pub fn stays_under(classes: &ClassList, definition: &Definition) -> bool
-    ensures { result ≡ true → StaysUnder classes.now definition.now }
-{
-    match classes.find(definition.name) {
-        None => true,
-        Some(class) => has_superclass(class, definition.superclass),
-    }
-}
-
-/// The kinds of variables of a definition, where it is known whether its class is new or keeps its superclass, and whether
-/// no other class has its instance variables. Class-instance variables stay as they were.
-pub fn kept_alone(stays: bool, alone: bool) -> KeptChains
-    ensures instance { result.instance ≡ (stays && alone) }
-    ensures class_side { result.class_side ≡ stays }
-{
-    KeptChains {
-        instance: stays && alone,
-        class_side: stays,
     }
 }
 

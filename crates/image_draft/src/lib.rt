@@ -23,6 +23,7 @@ mod owners;
 mod place_table;
 mod refusals;
 mod reorder;
+mod standing;
 
 pub use arrange::arranged;
 pub use change::{Change, Run};

@@ -1,10 +1,11 @@
 // The order of classes, once one of them is defined again under another superclass.
-ghost use Rattle.std.specs.Prelude.{◌≡◌, ◌≤◌, ◌∷◌, ◌++◌, [], List, ℕ, drop, length, take, false, nat_eq, IfOk, OnOk};
+ghost use Rattle.std.specs.Prelude.{◌≡◌, ◌<◌, ◌≤◌, ◌∷◌, ◌++◌, [], List, ℕ, Some, drop, length, take, true, false, nat_eq, IfSome, IfOk, OnOk};
 ghost use Rattle.std.specs.Option.{option_map_or};
 ghost use Rattle.image_model.specs.Image.{ClassOf};
 ghost use Rattle.file_model.specs.Hierarchy as hierarchy;
 ghost use Rattle.file_laws.specs.Settling as settling;
-ghost use Rattle.image_draft.specs.Table.{stands_first};
+ghost use Rattle.image_draft.specs.Names.{NamesDiffer};
+ghost use Rattle.image_draft.specs.Table.{place_in, stands_first};
 
 use crate::boxed_class::BoxedClass;
 use crate::class_list::ClassList;
@@ -97,12 +98,44 @@ fn pass(classes: ClassList, name: NameId, above: NameId) -> Result<ClassList, Me
     Ok(placed)
 }
 
-/// The classes in order, once the class of a name is defined again with a superclass or without one.
+/// The places of the classes of two names, where the first stands before the second.
+fn places_of(classes: &ClassList, name: NameId, above: NameId) -> Option<(usize, usize)>
+    ensures first { IfSome result (λ places. place_in classes.now name ≡ Some places.0) }
+    ensures second { IfSome result (λ places. place_in classes.now above ≡ Some places.1) }
+    ensures before { IfSome result (λ places. places.0 < places.1) }
+{
+    let from = classes.place(name)?;
+    let to = classes.place(above)?;
+    if to <= from {
+        return None;
+    }
+    Some((from, to))
+}
+
+/// The same for a class that is the superclass of none: it goes alone, and no other class waits.
+fn pass_alone(classes: ClassList, name: NameId, above: NameId) -> Result<ClassList, Memory>
+    requires differ { NamesDiffer classes }
+    requires childless { hierarchy.has_subclass nat_eq classes name ≡ false }
+    ensures { IfOk result (λ ordered. ordered ≡ settling.passed nat_eq name above [] classes) }
+{
+    let Some((from, to)) = places_of(&classes, name, above) else {
+        return pass(classes, name, above);
+    };
+    let mut ordered = classes;
+    ordered.put_back(from, to);
+    Ok(ordered)
+}
+
+/// The classes in order, once the class of a name is defined again with a superclass or without one, where it may be known
+/// that it is the superclass of none.
 pub fn put_behind(
     classes: ClassList,
     name: NameId,
     superclass: Option<NameId>,
+    childless: bool,
 ) -> Result<ClassList, Memory>
+    requires differ { NamesDiffer classes }
+    requires childless { childless ≡ true → hierarchy.has_subclass nat_eq classes name ≡ false }
     ensures { IfOk result (λ ordered. ordered ≡ settling.put_behind nat_eq name superclass classes) }
 {
     let Some(above) = superclass else {
@@ -110,6 +143,9 @@ pub fn put_behind(
     };
     if comes_first(&classes, above, name) {
         return Ok(classes);
+    }
+    if childless {
+        return pass_alone(classes, name, above);
     }
     pass(classes, name, above)
 }

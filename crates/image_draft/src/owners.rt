@@ -1,10 +1,11 @@
-// Which classes have which variables.
+// Which classes have which variables, and which names are those of superclasses.
 ghost use Rattle.std.specs.Prelude.{◌≡◌, [], true, false, nat_eq, IfOk, OnOk};
 ghost use Rattle.std.specs.List.{AllByRecursion, list_any};
+ghost use Rattle.std.specs.Option.{option_map_or};
 ghost use Rattle.image_model.specs.Means.{of_instance, of_class_side};
 ghost use Rattle.file_model.specs.Hierarchy as hierarchy;
 ghost use Rattle.image_draft.specs.NameSets.{has};
-ghost use Rattle.image_draft.specs.Owners.{is_noted_for, AreNoted, AreOwned, KeepsNotes, NoneShared};
+ghost use Rattle.image_draft.specs.Owners.{is_noted_for, AreNoted, AreOwned, IsUnderNoted, KeepsNames, KeepsNotes, NoneShared};
 
 use crate::boxed_class::BoxedClass;
 use crate::class_draft::{ClassDraft, Definition};
@@ -83,6 +84,8 @@ pub struct Noted {
 pub struct Owners {
     instance: VariableOwners,
     class_side: VariableOwners,
+    // The names that are or were those of superclasses.
+    superclasses: NameSet,
 }
 
 impl Owners {
@@ -94,10 +97,18 @@ impl Owners {
         Owners {
             instance: VariableOwners::new(alloc),
             class_side: VariableOwners::new(alloc),
+            superclasses: NameSet::new(alloc),
         }
     }
 
-    /// Notes the instance variables of a definition, and tells what is known of them.
+    /// Whether a class of this name is or was a superclass.
+    pub fn is_superclass(&self, name: NameId) -> bool
+        ensures { result ≡ has self.now.superclasses name }
+    {
+        self.superclasses.has(name)
+    }
+
+    /// Notes the instance variables and the superclass of a definition, and tells what is known of the variables.
     pub fn note_definition(
         &mut self,
         alloc: Global,
@@ -106,12 +117,15 @@ impl Owners {
         ensures noted { OnOk result (AllByRecursion (λ m. is_noted_for self.new.instance definition.now.name m ≡ true) definition.now.instance) }
         ensures instance_kept { OnOk result (KeepsNotes self.old.instance self.new.instance) }
         ensures class_side_kept { OnOk result (KeepsNotes self.old.class_side self.new.class_side) }
+        ensures superclass { OnOk result (option_map_or (has self.new.superclasses) definition.now.superclass true ≡ true) }
+        ensures superclasses_kept { OnOk result (KeepsNames self.old.superclasses self.new.superclasses) }
         ensures alone { IfOk result (λ noted. noted.alone ≡ true → (list_any (has self.new.instance.shared) definition.now.instance ≡ false) × (hierarchy.has_repeat nat_eq definition.now.instance ≡ false)) }
         ensures instance { IfOk result (λ noted. noted.apart.instance ≡ true → (NoneShared self.new.instance) × (hierarchy.has_repeat nat_eq definition.now.instance ≡ false)) }
         ensures class_side { IfOk result (λ noted. noted.apart.class_side ≡ true → NoneShared self.new.class_side) }
     {
         let names = definition.instance.as_slice();
         self.instance.note_all(definition.name, names)?;
+        note_superclass(&mut self.superclasses, definition.superclass)?;
         let repeats = has_repeat(alloc, names)?;
         Ok(Noted {
             alone: !meets(names, &self.instance.shared) && !repeats,
@@ -132,6 +146,7 @@ impl Owners {
         ensures noted { OnOk result (AllByRecursion (λ m. is_noted_for self.new.class_side class m ≡ true) names.now) }
         ensures instance_kept { OnOk result (KeepsNotes self.old.instance self.new.instance) }
         ensures class_side_kept { OnOk result (KeepsNotes self.old.class_side self.new.class_side) }
+        ensures superclasses_kept { OnOk result (KeepsNames self.old.superclasses self.new.superclasses) }
         ensures apart { IfOk result (λ apart. apart ≡ true → (NoneShared self.new.class_side) × (hierarchy.has_repeat nat_eq names.now ≡ false)) }
     {
         self.class_side.note_all(class, names)?;
@@ -139,22 +154,36 @@ impl Owners {
         Ok(self.class_side.none_shared() && !repeats)
     }
 
-    /// Notes the variables of a class.
+    /// Notes the variables and the superclass of a class.
     fn note_class(&mut self, class: &ClassDraft) -> Result<(), Memory>
         ensures instance { OnOk result (AllByRecursion (λ m. is_noted_for self.new.instance class.now.name m ≡ true) class.now.instance) }
         ensures class_side { OnOk result (AllByRecursion (λ m. is_noted_for self.new.class_side class.now.name m ≡ true) class.now.class_side) }
         ensures instance_kept { OnOk result (KeepsNotes self.old.instance self.new.instance) }
         ensures class_side_kept { OnOk result (KeepsNotes self.old.class_side self.new.class_side) }
+        ensures superclass { OnOk result (IsUnderNoted self.new.superclasses class.now) }
+        ensures superclasses_kept { OnOk result (KeepsNames self.old.superclasses self.new.superclasses) }
     {
         self.instance
             .note_all(class.name, class.instance.as_slice())?;
         self.class_side
             .note_all(class.name, class.class_side.as_slice())?;
-        Ok(())
+        note_superclass(&mut self.superclasses, class.superclass)
     }
 }
 
-/// Which variables these classes have.
+/// Notes the name of a superclass, if there is one.
+fn note_superclass(names: &mut NameSet, superclass: Option<NameId>) -> Result<(), Memory>
+    ensures noted { OnOk result (option_map_or (has names.new) superclass true ≡ true) }
+    ensures kept { OnOk result (KeepsNames names.old names.new) }
+{
+    let Some(name) = superclass else {
+        return Ok(());
+    };
+    names.note(name)?;
+    Ok(())
+}
+
+/// Which variables and which superclasses these classes have.
 pub fn owners_of(alloc: Global, classes: &[BoxedClass]) -> Result<Owners, Memory>
     ensures { IfOk result (λ owners. AreOwned owners classes.now) }
 {

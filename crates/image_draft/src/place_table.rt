@@ -1,5 +1,5 @@
 // Places by the numbers of names.
-ghost use Rattle.std.specs.Prelude.{◌≡◌, ℕ, ◌<◌, [], None, cond, length, nat_eq, OnOk};
+ghost use Rattle.std.specs.Prelude.{◌≡◌, ℕ, ◌<◌, [], None, Some, cond, length, nat_eq, OnOk};
 ghost use Rattle.image_draft.specs.Table.{place_at, place_before, IsNoted};
 
 use rb_base::{Memory, NameId};
@@ -60,6 +60,15 @@ impl PlaceTable {
         self.places[name.0] = place;
     }
 
+    /// Notes the place of a name, instead of the one that the table may have for it.
+    pub fn put(&mut self, name: NameId, place: usize) -> Result<(), Memory>
+        ensures { OnOk result ((n : ℕ) → place_at self.new n ≡ cond (nat_eq name n) (Some place) (place_at self.old n)) }
+    {
+        self.make_room(name)?;
+        self.set(name, Some(place));
+        Ok(())
+    }
+
     /// Notes the place of a name, unless the table has one for it.
     pub fn note(&mut self, name: NameId, place: usize) -> Result<(), Memory>
         ensures { OnOk result (IsNoted self.old self.new name place) }
@@ -67,9 +76,7 @@ impl PlaceTable {
         if self.get(name).is_some() {
             return Ok(());
         }
-        self.make_room(name)?;
-        self.set(name, Some(place));
-        Ok(())
+        self.put(name, place)
     }
 
     /// Forgets the place of a name, if it has one.

@@ -1,5 +1,6 @@
 // Why changes are refused.
 ghost use Rattle.std.specs.Prelude.{◌≡◌, ◌∷◌, ◌||◌, [], Some, is_some, false, true, nat_eq, IfNone, IfOk};
+ghost use Rattle.std.specs.Option.{option_map_or};
 ghost use Rattle.image_model.specs.Chain.{chain};
 ghost use Rattle.file_model.specs.Causes.{first_cause};
 ghost use Rattle.file_model.specs.Refusals as refusals;
@@ -7,7 +8,9 @@ ghost use Rattle.file_model.specs.Hierarchy as hierarchy;
 ghost use Rattle.file_model.specs.Hierarchy.{stands_twice};
 ghost use Rattle.image_model.specs.Means.{of_instance, of_class_side};
 ghost use Rattle.image_draft.specs.Kinds.{kind_of};
+ghost use Rattle.image_draft.specs.Alone.{IsChildless};
 ghost use Rattle.image_draft.specs.Names.{AreOrdered};
+ghost use Rattle.image_draft.specs.Once.{StaysUnder};
 ghost use Rattle.image_draft.specs.Parts.{PartsOnce};
 ghost use Rattle.image_draft.specs.Early.{told, early_refusals, late_refusals, early_side_refusals, late_side_refusals};
 
@@ -15,7 +18,8 @@ use crate::class_draft::Definition;
 use crate::class_list::ClassList;
 use crate::found::{has_class, has_subclass, is_kernel_class};
 use crate::hierarchy::{ChainKind, stands_above, stands_twice};
-use crate::kept::{KeptChains, has_superclass};
+use crate::kept::KeptChains;
+use crate::standing::Standing;
 use file_faults::ImageCause;
 use rb_base::{Memory, NameId};
 use std::alloc::Global;
@@ -67,23 +71,42 @@ fn is_above(classes: &ClassList, name: NameId, class: Option<NameId>) -> bool
     }
 }
 
-/// Whether the class of a definition would stand above itself: no class does that is new or keeps its superclass.
-fn makes_cycle(classes: &ClassList, definition: &Definition) -> bool
-    requires { AreOrdered classes.now }
-    ensures { result ≡ refusals.makes_cycle nat_eq classes.now definition.now }
+/// Whether a definition names its own class as the superclass.
+fn names_itself(definition: &Definition) -> bool
+    ensures { result ≡ option_map_or (nat_eq definition.now.name) definition.now.superclass false }
 {
-    match classes.find(definition.name) {
+    match definition.superclass {
         None => false,
-        Some(class) => {
-            !has_superclass(class, definition.superclass)
-                && is_above(classes, definition.name, definition.superclass)
-        }
+        Some(above) => definition.name == above,
     }
 }
 
+/// Whether the class of a definition would stand above itself: no class does that is new or keeps its superclass, and one
+/// that is the superclass of none does only as its own superclass.
+fn makes_cycle(classes: &ClassList, definition: &Definition, standing: Standing) -> bool
+    requires order { AreOrdered classes.now }
+    requires stays { standing.stays ≡ true → StaysUnder classes.now definition.now }
+    requires childless { standing.childless ≡ true → IsChildless classes.now definition.now.name }
+    ensures { result ≡ refusals.makes_cycle nat_eq classes.now definition.now }
+{
+    if standing.stays {
+        return false;
+    }
+    if standing.childless {
+        return names_itself(definition);
+    }
+    is_above(classes, definition.name, definition.superclass)
+}
+
 /// Why a definition is refused by the classes before it.
-pub fn early_refusal(classes: &ClassList, definition: &Definition) -> Option<ImageCause>
-    requires { AreOrdered classes.now }
+pub fn early_refusal(
+    classes: &ClassList,
+    definition: &Definition,
+    standing: Standing,
+) -> Option<ImageCause>
+    requires order { AreOrdered classes.now }
+    requires stays { standing.stays ≡ true → StaysUnder classes.now definition.now }
+    requires childless { standing.childless ≡ true → IsChildless classes.now definition.now.name }
     ensures cause { told result ≡ first_cause (early_refusals classes.now definition.now) }
     ensures some { is_some result ≡ is_some (first_cause (early_refusals classes.now definition.now)) }
 {
@@ -93,7 +116,7 @@ pub fn early_refusal(classes: &ClassList, definition: &Definition) -> Option<Ima
     if lacks_superclass(classes, definition) {
         return Some(ImageCause::UnknownSuperclass);
     }
-    if makes_cycle(classes, definition) {
+    if makes_cycle(classes, definition, standing) {
         return Some(ImageCause::Cycle);
     }
     None
@@ -115,6 +138,7 @@ pub fn comment_refusal(classes: &ClassList, name: NameId) -> Option<ImageCause>
 
 /// Why the removal of a class is refused.
 pub fn class_removal_refusal(classes: &ClassList, name: NameId) -> Option<ImageCause>
+    requires { AreOrdered classes.now }
     ensures cause { told result ≡ first_cause (refusals.class_removal_refusals nat_eq classes.now name) }
     ensures some { is_some result ≡ is_some (first_cause (refusals.class_removal_refusals nat_eq classes.now name)) }
     ensures free { IfNone result (hierarchy.has_subclass nat_eq classes.now name ≡ false) }

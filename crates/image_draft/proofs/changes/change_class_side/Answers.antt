@@ -20,7 +20,7 @@ late_side_refusal-requires-clause-kept c =
     let is : c.put_class_side.new.classes ≡ with_class_side nat_eq c.args.name c.args.names classes = c.put_class_side.ensures.changed ∙ ap (with_class_side nat_eq c.args.name c.args.names) c.take_all-after.ensures.taken in
     of_either c.keeps_side-kept.result c.in_ok-apart.apart c.is_either.result c.is_either.ensures
     (λ same. side_free classes c.args.name c.args.names c.requires.sound c.put_class_side.new.classes is (subst (λ (names : List ℕ). KeepsSide classes c.args.name names) c.as_slice-2.ensures (c.keeps_side-kept.ensures same)))
-    (λ apart. side_apart classes c.put_class_side.new.classes c.args.name c.args.names c.requires.sound is c.args.owners.now c.note_side.new.self c.requires.owned c.in_ok-apart.ensures.instance_kept c.in_ok-apart.ensures.class_side_kept
+    (λ apart. side_apart classes c.put_class_side.new.classes c.args.name c.args.names c.requires.sound is c.args.owners.now c.note_side.new.self c.requires.owned c.in_ok-apart.ensures.instance_kept c.in_ok-apart.ensures.class_side_kept c.in_ok-apart.ensures.superclasses_kept
     (subst (λ (names : List ℕ). AllByRecursion (λ m. is_noted_for c.note_side.new.self.class_side c.args.name m ≡ true) names) c.as_slice-3.ensures c.in_ok-apart.ensures.noted) (c.in_ok-apart.ensures.apart apart).0 (ap (has_repeat nat_eq) (sym c.as_slice-3.ensures) ∙ (c.in_ok-apart.ensures.apart apart).1) c.args.name)
 
 pub returns-clause-sound : goal.returns-clause-sound
@@ -30,5 +30,5 @@ returns-clause-sound c =
 
 pub returns-clause-owned : goal.returns-clause-owned
 returns-clause-owned c =
-    side_owned c.args.classes.now c.put_class_side.new.classes c.args.name c.args.names c.requires.sound (c.put_class_side.ensures.changed ∙ ap (with_class_side nat_eq c.args.name c.args.names) c.take_all-after.ensures.taken) c.args.owners.now c.note_side.new.self c.requires.owned c.in_ok-apart.ensures.instance_kept c.in_ok-apart.ensures.class_side_kept
+    side_owned c.args.classes.now c.put_class_side.new.classes c.args.name c.args.names c.requires.sound (c.put_class_side.ensures.changed ∙ ap (with_class_side nat_eq c.args.name c.args.names) c.take_all-after.ensures.taken) c.args.owners.now c.note_side.new.self c.requires.owned c.in_ok-apart.ensures.instance_kept c.in_ok-apart.ensures.class_side_kept c.in_ok-apart.ensures.superclasses_kept
     (subst (λ (names : List ℕ). AllByRecursion (λ m. is_noted_for c.note_side.new.self.class_side c.args.name m ≡ true) names) c.as_slice-3.ensures c.in_ok-apart.ensures.noted)

@@ -2,10 +2,12 @@ use Rattle.std.proofs.Common.{◌≡◌, ℕ, List, nat_eq, sym, ap, subst, ◌�
 use Rattle.std.specs.Prelude.{if◌then◌else◌}
 use Rattle.std.proofs.lemmas.Result.{IfOk-weaker}
 use Rattle.image_model.specs.Image.{ClassOf}
-use Rattle.file_model.specs.Hierarchy.{has_class}
+use Rattle.file_model.specs.Hierarchy.{has_class, has_subclass}
 use Rattle.file_model.specs.Applied.{with_definition, defined}
 use Rattle.file_laws.specs.Settling.{put_behind}
-use Rattle.image_draft.specs.Names.{AreOrdered}
+use Rattle.image_draft.specs.Names.{NamesDiffer, AreOrdered}
+use Rattle.image_draft.proofs.Childless.{still_childless}
+use Rattle.image_draft.proofs.Differ.{NamesDiffer-with_definition}
 use Rattle.image_draft.proofs.Ordered.{defined_is, defined_ordered, defined_kept}
 use Rattle.image_draft.proofs.define.put_in_order.Goals as goal
 
@@ -30,3 +32,11 @@ pub returns-clause-kept : goal.returns-clause-kept
 returns-clause-kept c =
     IfOk-weaker c.in_order.result (λ ordered. ordered ≡ defined nat_eq c.args.kernel c.args.definition c.args.classes) _
     (λ ordered e n h. ap (λ (cs : List (ClassOf ℕ)). has_class nat_eq cs n) e ∙ defined_kept c.args.classes c.args.definition c.args.kernel c.requires.order c.requires.free n h) (returns-clause-changed c)
+
+pub in_order-requires-clause-differ : goal.in_order-requires-clause-differ
+in_order-requires-clause-differ c =
+    subst NamesDiffer (sym c.in_ok-put_definition.ensures) (NamesDiffer-with_definition c.args.kernel c.args.definition c.args.classes c.requires.order.differ)
+
+pub in_order-requires-clause-childless : goal.in_order-requires-clause-childless
+in_order-requires-clause-childless c = λ childless.
+    (λ i. has_subclass nat_eq (c.in_ok-put_definition.ensures i) (c.name_of-name.ensures i)) ∙ still_childless c.args.classes c.args.definition c.requires.free (c.requires.childless childless) c.args.kernel

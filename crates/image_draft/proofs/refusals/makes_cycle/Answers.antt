@@ -1,20 +1,24 @@
-use Rattle.std.proofs.Common.{◌≡◌, not, None, Some, option_copied, nat_eq, sym, ap, ◌∙◌}
-use Rattle.image_model.specs.Chain.{class_named}
+use Rattle.std.proofs.Common.{◌≡◌, ℕ, List, false, Option, None, Some, IfSome, nat_eq, refl, sym, ◌∙◌}
+use Rattle.image_model.specs.Image.{ClassOf}
+use Rattle.image_model.specs.Chain.{class_named, chain}
+use Rattle.file_model.specs.Changes.{DefinitionOf}
+use Rattle.file_model.specs.Hierarchy.{stands_in}
+use Rattle.image_draft.specs.Names.{AreOrdered}
+use Rattle.image_draft.specs.Once.{StaysUnder}
+use Rattle.image_draft.proofs.Childless.{childless_chain}
 use Rattle.image_draft.proofs.Sound.{new_above, never_above}
 use Rattle.image_draft.proofs.refusals.makes_cycle.Goals as goal
 
-pub returns-in-None : goal.returns-in-None
-returns-in-None c =
-    let name : c.definition.inside.name ≡ c.args.definition.now.name = ap (λ d. d.name) c.definition.view_is in
-    let none : class_named nat_eq c.args.classes.now c.args.definition.now.name ≡ None =
-    ap (class_named nat_eq c.args.classes.now) (sym name) ∙ sym c.find.ensures ∙ ap option_copied c.in-None.is in
-    sym (new_above c.args.classes.now c.args.definition.now.name c.args.definition.now.superclass none)
+-- a class that is new or keeps its superclass does not stand above itself
+stays_clear : (cs : List (ClassOf ℕ)) (d : DefinitionOf ℕ) → AreOrdered cs → StaysUnder cs d → stands_in nat_eq d.name (chain nat_eq cs d.superclass) ≡ false
+stays_clear cs d o stays = by (class_named nat_eq cs d.name) refl stays
+  where
+    by : (q : Option (ClassOf ℕ)) → class_named nat_eq cs d.name ≡ q → IfSome q (λ (c : ClassOf ℕ). c.superclass ≡ d.superclass) → stands_in nat_eq d.name (chain nat_eq cs d.superclass) ≡ false
+    by None e h = new_above cs d.name d.superclass e
+    by (Some c) e h = never_above cs d.name c d.superclass o e h
 
-pub returns-else-not-has_superclass : goal.returns-else-not-has_superclass
-returns-else-not-has_superclass c =
-    let name : c.definition.inside.name ≡ c.args.definition.now.name = ap (λ d. d.name) c.definition.view_is in
-    let under : c.definition.inside.superclass ≡ c.args.definition.now.superclass = ap (λ d. d.superclass) c.definition.view_is in
-    let found : class_named nat_eq c.args.classes.now c.args.definition.now.name ≡ Some c.in-Some.class.now =
-    ap (class_named nat_eq c.args.classes.now) (sym name) ∙ sym c.in-Some.ensures in
-    ap not c.if-not-has_superclass.false
-    ∙ sym (never_above c.args.classes.now c.args.definition.now.name c.in-Some.class.now c.args.definition.now.superclass c.requires found (c.has_superclass.ensures c.if-not-has_superclass.false ∙ under))
+pub returns-then-standing : goal.returns-then-standing
+returns-then-standing c = sym (stays_clear c.args.classes.now c.args.definition.now c.requires.order (c.requires.stays c.if-standing.true))
+
+pub returns-then-standing-2 : goal.returns-then-standing-2
+returns-then-standing-2 c = c.names_itself.ensures ∙ sym (childless_chain c.args.classes.now c.args.definition.now.name (c.requires.childless c.if-standing-2.true) c.args.definition.now.superclass)
