@@ -29,13 +29,16 @@ awk 'BEGIN {
     printf " !\n"
 }' > "$folder/methods.st"
 # Classes that are defined twice. The first word is how they are defined for the first time, the second one how they are
-# defined again: in chains of 100, below Object, as one chain in which each is below the one before it, or below the one
-# behind it; the third word is what is new the second time, or `one` where each class has a variable of one name at first.
+# defined again: in chains of 100, below Object, in pairs, as one chain in which each is below the one before it, or below the
+# one behind it, or pairs below the ones behind them; the third word is what is new the second time, or `one` where each class
+# that is not the lower one of a pair has a variable of one name at first, or `once` where each was a superclass before that.
 classes() {
     awk -v first="$1" -v second="$2" -v fresh="$3" '
     function above(shape, n) {
         if (shape == "chains") return n % 100 == 0 ? "Object" : "C" (n - 1)
         if (shape == "chain") return n == 0 ? "Object" : "C" (n - 1)
+        if (shape == "pairs") return n % 2 == 0 ? "Object" : "C" (n - 1)
+        if (shape == "pairs-behind") return n == 9898 ? "Object" : "C" (n + 3)
         if (shape == "behind") return n == 9899 ? "Object" : "C" (n + 1)
         return "Object"
     }
@@ -43,8 +46,11 @@ classes() {
         printf "%s subclass: #C%d instanceVariableNames: '"'%s'"' classVariableNames: '"''"' poolDictionaries: '"''"' category: '"''"'%s!\n", above(shape, n), n, variable, more
     }
     BEGIN {
-        for (n = 0; n < 9900; n++) defines(first, n, fresh == "variable" || fresh == "variables" ? "v" n : fresh == "one" ? "v" : "", "")
+        if (fresh == "once") for (n = 0; n < 9900; n++) defines("chain", n, "", "")
+        for (n = 0; n < 9900; n++)
+            defines(first, n, fresh == "variable" || fresh == "variables" ? "v" n : fresh == "once" || fresh == "one" && (first != "pairs" || n % 2 == 0) ? "v" : "", "")
         if (second == "behind") for (n = 9899; n >= 0; n--) defines(second, n, "", "")
+        else if (second == "pairs-behind") for (n = 9898; n >= 0; n -= 2) defines(second, n, "", "")
         else if (second != "none") for (n = 0; n < 9900; n++)
             defines(second, n, fresh == "variable" ? "w" n : "", fresh == "place" ? " at: " (9900 - n) : fresh == "mixed" && n % 2 ? " at: 1" : "")
     }'
@@ -57,6 +63,8 @@ classes chain chain variable > "$folder/deeper.st"
 classes object chain none > "$folder/chain.st"
 classes object behind none > "$folder/behind.st"
 classes object behind one > "$folder/worst.st"
+classes object behind once > "$folder/once.st"
+classes pairs pairs-behind one > "$folder/pairs.st"
 classes object object place > "$folder/placed.st"
 classes chains chains mixed > "$folder/mixed.st"
 awk 'BEGIN {
@@ -64,7 +72,7 @@ awk 'BEGIN {
     for (n = 80000; n > 0; n--) printf "!A methodsFor: '"''"' at: %d!m%d ^1! !\n", n, n
 }' > "$folder/places.st"
 
-for name in ordinary blanks marks comment method methods same lower variable deep deeper chain behind worst placed mixed places; do
+for name in ordinary blanks marks comment method methods same lower variable deep deeper chain behind worst once pairs placed mixed places; do
     file=$folder/$name.st
     status=0
     /usr/bin/env time -f '%U %S %M' -o "$folder/times" "$program" format "$file" > "$folder/out" || status=$?
