@@ -5,6 +5,7 @@ use std::alloc::Global;
 use std::process::Abort;
 use std::test::Fail;
 
+mod moves;
 mod places;
 mod texts;
 
@@ -57,6 +58,14 @@ fn file_outs_are_refused(rt: HostRuntime) -> Result<(), Fail> {
     answers(&rt, alloc, 3, &texts::refused_one())?;
     answers(&rt, alloc, 3, &texts::refused_two())?;
     answers(&rt, alloc, 3, &texts::refused_three())?;
+    Ok(())
+}
+
+#[test]
+fn classes_go_behind_their_superclasses(rt: HostRuntime) -> Result<(), Fail> {
+    let alloc = rt.alloc();
+    answers(&rt, alloc, 0, &moves::moved())?;
+    answers(&rt, alloc, 3, &moves::refused())?;
     Ok(())
 }
 
