@@ -1,5 +1,5 @@
 -- Names that a tree declares twice are those that its events declare twice.
-use Rattle.std.proofs.Common.{◌≡◌, ℕ, Bool, true, false, ◌||◌, if◌then◌else◌, List, [], ◌∷◌, ◌++◌, Option, Some, None, refl, sym, ap, ◌∙◌, append_assoc}
+use Rattle.std.proofs.Common.{◌≡◌, ℕ, ◌+◌, ◌<◌, length, arith, Bool, true, false, ◌||◌, if◌then◌else◌, List, [], ◌∷◌, ◌++◌, Option, Some, None, refl, sym, ap, ◌∙◌, append_assoc}
 use Rattle.std.specs.Prelude.{is_some}
 use Rattle.std.proofs.Math.Bool.{or_comm}
 use Rattle.std.specs.List.{list_any}
@@ -11,9 +11,11 @@ use Rattle.tree_model.specs.Tree.{LiteralOf, number, str, symbol, char, array, b
 use Rattle.grammar_model.specs.Terminal.{Text}
 use Rattle.grammar_model.specs.Checks.{first_repeat, duplicate_in, duplicate_in_trees, duplicate_in_messages, duplicate_in_statements}
 use Rattle.grammar_model.specs.Spanned.{Declared, SpannedTree, Var, Literal, Send, Cascade, Assign, Block, Brace, Return, SpannedTrees, NoTrees, MoreTrees, SpannedMessages, NoMessages, MoreMessages, SpannedStatements, NoStatements, MoreStatements}
+use Rattle.parse_events.specs.declared.event.Declaration.{Declaration}
 use Rattle.parse_events.specs.declared.event.Event.{Event}
 use Rattle.parse_events.specs.declared.event.Event.TheVariants as event
 use Rattle.parse_events.specs.Found.{count_literals, count_trees, count_messages, count_statements, literal_events, literals_events, tree_events, trees_events, messages_events, statements_events}
+use Rattle.event_checks.specs.Lists.{declared}
 use Rattle.event_checks.specs.Duplicates.{first_duplicate_in}
 use Rattle.event_checks.proofs.Lists.{both_again, option_or_assoc, option_or_none, last_of, last_of_two}
 
@@ -123,3 +125,12 @@ mutual
 -- the first name that statements declare twice
 pub repeats_all : (ss : SpannedStatements) → first_duplicate_in (statements_events ss) ≡ duplicate_in_statements ss
 repeats_all ss = ap first_duplicate_in (sym (append-nil (statements_events ss))) ∙ repeats_statements ss [] ∙ option_or_none (duplicate_in_statements ss)
+
+-- one name does not repeat
+pub one_at_most : (first second : List Declaration) → length first + length second < 2 → first_repeat [] (declared first ++ declared second) ≡ None
+one_at_most [] [] h = refl
+one_at_most [] (d ∷ []) h = refl
+one_at_most [] (d ∷ e ∷ ds) h = absurd (omega (arith, h))
+one_at_most (d ∷ []) [] h = refl
+one_at_most (d ∷ []) (e ∷ ds) h = absurd (omega (arith, h))
+one_at_most (d ∷ e ∷ ds) es h = absurd (omega (arith, h))

@@ -1,5 +1,5 @@
 // Names that are declared twice in one list.
-ghost use Rattle.std.specs.Prelude.{◌≡◌, [], ◌∷◌, ◌++◌, List, false, Option, IfOk};
+ghost use Rattle.std.specs.Prelude.{◌≡◌, [], ◌∷◌, ◌++◌, List, true, false, Option, None, IfOk};
 ghost use Rattle.std.specs.List.{list_any};
 ghost use Rattle.std.specs.Option.{option_or};
 ghost use Rattle.std.specs.Str.{bytes_eq};
@@ -35,6 +35,19 @@ fn repeat_among(names: &mut Names, declarations: &[Declaration]) -> Result<Optio
     Ok(None)
 }
 
+/// Whether a list of two parts declares at most one name, which cannot be declared twice.
+fn has_one_at_most(first: &[Declaration], second: &[Declaration]) -> bool
+    ensures { result ≡ true → first_repeat [] (declared first.now ++ declared second.now) ≡ None }
+{
+    if first.is_empty() {
+        return second.len() < 2;
+    }
+    if second.is_empty() {
+        return first.len() < 2;
+    }
+    false
+}
+
 /// The place of the first declaration of a name that was declared before, in one list of two parts.
 fn repeat_in(
     alloc: Global,
@@ -43,6 +56,9 @@ fn repeat_in(
 ) -> Result<Option<usize>, Memory>
     ensures { IfOk result (λ repeat. repeat ≡ first_repeat [] (declared first.now ++ declared second.now)) }
 {
+    if has_one_at_most(first, second) {
+        return Ok(None);
+    }
     let mut names = Names::new(alloc);
     let repeat = repeat_among(&mut names, first)?;
     if repeat.is_some() {

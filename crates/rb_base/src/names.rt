@@ -66,6 +66,9 @@ impl Names {
         ensures number { IfOk result (λ n. Some n ≡ number_in self.new text.now) }
         ensures err { OnErr result (self.new ≡ self.old) }
     {
+        if let Some(number) = self.find(text) {
+            return Ok(number);
+        }
         let text = Vec::from_slice(self.alloc, text)?;
         let (number, _) = self.set.insert_full(text)?;
         Ok(NameId(number))

@@ -21,6 +21,9 @@ use std::mem;
 fn append(alloc: Global, held: &mut Comments, notes: Comments) -> Result<(), Memory>
     ensures { IfOk result (λ _. held.new ≡ held.old ++ notes) }
 {
+    if notes.as_slice().is_empty() {
+        return Ok(());
+    }
     let mut items = mem::replace(held, Comments::new(alloc)).into_vec();
     let mut more = notes.into_vec();
     items.append(&mut more)?;

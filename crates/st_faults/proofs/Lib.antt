@@ -4,3 +4,4 @@ pub mod Skipping
 pub mod Scanning
 pub mod Passing
 pub mod Reading
+pub mod Together

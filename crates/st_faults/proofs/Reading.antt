@@ -2,6 +2,7 @@
 use Rattle.std.proofs.Common.{◌≡◌, ◌≢◌, ℕ, inl, inr, List, [], ◌∷◌, Some, None, refl, sym, ◌∙◌, ap, subst}
 use Rattle.std.specs.Option.{option_map_or}
 use Rattle.token_model.specs.declared.kind.Dialect.TheVariants.{Second}
+use Rattle.tree_model.specs.Tree.{Notes, LiteralOf}
 use Rattle.grammar_model.specs.Terminal.{Text}
 use Rattle.grammar_model.specs.Input as input
 use Rattle.grammar_model.specs.Input.{lex}
@@ -44,11 +45,15 @@ reads_none form t ss clean first = record {
   good = subst IsGood (sym first) (good_start form);
 }
 
+-- the machine goes on behind a token
+pub goes_behind : (l : Lexeme) (ss new : Stack) (notes : Notes) (s : Text) (k : LiteralOf Text) (ts : List input.Lexeme) → step ss (terminal l.sort s k) ≡ Some new → run ss (lex notes l.from l.to (terminal l.sort s k) ∷ ts) ≡ run new ts
+goes_behind l ss new notes s k ts e =
+    let left = lex notes l.from l.to (terminal l.sort s k) ∷ ts in
+    ap (λ o. option_map_or (λ s'. run s' ts) o (Some (At left (wish ss) (may_start ss)))) e
+
 -- the machine goes on behind the first token
 goes_on : (t : Text) (l : Lexeme) (ss new : Stack) (ts : List input.Lexeme) (s : Split t l ts) → step ss (terminal l.sort s.text s.literal) ≡ Some new → run ss ts ≡ run new s.rest
-goes_on t l ss new ts s e =
-    let left = lex s.notes l.from l.to (terminal l.sort s.text s.literal) ∷ s.rest in
-    ap (run ss) s.whole ∙ ap (λ o. option_map_or (λ s'. run s' s.rest) o (Some (At left (wish ss) (may_start ss)))) e
+goes_on t l ss new ts s e = ap (run ss) s.whole ∙ goes_behind l ss new s.notes s.text s.literal s.rest e
 
 -- the tokens behind one that is not the end
 rest_behind : (t : Text) (l : Lexeme) (ts : List input.Lexeme) → l.sort ≢ TextEnd → IsBehind t l ts → IsLexedFrom t l.to [] ts
@@ -73,7 +78,7 @@ reads_one form t at l ss new r s other e = record {
 }
 
 -- where nothing is left to come, all is well
-run_nil : (ss : Stack) → IsNil ss → run ss [] ≡ None
+pub run_nil : (ss : Stack) → IsNil ss → run ss [] ≡ None
 run_nil [] n = refl
 run_nil (p ∷ ss) n = absurd n
 

@@ -1,4 +1,4 @@
-ghost use Rattle.std.specs.Prelude.{◌≡◌, List, [], ◌∷◌, IfOk, IfErr};
+ghost use Rattle.std.specs.Prelude.{◌≡◌, List, [], ◌∷◌, is_some, IfOk, IfErr};
 ghost use Rattle.token_model.specs.declared.kind.Dialect.TheVariants.{Second};
 ghost use Rattle.tree_model.specs.Tree.{Notes, LiteralOf};
 ghost use Rattle.grammar_model.specs.Terminal.{Text};
@@ -21,15 +21,25 @@ const MOST_OPEN: usize = 400;
 
 /// How deep the brackets are.
 #[derive(Clone, Copy)]
-enum Depth {
+pub enum Depth {
     /// So many stand open.
     Open(usize),
     /// The bracket at this place was the first too deep one.
     TooDeep(usize),
 }
 
+/// Whether a bracket was too deep.
+pub fn is_too_deep(depth: Depth) -> bool
+    ensures { result ≡ is_some (deep_behind depth []) }
+{
+    match depth {
+        Depth::Open(_) => false,
+        Depth::TooDeep(_) => true,
+    }
+}
+
 /// How deep the brackets are behind one more token.
-fn depth_behind(depth: Depth, lexeme: Lexeme) -> Depth
+pub fn depth_behind(depth: Depth, lexeme: Lexeme) -> Depth
     ensures { (notes : Notes) (s : Text) (l : LiteralOf Text) (ts : List input.Lexeme) →
         deep_behind depth (lex notes lexeme.from lexeme.to (terminal lexeme.sort s l) ∷ ts) ≡ deep_behind result ts }
 {

@@ -1,4 +1,4 @@
-ghost use Rattle.std.specs.Prelude.{◌≡◌, ◌≤◌, List, [], ◌∷◌, length, Some, IfOk, IfErr};
+ghost use Rattle.std.specs.Prelude.{◌≡◌, ◌≤◌, true, List, [], ◌∷◌, length, Some, IfOk, IfErr};
 ghost use Rattle.tree_model.specs.Tree.{Notes, LiteralOf};
 ghost use Rattle.grammar_model.specs.Terminal.{Text, Binary, Less};
 ghost use Rattle.grammar_model.specs.Input as input;
@@ -11,7 +11,7 @@ ghost use Rattle.st_faults.specs.Stacks.{stack_of};
 ghost use Rattle.st_faults.specs.Forms.{form_of};
 ghost use Rattle.st_faults.specs.Faults.{fault_of, IsClean, IsRead, IsRefused};
 
-use crate::brackets::scan;
+use crate::brackets::{Depth, depth_behind, is_too_deep, scan};
 use crate::fault::ParseFault;
 use crate::lexeme::{Lexeme, next_lexeme};
 use crate::part::{ClosingPart, MethodPart, Part, SequencePart};
@@ -113,14 +113,51 @@ fn read_all(text: &[u8], form: TextForm, stack: &mut Vec<Part>) -> Result<(), Pa
     }
 }
 
-/// Whether a text is of the form by the grammar.
-fn check(alloc: Global, text: &[u8], form: TextForm) -> Result<(), ParseFault>
+/// Reads the tokens of a text up to its end, or up to the first at which it has a fault, and tells whether it has none.
+fn is_read(text: &[u8], form: TextForm, stack: &mut Vec<Part>) -> Result<bool, Memory>
+    requires { stack_of stack.old.items ≡ start (form_of form) }
+    ensures { IfOk result (λ read. read ≡ true → IsRead (form_of form) text.now) }
+{
+    let mut place = 0;
+    let mut depth = Depth::Open(0);
+    'tokens: loop {
+        let Ok(lexeme) = next_lexeme(text, place) else {
+            return Ok(false);
+        };
+        depth = depth_behind(depth, lexeme);
+        if is_too_deep(depth) {
+            return Ok(false);
+        }
+        if !read(stack, lexeme.sort)? {
+            return Ok(false);
+        }
+        match lexeme.sort {
+            Sort::TextEnd => return Ok(true),
+            _ => place = lexeme.to,
+        }
+    }
+}
+
+/// Whether a text is of the form by the grammar, or its first fault: of its tokens and brackets, and then by the grammar.
+fn judge(alloc: Global, text: &[u8], form: TextForm) -> Result<(), ParseFault>
     ensures read { IfOk result (λ _. IsRead (form_of form) text.now) }
     ensures fault { IfErr result (IsRefused (form_of form) text.now) }
 {
     scan(text)?;
     let mut stack = start(alloc, form)?;
     read_all(text, form, &mut stack)
+}
+
+/// Whether a text is of the form by the grammar. A text without a fault is read once.
+fn check(alloc: Global, text: &[u8], form: TextForm) -> Result<(), ParseFault>
+    ensures read { IfOk result (λ _. IsRead (form_of form) text.now) }
+    ensures fault { IfErr result (IsRefused (form_of form) text.now) }
+{
+    let mut stack = start(alloc, form)?;
+    if is_read(text, form, &mut stack)? {
+        return Ok(());
+    }
+    judge(alloc, text, form)
 }
 
 /// Whether a text is a do-it by the grammar: it has no lexical fault, at most 400 open brackets, and no token that can
