@@ -1,7 +1,7 @@
 // The text of the kernel classes against tables of them, and the lists of selectors.
-use super::*;
-use crate::table::{CLASSES, ClassRow, RUNS, RunRow};
+use crate::kernel_table::{CLASSES, ClassRow, RUNS, RunRow};
 use rb_base::{Memory, Text};
+use st_kernel::{is_control_selector, is_reflective, is_reserved, prelude};
 use std::test::Fail;
 
 /// Appends the definition of a class.

@@ -1,10 +1,13 @@
-// What no clause says: the answers for one method, read by hand, and that the calls succeed where there is memory.
+// What no clause says of `st_scope`: the answers for one method, read by hand, and that the calls succeed where there is
+// memory.
 // Names by number: 0 t, 1 x, 2 y, 3 a, 4 b, 5 self, 6 ifTrue:ifFalse:, 7 m:.
-use super::*;
+use crate::build::{block, ids, one, path, sequence, variable};
 use rb_base::{Ids, Memory, NameId, Names};
-use st_tree::{
-    Comments, Method, Node, NodeKind, Nodes, Part, Path, Sequence, Statement, Statements,
+use st_scope::{
+    Local, assigned_in_closure, assigned_in_closure_doit, free_names, free_names_doit, is_control,
+    local_at, local_at_doit,
 };
+use st_tree::{Comments, Method, Node, NodeKind, Nodes, Part, Path, Sequence};
 use std::alloc::Global;
 use std::test::Fail;
 
@@ -14,12 +17,6 @@ fn table(alloc: Global) -> Result<Names, Memory> {
         names.intern(text.as_bytes())?;
     }
     Ok(names)
-}
-
-fn var(name: usize) -> Node {
-    Node {
-        kind: NodeKind::Var { name: NameId(name) },
-    }
 }
 
 fn assign(alloc: Global, name: usize, value: Node) -> Result<Node, Memory> {
@@ -32,56 +29,21 @@ fn assign(alloc: Global, name: usize, value: Node) -> Result<Node, Memory> {
     })
 }
 
-fn ids(alloc: Global, names: &[NameId]) -> Result<Ids, Memory> {
-    Ok(Ids::from_vec(Vec::from_slice(alloc, names)?))
-}
-
-fn body(alloc: Global, temporaries: &[NameId], nodes: Nodes) -> Result<Sequence, Memory> {
-    let mut statements = Statements::new(alloc);
-    for node in nodes.into_vec() {
-        statements.push(Statement {
-            comments: Comments::new(alloc),
-            node,
-        })?;
-    }
-    Ok(Sequence {
-        temporaries: ids(alloc, temporaries)?,
-        statements,
-        tail: Comments::new(alloc),
-    })
-}
-
-fn block(
-    alloc: Global,
-    parameters: &[NameId],
-    temporaries: &[NameId],
-    nodes: Nodes,
-) -> Result<Node, Memory> {
-    let parameters = ids(alloc, parameters)?;
-    let body = Box::new(alloc, body(alloc, temporaries, nodes)?)?;
-    Ok(Node {
-        kind: NodeKind::Block { parameters, body },
-    })
-}
-
 /// `[name := value]`
 fn assigning(alloc: Global, name: usize, value: usize) -> Result<Node, Memory> {
-    let mut nodes = Nodes::new(alloc);
-    nodes.push(assign(alloc, name, var(value))?)?;
+    let nodes = one(alloc, assign(alloc, name, variable(value))?)?;
     block(alloc, &[], &[], nodes)
 }
 
 /// `[:t | self]`
 fn inner_block(alloc: Global) -> Result<Node, Memory> {
-    let mut nodes = Nodes::new(alloc);
-    nodes.push(var(5))?;
+    let nodes = one(alloc, variable(5))?;
     block(alloc, &[NameId(0)], &[], nodes)
 }
 
 /// `[:x | | y | y := t. [:t | self]]`
 fn outer_block(alloc: Global) -> Result<Node, Memory> {
-    let mut nodes = Nodes::new(alloc);
-    nodes.push(assign(alloc, 2, var(0))?)?;
+    let mut nodes = one(alloc, assign(alloc, 2, variable(0))?)?;
     nodes.push(inner_block(alloc)?)?;
     block(alloc, &[NameId(1)], &[NameId(2)], nodes)
 }
@@ -91,12 +53,17 @@ fn first_statement(alloc: Global) -> Result<Node, Memory> {
     assign(alloc, 0, outer_block(alloc)?)
 }
 
+/// `[t := a]` and `[t := b]`
+fn alternatives(alloc: Global) -> Result<Nodes, Memory> {
+    let mut arguments = one(alloc, assigning(alloc, 0, 3)?)?;
+    arguments.push(assigning(alloc, 0, 4)?)?;
+    Ok(arguments)
+}
+
 /// `a ifTrue: [t := a] ifFalse: [t := b]`
 fn second_statement(alloc: Global) -> Result<Node, Memory> {
-    let mut arguments = Nodes::new(alloc);
-    arguments.push(assigning(alloc, 0, 3)?)?;
-    arguments.push(assigning(alloc, 0, 4)?)?;
-    let receiver = Box::new(alloc, var(3))?;
+    let arguments = alternatives(alloc)?;
+    let receiver = Box::new(alloc, variable(3))?;
     Ok(Node {
         kind: NodeKind::Send {
             receiver,
@@ -108,8 +75,7 @@ fn second_statement(alloc: Global) -> Result<Node, Memory> {
 
 /// The two statements above.
 fn first_two(alloc: Global) -> Result<Nodes, Memory> {
-    let mut nodes = Nodes::new(alloc);
-    nodes.push(first_statement(alloc)?)?;
+    let mut nodes = one(alloc, first_statement(alloc)?)?;
     nodes.push(second_statement(alloc)?)?;
     Ok(nodes)
 }
@@ -118,7 +84,7 @@ fn first_two(alloc: Global) -> Result<Nodes, Memory> {
 fn whole_body(alloc: Global, last: usize) -> Result<Sequence, Memory> {
     let mut nodes = first_two(alloc)?;
     nodes.push(assigning(alloc, last, 4)?)?;
-    body(alloc, &[NameId(0)], nodes)
+    sequence(alloc, &[NameId(0)], nodes)
 }
 
 /// `m: a` with that body.
@@ -132,10 +98,6 @@ fn method(alloc: Global, last: usize) -> Result<Method, Memory> {
         primitive: None,
         body,
     })
-}
-
-fn path(alloc: Global, steps: &[usize]) -> Result<Path, Memory> {
-    Ok(Path::from_vec(Vec::from_slice(alloc, steps)?))
 }
 
 fn local(alloc: Global, steps: &[usize], name: usize) -> Result<Local, Memory> {

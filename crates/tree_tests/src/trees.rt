@@ -1,14 +1,14 @@
-// What no clause says: heights and paths by examples, that copies succeed where there is memory, and deep trees.
-use super::*;
+// What no clause says of `st_tree`: heights and paths by examples, that copies succeed where there is memory, and deep
+// trees.
+use crate::build::{block, cascade, one, path, sent, sequence, variable};
 use rb_base::{Ids, Memory, NameId, Text};
+use st_tree::{
+    Comments, Literal, LiteralKind, Literals, Method, Node, NodeKind, Path, Sequence, Statement,
+    Statements, height, part_at, part_at_doit, replace_at, replace_at_doit, same, size, size_doit,
+    try_copy, try_copy_doit,
+};
 use std::alloc::Global;
 use std::test::Fail;
-
-fn variable(name: usize) -> Node {
-    Node {
-        kind: NodeKind::Var { name: NameId(name) },
-    }
-}
 
 fn comments(alloc: Global, text: &[u8]) -> Result<Comments, Memory> {
     let mut comments = Comments::new(alloc);
@@ -16,74 +16,44 @@ fn comments(alloc: Global, text: &[u8]) -> Result<Comments, Memory> {
     Ok(comments)
 }
 
-/// `inner with: argument`
-fn sent(alloc: Global, inner: Node, argument: usize) -> Result<Node, Memory> {
-    let mut arguments = Nodes::new(alloc);
-    arguments.push(variable(argument))?;
-    Ok(Node {
-        kind: NodeKind::Send {
-            receiver: Box::new(alloc, inner)?,
-            selector: NameId(1),
-            arguments,
-        },
-    })
+/// The node as the only statement, with a comment before it.
+fn commented(alloc: Global, node: Node) -> Result<Statements, Memory> {
+    let comments = comments(alloc, b"before")?;
+    let mut statements = Statements::new(alloc);
+    statements.push(Statement { comments, node })?;
+    Ok(statements)
 }
 
 /// The node as the only statement, with a comment before it and one behind it.
 fn body_of(alloc: Global, node: Node) -> Result<Sequence, Memory> {
-    let mut statements = Statements::new(alloc);
-    let comments_before = comments(alloc, b"before")?;
-    statements.push(Statement {
-        comments: comments_before,
-        node,
-    })?;
     Ok(Sequence {
         temporaries: Ids::new(alloc),
-        statements,
+        statements: commented(alloc, node)?,
         tail: comments(alloc, b"behind")?,
     })
 }
 
-/// `[inner with: argument]`
-fn block(alloc: Global, inner: Node) -> Result<Node, Memory> {
-    let body = body_of(alloc, sent(alloc, inner, 7)?)?;
-    Ok(Node {
-        kind: NodeKind::Block {
-            parameters: Ids::new(alloc),
-            body: Box::new(alloc, body)?,
-        },
-    })
+/// `[inner m: 7]`
+fn wrapped(alloc: Global, inner: Node) -> Result<Node, Memory> {
+    let nodes = one(alloc, sent(alloc, inner, 7)?)?;
+    block(alloc, &[], &[], nodes)
 }
 
-fn add_message(alloc: Global, messages: &mut Messages, arguments: &[usize]) -> Result<(), Memory> {
-    let mut nodes = Nodes::new(alloc);
-    for name in arguments {
-        nodes.push(variable(*name))?;
+fn nested_blocks(alloc: Global, levels: usize) -> Result<Node, Memory> {
+    let mut node = variable(0);
+    for _ in 0..levels {
+        node = wrapped(alloc, node)?;
     }
-    messages.push(Message {
-        selector: NameId(2),
-        arguments: nodes,
-    })
+    Ok(node)
 }
 
-/// `19 m: 20 m: 21; m: 22; m: 23 m: 24`
-fn cascade(alloc: Global) -> Result<Node, Memory> {
-    let mut messages = Messages::new(alloc);
-    add_message(alloc, &mut messages, &[20, 21])?;
-    add_message(alloc, &mut messages, &[22])?;
-    add_message(alloc, &mut messages, &[23, 24])?;
-    Ok(Node {
-        kind: NodeKind::Cascade {
-            receiver: Box::new(alloc, variable(19))?,
-            messages,
-        },
-    })
-}
-
-fn path(alloc: Global, steps: &[usize]) -> Result<Path, Memory> {
+/// From a do-it with so many nested blocks to the innermost receiver.
+fn deep_path(alloc: Global, levels: usize) -> Result<Path, Memory> {
     let mut path = Path::new(alloc);
-    for step in steps {
-        path.push(*step)?;
+    path.push(0)?;
+    for _ in 0..levels {
+        path.push(0)?;
+        path.push(0)?;
     }
     Ok(path)
 }
@@ -122,23 +92,10 @@ fn nested_arrays(alloc: Global, levels: usize) -> Result<Literal, Memory> {
     Ok(literal)
 }
 
-fn nested_blocks(alloc: Global, levels: usize) -> Result<Node, Memory> {
-    let mut node = variable(0);
-    for _ in 0..levels {
-        node = block(alloc, node)?;
-    }
-    Ok(node)
-}
-
-/// From a do-it with so many nested blocks to the innermost receiver.
-fn deep_path(alloc: Global, levels: usize) -> Result<Path, Memory> {
-    let mut path = Path::new(alloc);
-    path.push(0)?;
-    for _ in 0..levels {
-        path.push(0)?;
-        path.push(0)?;
-    }
-    Ok(path)
+fn literal_height(value: Literal) -> usize {
+    height(&Node {
+        kind: NodeKind::Literal { value },
+    })
 }
 
 fn sample(alloc: Global) -> Result<Method, Memory> {
@@ -161,30 +118,23 @@ fn leads_to(alloc: Global, body: &Sequence, step: usize, name: usize) -> Result<
     }
 }
 
-fn literal_height(value: Literal) -> usize {
-    height(&Node {
-        kind: NodeKind::Literal { value },
-    })
-}
-
 #[test]
 fn arrays_are_as_high_as_their_elements(rt: HostRuntime) -> Result<(), Fail> {
-    let one = array(rt.alloc(), number(rt.alloc())?)?;
-    assert_eq!(rt; literal_height(array(rt.alloc(), one)?), 3);
+    assert_eq!(rt; literal_height(nested_arrays(rt.alloc(), 2)?), 3);
     assert_eq!(rt; literal_height(array_of_none(rt.alloc())), 1);
     Ok(())
 }
 
 #[test]
 fn blocks_and_messages_have_a_level(rt: HostRuntime) -> Result<(), Fail> {
-    assert_eq!(rt; height(&block(rt.alloc(), variable(0))?), 3);
+    assert_eq!(rt; height(&wrapped(rt.alloc(), variable(0))?), 3);
     assert_eq!(rt; height(&cascade(rt.alloc())?), 2);
     Ok(())
 }
 
 #[test]
 fn steps_into_a_cascade_count_arguments(rt: HostRuntime) -> Result<(), Fail> {
-    let body = body_of(rt.alloc(), cascade(rt.alloc())?)?;
+    let body = sequence(rt.alloc(), &[], one(rt.alloc(), cascade(rt.alloc())?)?)?;
     for (step, name) in [
         (0usize, 19usize),
         (1, 20),
@@ -208,14 +158,25 @@ fn a_method_is_copied(rt: HostRuntime) -> Result<(), Fail> {
     Ok(())
 }
 
+/// Whether the argument `22` of the cascade of a method is replaced by `99`.
+fn is_replaced(alloc: Global, method: &mut Method) -> Result<bool, Memory> {
+    let there = path(alloc, &[0, 3])?;
+    let part = Box::new(alloc, variable(99))?;
+    Ok(replace_at(method, &there, part).is_ok() && part_at(method, &there).is_some())
+}
+
 #[test]
 fn a_part_is_replaced(rt: HostRuntime) -> Result<(), Fail> {
     let mut method = sample(rt.alloc())?;
-    let there = path(rt.alloc(), &[0, 3])?.try_copy(rt.alloc())?;
-    let part = Box::new(rt.alloc(), variable(99))?;
-    assert!(rt; replace_at(&mut method, &there, part).is_ok());
-    assert!(rt; part_at(&method, &there).is_some());
+    assert!(rt; is_replaced(rt.alloc(), &mut method)?);
     assert!(rt; leads_to(rt.alloc(), &method.body, 3, 99)?);
+    Ok(())
+}
+
+#[test]
+fn a_path_is_copied(rt: HostRuntime) -> Result<(), Fail> {
+    let there = path(rt.alloc(), &[0, 3])?;
+    assert!(rt; there.try_copy(rt.alloc())?.same(&there));
     Ok(())
 }
 
@@ -237,12 +198,18 @@ fn deep_nodes(rt: HostRuntime) -> Result<(), Fail> {
     Ok(())
 }
 
+/// Whether the innermost receiver of so many nested blocks is replaced.
+fn is_replaced_below(alloc: Global, body: &mut Sequence, levels: usize) -> Result<bool, Memory> {
+    let there = deep_path(alloc, levels)?;
+    let part = Box::new(alloc, variable(9))?;
+    Ok(replace_at_doit(body, &there, part).is_ok())
+}
+
 #[test]
 fn a_deep_part_is_replaced(rt: HostRuntime) -> Result<(), Fail> {
     let body = body_of(rt.alloc(), nested_blocks(rt.alloc(), 1000)?)?;
     let mut copied = try_copy_doit(rt.alloc(), &body)?;
-    let part = Box::new(rt.alloc(), variable(9))?;
-    assert!(rt; replace_at_doit(&mut copied, &deep_path(rt.alloc(), 1000)?, part).is_ok());
+    assert!(rt; is_replaced_below(rt.alloc(), &mut copied, 1000)?);
     assert_eq!(rt; size_doit(&copied), 3001);
     Ok(())
 }
