@@ -1,7 +1,8 @@
 // Do-its that are added to an image of nothing.
-use crate::add_doit;
 use class_table::Image;
-use st_parser::{LexFault, ParseFault, Wanted};
+use image_doits::add_doit;
+use st_parser::ParseFault::{self, AssignsFixed, Expected, Lexical, PrimitiveInUser};
+use st_parser::{LexFault, Wanted};
 use std::alloc::Global;
 use std::test::Fail;
 
@@ -22,28 +23,25 @@ fn fault_of(alloc: Global, text: &str) -> Option<ParseFault> {
     add_doit(alloc, text.as_bytes(), &mut image).err()
 }
 
+/// Texts, and their faults.
+const FAULTS: &[(&str, Option<ParseFault>)] = &[
+    ("", None),
+    (
+        "3 +",
+        Some(Expected {
+            what: Wanted::Operand,
+            at: 3,
+        }),
+    ),
+    ("a. nil := 3", Some(AssignsFixed { at: 3 })),
+    ("a 'b", Some(Lexical(LexFault::OpenString { at: 2 }))),
+    ("a. <primitive: 1>", Some(PrimitiveInUser { at: 3 })),
+];
+
 #[test]
 fn faults_have_places(rt: HostRuntime) -> Result<(), Fail> {
-    for (text, fault) in [
-        ("", None),
-        (
-            "3 +",
-            Some(ParseFault::Expected {
-                what: Wanted::Operand,
-                at: 3,
-            }),
-        ),
-        ("a. nil := 3", Some(ParseFault::AssignsFixed { at: 3 })),
-        (
-            "a 'b",
-            Some(ParseFault::Lexical(LexFault::OpenString { at: 2 })),
-        ),
-        (
-            "a. <primitive: 1>",
-            Some(ParseFault::PrimitiveInUser { at: 3 }),
-        ),
-    ] {
-        assert!(rt; fault_of(rt.alloc(), text) == fault);
+    for (text, fault) in FAULTS {
+        assert!(rt; fault_of(rt.alloc(), text) == *fault);
     }
     Ok(())
 }

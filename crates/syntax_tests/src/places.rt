@@ -1,10 +1,8 @@
-//! Texts, and where their nodes stand.
-
-use crate::{
-    ParseFault, Wanted, doit_spans, lend_part, part_of_span, span_of, span_of_doit, spans,
-};
-use event_spans::Spans;
+// Texts, and where their nodes stand.
 use rb_base::{Memory, Span};
+use st_spans::{
+    ParseFault, Spans, Wanted, doit_spans, lend_part, part_of_span, span_of, span_of_doit, spans,
+};
 use st_tree::{Part, Path};
 use std::alloc::Global;
 use std::process::Abort;
