@@ -1,6 +1,7 @@
-// What no clause says: that the calls succeed where there is memory.
-use super::*;
-use prim_calls::{Call, Reply, integer_of, string_of};
+// What no clause says of the primitives of integers: that the calls succeed where there is memory.
+use crate::replies::{integer_in, is_text};
+use integer_prims::{Operation, on_integers, prints_integer};
+use prim_calls::Call;
 use st_meaning::{Heap, Value, ValueKind};
 use std::test::Fail;
 
@@ -22,46 +23,24 @@ fn rows() -> [(i64, Operation, i64, Option<i64>); 12] {
     ]
 }
 
-fn answer(reply: &Reply) -> Option<&Value> {
-    match reply {
-        Reply::Answers {
-            ticks: _,
-            told: _,
-            value,
-            change: _,
-        } => Some(value),
-        _ => None,
-    }
-}
-
-fn is_text(reply: &Reply, text: &[u8]) -> bool {
-    let Some(value) = answer(reply) else {
-        return false;
+/// The integer that an operation on two integers answers, if it does.
+fn answer_of(heap: &Heap, x: i64, operation: Operation, y: i64) -> Option<i64> {
+    let receiver = Value::new(ValueKind::Int(x));
+    let arguments = [Value::new(ValueKind::Int(y))];
+    let call = Call {
+        number: 10,
+        receiver: &receiver,
+        arguments: &arguments,
+        heap,
     };
-    match string_of(value) {
-        Some(found) => found.as_slice() == text,
-        None => false,
-    }
-}
-
-fn integer_in(reply: &Reply) -> Option<i64> {
-    integer_of(answer(reply)?)
+    integer_in(&on_integers(&call, operation))
 }
 
 #[test]
 fn two_integers_have_an_answer_or_none(rt: HostRuntime) -> Result<(), Fail> {
     let heap = Heap::new(rt.alloc());
     for (x, operation, y, expected) in rows() {
-        let receiver = Value::new(ValueKind::Int(x));
-        let arguments = [Value::new(ValueKind::Int(y))];
-        let call = Call {
-            number: 10,
-            receiver: &receiver,
-            arguments: &arguments,
-            heap: &heap,
-        };
-        let reply = on_integers(&call, operation);
-        assert!(rt; integer_in(&reply) == expected);
+        assert!(rt; answer_of(&heap, x, operation, y) == expected);
     }
     Ok(())
 }

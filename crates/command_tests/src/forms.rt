@@ -1,18 +1,10 @@
 // Words by their forms.
-use super::*;
+use crate::given::given;
+use command_words::{Question, VariableKind, Words, words_of};
 use rb_base::Memory;
 use std::alloc::Global;
 use std::process::Abort;
 use std::test::Fail;
-
-/// The words as the program is given them.
-fn given(alloc: Global, words: &[&str]) -> Result<Vec<String>, Memory> {
-    let mut given = Vec::new(alloc);
-    for word in words {
-        given.push(String::from_str(alloc, word)?)?;
-    }
-    Ok(given)
-}
 
 /// What is searched for, as a word.
 fn asked(question: Question<'_>) -> &'static str {
@@ -130,6 +122,11 @@ fn numbers_have_limits(rt: HostRuntime) -> Result<(), Fail> {
     ] {
         is_form(&rt, rt.alloc(), &["demo", number], wanted)?;
     }
+    Ok(())
+}
+
+#[test]
+fn ticks_have_limits(rt: HostRuntime) -> Result<(), Fail> {
     for (number, wanted) in [
         ("10000000", "run"),
         ("10000001", "none"),

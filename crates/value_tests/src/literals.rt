@@ -1,39 +1,37 @@
 // What no clause says: numerals as they are spelled, and that values are built where there is memory.
-use super::*;
 use rb_base::{Memory, NameId, Names, Text};
+use st_literals::{literal, numeral};
 use st_meaning::{SharedNames, Store, Value, ValueKind};
 use st_tree::{Literal, LiteralKind, Literals};
 use std::alloc::Global;
 use std::test::Fail;
 
 /// Numerals with the integers that they are.
-fn numerals() -> &'static [(&'static [u8], Option<i64>)] {
-    &[
-        (b"0", Some(0)),
-        (b"12", Some(12)),
-        (b"-7", Some(-7)),
-        (b"16rFF", Some(255)),
-        (b"-16rFF", Some(-255)),
-        (b"2r101", Some(5)),
-        (b"36rZ", Some(35)),
-        (b"9223372036854775807", Some(9223372036854775807)),
-        (b"9223372036854775808", None),
-        (b"-9223372036854775808", Some(-9223372036854775808)),
-        (b"-9223372036854775809", None),
-        (b"-16r8000000000000000", Some(-9223372036854775808)),
-        (b"16r8000000000000000", None),
-        (b"18446744073709551617", None),
-        (b"36rZZZZZZZZZZZZZZZZZZZZ", None),
-        (b"1.5", None),
-        (b"-1.0", None),
-        (b"1e3", None),
-        (b"16r1e2", None),
-    ]
-}
+const NUMERALS: &[(&[u8], Option<i64>)] = &[
+    (b"0", Some(0)),
+    (b"12", Some(12)),
+    (b"-7", Some(-7)),
+    (b"16rFF", Some(255)),
+    (b"-16rFF", Some(-255)),
+    (b"2r101", Some(5)),
+    (b"36rZ", Some(35)),
+    (b"9223372036854775807", Some(9223372036854775807)),
+    (b"9223372036854775808", None),
+    (b"-9223372036854775808", Some(-9223372036854775808)),
+    (b"-9223372036854775809", None),
+    (b"-16r8000000000000000", Some(-9223372036854775808)),
+    (b"16r8000000000000000", None),
+    (b"18446744073709551617", None),
+    (b"36rZZZZZZZZZZZZZZZZZZZZ", None),
+    (b"1.5", None),
+    (b"-1.0", None),
+    (b"1e3", None),
+    (b"16r1e2", None),
+];
 
 #[test]
 fn numerals_are_read(rt: HostRuntime) -> Result<(), Fail> {
-    for (text, wanted) in numerals() {
+    for (text, wanted) in NUMERALS {
         assert!(rt; numeral(*text) == *wanted);
     }
     Ok(())

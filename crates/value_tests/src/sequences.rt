@@ -1,7 +1,8 @@
-// What no clause says: that the calls succeed where there is memory.
-use super::*;
-use prim_calls::{Call, Reply, string_of};
+// What no clause says of the primitives of strings: that the calls succeed where there is memory.
+use crate::replies::is_text;
+use prim_calls::{Call, Reply};
 use rb_base::Memory;
+use sequence_prims::{gives_part, prints_string};
 use st_meaning::{Heap, SharedText, Value, ValueKind};
 use std::alloc::Global;
 use std::test::Fail;
@@ -13,22 +14,6 @@ fn string(alloc: Global, text: &[u8]) -> Result<Value, Memory> {
 
 fn number(number: i64) -> Value {
     Value::new(ValueKind::Int(number))
-}
-
-fn is_text(reply: &Reply, text: &[u8]) -> bool {
-    let Reply::Answers {
-        ticks: _,
-        told: _,
-        value,
-        change: _,
-    } = reply
-    else {
-        return false;
-    };
-    match string_of(value) {
-        Some(found) => found.as_slice() == text,
-        None => false,
-    }
 }
 
 /// The part of `smalltalk` between two items.
@@ -58,6 +43,12 @@ fn parts_of_a_string(rt: HostRuntime) -> Result<(), Fail> {
         let reply = part(rt.alloc(), &heap, first, last)?;
         assert!(rt; is_text(&reply, text.as_bytes()));
     }
+    Ok(())
+}
+
+#[test]
+fn no_part_of_a_string(rt: HostRuntime) -> Result<(), Fail> {
+    let heap = Heap::new(rt.alloc());
     for (first, last) in [(0, 3), (2, 10), (4, 2), (10, 10)] {
         let reply = part(rt.alloc(), &heap, first, last)?;
         assert!(rt; !is_text(&reply, b""));

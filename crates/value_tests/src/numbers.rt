@@ -1,5 +1,5 @@
 // Results at the ends of 64 bits.
-use super::*;
+use prim_numbers::{floor_quotient, floor_remainder, shifted};
 use std::test::Fail;
 
 const LEAST: i64 = -9223372036854775808;
