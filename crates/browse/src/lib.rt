@@ -10,8 +10,6 @@ mod query;
 mod run;
 mod send;
 mod status;
-#[cfg(test)]
-mod tests;
 mod top;
 
 pub use status::Status;

@@ -5,8 +5,6 @@
 mod chunk_iter;
 mod laws;
 mod source;
-#[cfg(test)]
-mod tests;
 
 pub use chunk_iter::{Chunk, ChunkIter, Unended, chunks};
 pub use laws::{has_one_list, has_one_source, written_is_read};

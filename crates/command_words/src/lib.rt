@@ -3,8 +3,6 @@
 
 mod questions;
 mod spelling;
-#[cfg(test)]
-mod tests;
 mod words;
 
 pub use questions::{Question, VariableKind};

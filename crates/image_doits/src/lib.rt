@@ -2,7 +2,5 @@
 #![tactic(auto)]
 
 mod added;
-#[cfg(test)]
-mod tests;
 
 pub use added::add_doit;

@@ -3,8 +3,6 @@
 
 mod characters;
 mod integers;
-#[cfg(test)]
-mod tests;
 
 pub use characters::{
     gives_byte, gives_character, prints_character, prints_integer, string_of_character,

@@ -5,8 +5,6 @@
 mod arithmetic;
 mod division;
 mod shift;
-#[cfg(test)]
-mod tests;
 
 pub use arithmetic::{difference, fitted, product, sum};
 pub use division::{floor_quotient, floor_remainder};

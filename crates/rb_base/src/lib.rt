@@ -8,8 +8,6 @@ mod names;
 mod shelf;
 mod sink;
 mod steps;
-#[cfg(test)]
-mod tests;
 mod text;
 
 pub use memory::Memory;

@@ -4,7 +4,5 @@
 mod atoms;
 mod errors;
 mod runs;
-#[cfg(test)]
-mod tests;
 
 pub use runs::write_run;

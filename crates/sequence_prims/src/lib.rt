@@ -4,8 +4,6 @@
 mod items;
 mod joining;
 mod parts;
-#[cfg(test)]
-mod tests;
 mod texts;
 
 pub use items::{gives_array, gives_item, gives_length, stores_item};

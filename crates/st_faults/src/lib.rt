@@ -17,8 +17,6 @@ mod part;
 mod sequences;
 mod sort;
 mod stack;
-#[cfg(test)]
-mod tests;
 mod wishes;
 
 pub use brackets::scan;

@@ -4,10 +4,6 @@
 
 mod kernel_text;
 mod selectors;
-#[cfg(test)]
-mod table;
-#[cfg(test)]
-mod tests;
 
 pub use kernel_text::prelude;
 pub use selectors::{is_control_selector, is_reflective, is_reserved};

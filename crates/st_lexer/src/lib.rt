@@ -8,8 +8,6 @@ mod next;
 mod numerals;
 mod quotes;
 mod runs;
-#[cfg(test)]
-mod tests;
 mod token;
 mod token_iter;
 mod words;

@@ -3,8 +3,6 @@
 
 mod literals;
 mod numerals;
-#[cfg(test)]
-mod tests;
 
 pub use literals::literal;
 pub use numerals::numeral;

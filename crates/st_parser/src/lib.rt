@@ -2,8 +2,6 @@
 #![tactic(auto)]
 
 mod parse;
-#[cfg(test)]
-mod tests;
 
 pub use parse::{parse_doit, parse_method};
 pub use st_reading::{LexFault, ParseFault, Wanted, word_of};

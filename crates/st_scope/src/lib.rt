@@ -8,8 +8,6 @@ mod free;
 mod local;
 mod name_set;
 mod special;
-#[cfg(test)]
-mod tests;
 
 pub use closures::{assigned_in_closure, assigned_in_closure_doit};
 pub use control::is_control;

@@ -2,8 +2,6 @@
 #![tactic(auto)]
 
 mod places;
-#[cfg(test)]
-mod tests;
 
 pub use event_spans::{NodeSpan, Spans};
 pub use places::{doit_spans, lend_part, part_of_span, span_of, span_of_doit, spans};

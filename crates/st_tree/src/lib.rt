@@ -24,6 +24,3 @@ pub use sameness::same;
 pub use tree::{
     Comments, Message, Messages, Method, Node, NodeKind, Nodes, Sequence, Statement, Statements,
 };
-
-#[cfg(test)]
-mod tests;

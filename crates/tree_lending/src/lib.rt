@@ -6,6 +6,3 @@ mod step;
 mod way;
 
 pub use part::{part_mut, part_mut_doit, put_at, put_at_doit};
-
-#[cfg(test)]
-mod tests;

@@ -1,0 +1,16 @@
+//! Tests of the values of runs: sums and quotients, primitives of integers and of strings, literals, and how values, errors
+//! and runs are printed. The crate has nothing else.
+#![tactic(auto)]
+
+#[cfg(test)]
+mod integers;
+#[cfg(test)]
+mod literals;
+#[cfg(test)]
+mod numbers;
+#[cfg(test)]
+mod printed;
+#[cfg(test)]
+mod replies;
+#[cfg(test)]
+mod sequences;
