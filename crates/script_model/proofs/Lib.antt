@@ -1,0 +1,2 @@
+mod ExamplesJudged
+mod OneReading

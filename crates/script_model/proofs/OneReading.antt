@@ -1,0 +1,91 @@
+-- A script has one reading.
+use Rattle.std.proofs.Common.{◌≡◌, ℕ, ◌+◌, ◌<◌, Bool, true, false, not, List, [], ◌∷◌, ◌++◌, length, map, Option, Some, None, Result, Ok, refl, sym, ap, ◌∙◌, arith}
+use Rattle.std.specs.Prelude.{cond, nat_lt, if◌then◌else◌}
+use Rattle.std.proofs.lemmas.List.{map-append}
+use Rattle.std.proofs.lemmas.List.Elements.{filter-append}
+use Rattle.std.proofs.lemmas.Bool.{lt-ltb}
+use Rattle.script_model.specs.Lines.{lines_of, is_skipped, spoken}
+use Rattle.script_model.specs.Commands.{Command, Cause, TooMany}
+use Rattle.script_model.specs.Scripts.{said, Say, Says, cause_of, IsRefused}
+
+abbrev Text : Type 0
+Text = List ℕ
+
+-- the same results are those of the same commands
+same_commands : (cs ds : List Command) → map {B = Result Command Cause} Ok cs ≡ map Ok ds → cs ≡ ds
+same_commands [] [] e = refl
+same_commands [] (d ∷ ds) e = absurd (cc)
+same_commands (c ∷ cs) [] e = absurd (cc)
+same_commands (c ∷ cs) (d ∷ ds) e =
+    let first : c ≡ d = cc in
+    let rest : map {B = Result Command Cause} Ok cs ≡ map Ok ds = cc in
+    λ i. first i ∷ same_commands cs ds rest i
+
+-- a script says one list of commands
+pub says_once : (text : Text) (cs ds : List Command) → Says text cs → Says text ds → cs ≡ ds
+says_once text cs ds p q = same_commands cs ds (sym p.each ∙ q.each)
+
+-- what the lines say of which one says something
+said_parts : (before after : List Text) (line : Text) → is_skipped line ≡ false → map said (spoken (before ++ line ∷ after)) ≡ map said (spoken before) ++ said line ∷ map said (spoken after)
+said_parts before after line h =
+    ap (map said) (filter-append (λ (l : Text). not (is_skipped l)) before (line ∷ after))
+    ∙ map-append said (spoken before) (spoken (line ∷ after))
+    ∙ ap (λ (b : Bool). map said (spoken before) ++ map said (cond (not b) (line ∷ spoken after) (spoken after))) h
+
+-- a result among those of commands is that of one, and there are more commands than stand before it
+among : (bs cs : List Command) (r : Result Command Cause) (rs : List (Result Command Cause)) → map Ok bs ++ r ∷ rs ≡ map Ok cs → (c : Command) × (r ≡ Ok c) × (length bs < length cs)
+among [] [] r rs e = absurd (cc)
+among [] (c ∷ cs) r rs e = let first : r ≡ Ok c = cc in (c, first, omega arith)
+among (b ∷ bs) [] r rs e = absurd (cc)
+among (b ∷ bs) (c ∷ cs) r rs e =
+    let rest : map Ok bs ++ r ∷ rs ≡ map Ok cs = cc in
+    let found = among bs cs r rs rest in
+    (found.0, found.1, omega (arith, found.2))
+
+-- a line among lines that say commands is not wrong
+not_wrong : (lines before after : List Text) (line : Text) (bs cs : List Command) (cause : Cause) → lines ≡ before ++ line ∷ after → is_skipped line ≡ false → Say before bs → Say lines cs → cause_of (length bs) (said line) ≡ Some cause → ⊥
+not_wrong lines before after line bs cs cause parts h p q wrong =
+    let all : map Ok bs ++ said line ∷ map said (spoken after) ≡ map Ok cs =
+    ap (λ (rs : List (Result Command Cause)). rs ++ said line ∷ map said (spoken after)) (sym p.each) ∙ sym (said_parts before after line h) ∙ ap (λ (ls : List Text). map said (spoken ls)) (sym parts) ∙ q.each in
+    let found = among bs cs (said line) (map said (spoken after)) all in
+    let room : nat_lt (length bs) 10000 ≡ true = lt-ltb (length bs) 10000 (omega (arith, found.2, q.few)) in
+    no_cause (sym wrong ∙ ap (cause_of (length bs)) found.1 ∙ ap (λ (b : Bool). let r : Option Cause = if b then None else Some TooMany in r) room)
+  where
+    no_cause : Some cause ≡ None → ⊥
+    no_cause e = absurd (cc)
+
+-- two places in a list, of which one is nearer or both are one
+data Parted {X : Type 0} (xs : List X) (x : X) (bs cs : List X) (y : X) (ds : List X) : Type 0 where
+  same : xs ≡ cs → x ≡ y → Parted xs x bs cs y ds
+  nearer : (es : List X) → cs ≡ xs ++ x ∷ es → Parted xs x bs cs y ds
+  farther : (es : List X) → xs ≡ cs ++ y ∷ es → Parted xs x bs cs y ds
+
+parted : {X : Type 0} (xs : List X) (x : X) (bs cs : List X) (y : X) (ds : List X) → xs ++ x ∷ bs ≡ cs ++ y ∷ ds → Parted xs x bs cs y ds
+parted [] x bs [] y ds e = let first : x ≡ y = cc in same refl first
+parted [] x bs (c ∷ cs) y ds e = let first : x ≡ c = cc in nearer cs (ap (λ z. z ∷ cs) (sym first))
+parted (a ∷ xs) x bs [] y ds e = let first : a ≡ y = cc in farther xs (ap (λ z. z ∷ xs) first)
+parted (a ∷ xs) x bs (c ∷ cs) y ds e =
+    let first : a ≡ c = cc in
+    let rest : xs ++ x ∷ bs ≡ cs ++ y ∷ ds = cc in
+    by first (parted xs x bs cs y ds rest)
+  where
+    by : a ≡ c → Parted xs x bs cs y ds → Parted (a ∷ xs) x bs (c ∷ cs) y ds
+    by f (same p q) = same (λ i. f i ∷ p i) q
+    by f (nearer es p) = nearer es (λ i. sym f i ∷ p i)
+    by f (farther es p) = farther es (λ i. f i ∷ p i)
+
+-- a script that says commands is not refused
+pub not_refused : (text : Text) (cs : List Command) (n : ℕ) (cause : Cause) → Says text cs → IsRefused text n cause → ⊥
+not_refused text cs n cause p r = not_wrong (lines_of text) r.before r.after r.line r.commands cs cause r.parts r.says_something r.said_before p r.wrong
+
+-- a script is refused at one line with one cause
+pub refused_once : (text : Text) (n m : ℕ) (cause other : Cause) → IsRefused text n cause → IsRefused text m other → (n ≡ m) × (cause ≡ other)
+refused_once text n m cause other p q = by (parted p.before p.line p.after q.before q.line q.after (sym p.parts ∙ q.parts))
+  where
+    by : Parted p.before p.line p.after q.before q.line q.after → (n ≡ m) × (cause ≡ other)
+    by (same e f) =
+        let commands : p.commands ≡ q.commands = same_commands p.commands q.commands (sym p.said_before.each ∙ ap (λ (ls : List Text). map said (spoken ls)) e ∙ q.said_before.each) in
+        let causes : Some cause ≡ Some other = sym p.wrong ∙ (λ i. cause_of (length (commands i)) (said (f i))) ∙ q.wrong in
+        (p.numbered ∙ ap (λ (ls : List Text). length ls + 1) e ∙ sym q.numbered, cc causes)
+    by (nearer es e) = absurd (not_wrong q.before p.before es p.line p.commands q.commands cause e p.says_something p.said_before q.said_before p.wrong)
+    by (farther es e) = absurd (not_wrong p.before q.before es q.line q.commands p.commands other e q.says_something q.said_before p.said_before q.wrong)
