@@ -1,6 +1,6 @@
 -- An instance variable or a class-instance variable that is called by a name that is free in its class and those below.
 use Rattle.std.proofs.Common.{◌≡◌, ℕ, List, [], ◌∷◌, ◌++◌, Option, Some, None, slice_get, refl, sym, ap, ◌∙◌, subst}
-use Rattle.std.specs.Prelude.{Bool, true, false, if◌then◌else◌, ◌&&◌, ◌||◌, flat_map}
+use Rattle.std.specs.Prelude.{Bool, true, false, if◌then◌else◌, ◌&&◌, ◌||◌, flat_map, is_some}
 use Rattle.std.specs.List.{AllByRecursion, list_any}
 use Rattle.std.specs.Option.{option_map_or}
 use Rattle.std.proofs.lemmas.Bool.{false≢true}
@@ -98,7 +98,7 @@ calls-new i of_class c x y owner n own h = absurd (false≢true (sym own))
 module _ (i : ImageOf Name) (kind : VariableKind) (c x y : Name) (own : same_kind kind of_class ≡ false) (sound : HasVariablesOnce kind i) (user : is_user_class text_eq i c ≡ true) (has : has_variable text_eq i kind c x ≡ true) (free : is_variable_free text_eq i c y ≡ true) (proper : is_pseudo_variable y ≡ false) where
   -- the parts of what is asked of the new name
   taken : (list_any (defines text_eq y) (chain text_eq i.classes (Some c)) || (list_any (λ e. stands_below text_eq i.classes c e && defines text_eq y e) i.classes || list_any (λ m. is_method_below text_eq i.classes c m && is_named_in_method text_eq y m) i.methods)) ≡ false
-  taken = denied _ free
+  taken = denied _ (and-true_right (is_some (class_named text_eq i.classes c)) _ free)
 
   rest : (list_any (λ e. stands_below text_eq i.classes c e && defines text_eq y e) i.classes || list_any (λ m. is_method_below text_eq i.classes c m && is_named_in_method text_eq y m) i.methods) ≡ false
   rest = neither_right (list_any (defines text_eq y) (chain text_eq i.classes (Some c))) _ taken

@@ -1,5 +1,5 @@
 -- The conditions of renamings (Roberts 1999).
-use Rattle.std.specs.Prelude.{Bool, false, not, nat_eq, ◌&&◌, ◌||◌, List, Some}
+use Rattle.std.specs.Prelude.{Bool, false, not, nat_eq, ◌&&◌, ◌||◌, List, Some, is_some}
 use Rattle.std.specs.List.{list_any}
 use Rattle.std.specs.Option.{option_map_or}
 use Rattle.tree_model.specs.Tree.{TreeOf, var, literal, send, cascade, assign, block, brace, return, MessagesOf, no_messages, more_messages, SequenceOf}
@@ -67,10 +67,11 @@ stands_below same classes c e = list_any (λ (d : ClassOf _). same c d.name) (ch
 abbrev pub is_method_below : {N : Type 0} → (N → N → Bool) → List (ClassOf N) → N → EntryOf N → Bool
 is_method_below same classes c m = list_any (λ (d : ClassOf _). same c d.name) (chain same classes m.class)
 
--- no class above the one of the name, or below it, defines the variable, nor does the class itself, and no method of it or of a class below it reads, assigns or declares the name
+-- there is a class of the name; no class above it, or below it, defines the variable, nor does the class itself, and no method of it or of a class below it reads, assigns or declares the name
 abbrev pub is_variable_free : {N : Type 0} → (N → N → Bool) → ImageOf N → N → N → Bool
 is_variable_free same i c x =
-    not (list_any (defines same x) (chain same i.classes (Some c))
+    is_some (class_named same i.classes c)
+    && not (list_any (defines same x) (chain same i.classes (Some c))
     || (list_any (λ e. stands_below same i.classes c e && defines same x e) i.classes
     || list_any (λ m. is_method_below same i.classes c m && is_named_in_method same x m) i.methods))
 

@@ -1,3 +1,3 @@
-//! What `renameClass` demands of an image and what it makes of it (Roberts 1999). Definitions over any type of names; no
-//! program text runs here.
+//! What renamings demand of an image and what they make of it (Roberts 1999): of classes, selectors and variables. Definitions over any
+//! type of names; no program text runs here.
 #![tactic(auto)]

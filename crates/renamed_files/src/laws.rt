@@ -7,7 +7,7 @@ ghost use Rattle.image_model.specs.Image.{ImageOf};
 ghost use Rattle.image_model.specs.Words.{text_words};
 ghost use Rattle.image_model.specs.Means.{of_instance, of_class_side, of_class};
 ghost use Rattle.run_model.specs.Renamings.{no_renaming};
-ghost use Rattle.run_model.specs.Matched.{AreMatched};
+ghost use Rattle.mapped_model.specs.RenamedRuns.{RunsAsRenamed};
 ghost use Rattle.file_model.specs.Filing.{Text};
 ghost use Rattle.file_model.specs.Reading.{IsImageOf};
 ghost use Rattle.rename_model.specs.CommandWords.{is_good_class_name, is_good_variable_name, text_command_words};
@@ -44,21 +44,21 @@ pub fn every_image_may_be_renamed()
 pub fn law_renamed_files()
     ensures class { (dialect : Dialect) (text : Text) (image : ImageOf Text) (c d : Text) → IsImageOf dialect prelude_text text image →
         is_user_class text_eq image c ≡ true → is_good_class_name d ≡ true → is_name_unused text_eq image d ≡ true →
-        AreMatched image (class_renamed text_words canonical image c d) (record no_renaming { classes = (c, d) ∷ [] }) }
+        RunsAsRenamed image (class_renamed text_words canonical image c d) (record no_renaming { classes = (c, d) ∷ [] }) }
     ensures selector { (dialect : Dialect) (text : Text) (image : ImageOf Text) (s t : Text) → IsImageOf dialect prelude_text text image →
         is_no_kernel_selector text_eq text_command_words image s ≡ true → is_no_kernel_selector text_eq text_command_words image t ≡ true →
-        is_selector_fresh text_eq image t ≡ true → AreMatched image (selector_renamed text_eq canonical image s t) (one_selector s t) }
+        is_selector_fresh text_eq image t ≡ true → RunsAsRenamed image (selector_renamed text_eq canonical image s t) (one_selector s t) }
     ensures instance { (dialect : Dialect) (text : Text) (image : ImageOf Text) (c x y : Text) → IsImageOf dialect prelude_text text image →
         is_user_class text_eq image c ≡ true → has_variable text_eq image of_instance c x ≡ true → is_good_variable_name y ≡ true →
         is_variable_free text_eq image c y ≡ true →
-        AreMatched image (variable_renamed text_words canonical image of_instance c x y) (one_variable image of_instance c x y) }
+        RunsAsRenamed image (variable_renamed text_words canonical image of_instance c x y) (one_variable image of_instance c x y) }
     ensures class_side { (dialect : Dialect) (text : Text) (image : ImageOf Text) (c x y : Text) → IsImageOf dialect prelude_text text image →
         is_user_class text_eq image c ≡ true → has_variable text_eq image of_class_side c x ≡ true → is_good_variable_name y ≡ true →
         is_variable_free text_eq image c y ≡ true →
-        AreMatched image (variable_renamed text_words canonical image of_class_side c x y) (one_variable image of_class_side c x y) }
+        RunsAsRenamed image (variable_renamed text_words canonical image of_class_side c x y) (one_variable image of_class_side c x y) }
     ensures shared { (dialect : Dialect) (text : Text) (image : ImageOf Text) (c x y : Text) → IsImageOf dialect prelude_text text image →
         is_good_class_name y ≡ true → is_name_unused text_eq image y ≡ true →
-        AreMatched image (variable_renamed text_words canonical image of_class c x y) (one_variable image of_class c x y) }
+        RunsAsRenamed image (variable_renamed text_words canonical image of_class c x y) (one_variable image of_class c x y) }
 {
     every_image_may_be_renamed();
     law_renamed_class();
