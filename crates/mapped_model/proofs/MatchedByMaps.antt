@@ -5,7 +5,7 @@ use Rattle.image_model.specs.Image.{ImageOf}
 use Rattle.run_model.specs.Values.{Name, Atom, nil_atom, true_atom, false_atom, int_atom, char_atom, string_atom, symbol_atom, class_atom, object_atom, array_atom, block_atom, transcript_atom, View, one, items, Event, shown, printed, RunError, does_not_understand, cannot_return, non_boolean, undeclared_name, not_assignable, unsupported, reflective, overflow, divide_by_zero, bad_index, bad_argument, wrong_arity, too_long, user_error, Outcome, done, failed, spent}
 use Rattle.run_model.specs.Runs.{RunOf, run}
 use Rattle.run_model.specs.Renamings.{Renaming, class_image, selector_image, renamed_atom, renamed_view, renamed_event, renamed_events, renamed_error, renamed_outcome}
-use Rattle.run_model.specs.Matched.{AreMatched}
+use Rattle.mapped_model.specs.RenamedRuns.{RunsAsRenamed}
 use Rattle.run_model.proofs.MatchedLemmas.{matched-renamed}
 use Rattle.resolved_model.specs.ResolvedImages.{resolved_image}
 use Rattle.resolved_model.specs.ResolvedRuns.{resolved_run}
@@ -120,34 +120,43 @@ module _ (r : Renaming) (f g : NameMaps) (classes : (c : Name) → f.class c ≡
   agree-outcome spent e = refl
 
   -- a run that both map alike is the renamed one
-  agree-run : (x y : RunOf) → y ≡ mapped_run f x → y ≡ mapped_run g x → (y.events ≡ renamed_events r x.events) × (y.outcome ≡ renamed_outcome r x.outcome)
+  agree-run : (x y : RunOf) → y ≡ mapped_run f x → y ≡ mapped_run g x → (y.events ≡ renamed_events r x.events) × (y.outcome ≡ renamed_outcome r x.outcome) × (y.ticks ≡ x.ticks)
   agree-run x y p q =
       let both : mapped_run f x ≡ mapped_run g x = sym p ∙ q in
-      (ap (λ (z : RunOf). z.events) p ∙ sym (agree-list_events x.events (ap (λ (z : RunOf). z.events) both)), ap (λ (z : RunOf). z.outcome) p ∙ sym (agree-outcome x.outcome (ap (λ (z : RunOf). z.outcome) both)))
+      (ap (λ (z : RunOf). z.events) p ∙ sym (agree-list_events x.events (ap (λ (z : RunOf). z.events) both)), ap (λ (z : RunOf). z.outcome) p ∙ sym (agree-outcome x.outcome (ap (λ (z : RunOf). z.outcome) both)), ap (λ (z : RunOf). z.ticks) p)
     where
       agree-list_events : (es : List Event) → map (mapped_event f) es ≡ map (mapped_event g) es → renamed_events r es ≡ map (mapped_event f) es
       agree-list_events es e = agree-list (mapped_event f) (mapped_event g) (renamed_event r) agree-event es e
 
+-- an image runs as another one does, where its runs are the renamed ones
+runs-as-renamed : (i j : ImageOf Name) (r : Renaming) → ((n : ℕ) → ((run j n).events ≡ renamed_events r (run i n).events) × ((run j n).outcome ≡ renamed_outcome r (run i n).outcome) × ((run j n).ticks ≡ (run i n).ticks)) → RunsAsRenamed i j r
+runs-as-renamed i j r h = record {
+  events = λ n. (h n).0;
+  outcome = λ n. (h n).1;
+  ticks = λ n. (h n).2;
+  matched = matched-renamed i j r (λ n. ((h n).0, (h n).1));
+}
+
 -- an image is matched by one whose resolved names are its own, mapped one to one on those in use
-pub matched-mapped : (r : Renaming) (f : NameMaps) (u : NamesInUse) (i j : ImageOf Name) → ((c : Name) → f.class c ≡ class_image r c) → ((s : Name) → f.selector s ≡ selector_image r s) → IsOneToOneOn u f → HasWords u → KeepsWords f → UsesOnly u (resolved_image i) → AreInherited u f (resolved_image i) → resolved_image j ≡ mapped_image f (resolved_image i) → AreMatched i j r
+pub matched-mapped : (r : Renaming) (f : NameMaps) (u : NamesInUse) (i j : ImageOf Name) → ((c : Name) → f.class c ≡ class_image r c) → ((s : Name) → f.selector s ≡ selector_image r s) → IsOneToOneOn u f → HasWords u → KeepsWords f → UsesOnly u (resolved_image i) → AreInherited u f (resolved_image i) → resolved_image j ≡ mapped_image f (resolved_image i) → RunsAsRenamed i j r
 matched-mapped r f u i j classes selectors single has keeps uses inherited e =
     let a = enough u f in
     let after : (n : ℕ) → enough u f ≤ n → (k : ℕ) → run j k ≡ mapped_run (widened u f n) (run i k) =
     λ n le k. run-mapped (widened u f n) (HasInstance u) (HasClassSide u) i j k (widened-single u f single n le) (widened-words u f has keeps n)
     (inherited-suited u (widened u f n) (resolved_image i) uses (inherited-in u f (widened u f n) (widened-on u f n) (resolved_image i).classes inherited)) (e ∙ sym (image-in u f (widened u f n) (widened-on u f n) (resolved_image i) uses)) in
-    matched-renamed i j r
+    runs-as-renamed i j r
     (λ k. agree-run r (widened u f a) (widened u f (suc a))
     (λ c q. sym (classes c) ∙ sym (widened-agrees u.classes f.class a c q)) (λ s q. sym (selectors s) ∙ sym (widened-agrees u.selectors f.selector a s q))
     (run i k) (run j k) (after a (omega arith) k) (after (suc a) (omega arith) k))
 
 -- the same where variables are called the same in all classes
-pub matched-alike : (r : Renaming) (f : NameMaps) (u : NamesInUse) (i j : ImageOf Name) → ((c : Name) → f.class c ≡ class_image r c) → ((s : Name) → f.selector s ≡ selector_image r s) → IsOneToOneOn u f → IsOneToOneAcross u f → HasWords u → KeepsWords f → IsSameInAllClasses f → UsesOnly u (resolved_image i) → resolved_image j ≡ mapped_image f (resolved_image i) → AreMatched i j r
+pub matched-alike : (r : Renaming) (f : NameMaps) (u : NamesInUse) (i j : ImageOf Name) → ((c : Name) → f.class c ≡ class_image r c) → ((s : Name) → f.selector s ≡ selector_image r s) → IsOneToOneOn u f → IsOneToOneAcross u f → HasWords u → KeepsWords f → IsSameInAllClasses f → UsesOnly u (resolved_image i) → resolved_image j ≡ mapped_image f (resolved_image i) → RunsAsRenamed i j r
 matched-alike r f u i j classes selectors single across has keeps alike uses e =
     let a = enough u f in
     let after : (n : ℕ) → enough u f ≤ n → (k : ℕ) → run j k ≡ mapped_run (widened_alike u f n) (run i k) =
     λ n le k. run-mapped (widened_alike u f n) AnyOf AnyOn i j k (alike-single u f alike single across n le) (alike-words u f has keeps n)
     (alike-suited (widened_alike u f n) (alike-same u f n) (resolved_image i)) (e ∙ sym (image-in u f (widened_alike u f n) (alike-on u f alike n) (resolved_image i) uses)) in
-    matched-renamed i j r
+    runs-as-renamed i j r
     (λ k. agree-run r (widened_alike u f a) (widened_alike u f (suc a))
     (λ c q. sym (classes c) ∙ sym (widened-agrees u.classes f.class a c q)) (λ s q. sym (selectors s) ∙ sym (widened-agrees u.selectors f.selector a s q))
     (run i k) (run j k) (after a (omega arith) k) (after (suc a) (omega arith) k))

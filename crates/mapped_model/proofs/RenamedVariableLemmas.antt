@@ -10,7 +10,7 @@ use Rattle.image_model.specs.Means.{VariableKind, of_instance, of_class_side}
 use Rattle.run_model.specs.Values.{Name}
 use Rattle.run_model.specs.ObjectPrimitives.{value_classes}
 use Rattle.run_model.specs.Renamings.{Renaming, class_image, selector_image}
-use Rattle.run_model.specs.Matched.{AreMatched}
+use Rattle.mapped_model.specs.RenamedRuns.{RunsAsRenamed}
 use Rattle.run_model.proofs.Finite.{by_cases}
 use Rattle.run_model.proofs.RenamingLemmas.{text-same}
 use Rattle.resolved_model.proofs.LookupLemmas.{everywhere}
@@ -91,7 +91,7 @@ words-same instance class_side = record {
 
 module _ (r : Renaming) (i j : ImageOf Name) (c old new : Name) (classes : (d : Name) → class_image r d ≡ d) (selectors : (s : Name) → selector_image r s ≡ s) (ordered : HasOrderedClasses i) where
   -- an instance variable
-  pub instance-matched : MayBeRenamed i of_instance c old new → IsChangedImage (with_instance_renamed i c old new) i j → AreMatched i j r
+  pub instance-matched : MayBeRenamed i of_instance c old new → IsChangedImage (with_instance_renamed i c old new) i j → RunsAsRenamed i j r
   instance-matched may h =
       let f : NameMaps = with_instance_renamed i c old new in
       matched-mapped r f (names_in i) i j (λ d. sym (classes d)) (λ s. sym (selectors s))
@@ -101,7 +101,7 @@ module _ (r : Renaming) (i j : ImageOf Name) (c old new : Name) (classes : (d : 
       (image-changed f i j h)
 
   -- a class-instance variable
-  pub class_side-matched : MayBeRenamed i of_class_side c old new → IsChangedImage (with_class_side_renamed i c old new) i j → AreMatched i j r
+  pub class_side-matched : MayBeRenamed i of_class_side c old new → IsChangedImage (with_class_side_renamed i c old new) i j → RunsAsRenamed i j r
   class_side-matched may h =
       let f : NameMaps = with_class_side_renamed i c old new in
       matched-mapped r f (names_in i) i j (λ d. sym (classes d)) (λ s. sym (selectors s))

@@ -7,3 +7,4 @@ pub mod NamesOfImages
 pub mod ChangedTrees
 pub mod ChangedImages
 pub mod RenamedVariables
+pub mod RenamedRuns

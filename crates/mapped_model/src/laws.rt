@@ -7,7 +7,7 @@ ghost use Rattle.image_model.specs.Means.{of_instance, of_class_side};
 ghost use Rattle.run_model.specs.Values.{Name};
 ghost use Rattle.run_model.specs.Runs.{run};
 ghost use Rattle.run_model.specs.Renamings.{Renaming, class_image, selector_image};
-ghost use Rattle.run_model.specs.Matched.{AreMatched};
+ghost use Rattle.mapped_model.specs.RenamedRuns.{RunsAsRenamed};
 ghost use Rattle.resolved_model.specs.Resolving.{MeantAt, resolved_scope};
 ghost use Rattle.resolved_model.specs.ResolvedImages.{ResolvedImage, resolved_image};
 ghost use Rattle.resolved_model.specs.ResolvedRuns.{resolved_run_to, resolved_run};
@@ -46,11 +46,11 @@ pub fn law_matched_by_maps()
     ensures by_class { (r : Renaming) (f : NameMaps) (u : NamesInUse) (i j : ImageOf Name) →
         ((c : Name) → f.class c ≡ class_image r c) → ((s : Name) → f.selector s ≡ selector_image r s) →
         IsOneToOneOn u f → HasWords u → KeepsWords f → UsesOnly u (resolved_image i) → AreInherited u f (resolved_image i) →
-        resolved_image j ≡ mapped_image f (resolved_image i) → AreMatched i j r }
+        resolved_image j ≡ mapped_image f (resolved_image i) → RunsAsRenamed i j r }
     ensures same_in_all_classes { (r : Renaming) (f : NameMaps) (u : NamesInUse) (i j : ImageOf Name) →
         ((c : Name) → f.class c ≡ class_image r c) → ((s : Name) → f.selector s ≡ selector_image r s) →
         IsOneToOneOn u f → IsOneToOneAcross u f → HasWords u → KeepsWords f → IsSameInAllClasses f → UsesOnly u (resolved_image i) →
-        resolved_image j ≡ mapped_image f (resolved_image i) → AreMatched i j r }
+        resolved_image j ≡ mapped_image f (resolved_image i) → RunsAsRenamed i j r }
 {}
 
 /// An image has no names but those of its lists, and among these are those of which the language itself speaks. Each class
@@ -66,7 +66,7 @@ pub fn law_matched_images()
     ensures matched { (r : Renaming) (f : NameMaps) (i j : ImageOf Name) →
         ((c : Name) → f.class c ≡ class_image r c) → ((s : Name) → f.selector s ≡ selector_image r s) →
         HasOrderedClasses i → IsOneToOneOn (names_in i) f → KeepsWords f → AllByRecursion (CallsAsAbove i f) i.classes →
-        resolved_image j ≡ mapped_image f (resolved_image i) → AreMatched i j r }
+        resolved_image j ≡ mapped_image f (resolved_image i) → RunsAsRenamed i j r }
 {}
 
 /// A method or do-it in which names are changed at their places is, once its names are resolved, the one before with the
@@ -84,7 +84,7 @@ pub fn law_changed_images()
     ensures matched { (r : Renaming) (f : NameMaps) (i j : ImageOf Name) →
         ((c : Name) → f.class c ≡ class_image r c) → ((s : Name) → f.selector s ≡ selector_image r s) →
         HasOrderedClasses i → IsOneToOneOn (names_in i) f → KeepsWords f → AllByRecursion (CallsAsAbove i f) i.classes →
-        IsChangedImage f i j → AreMatched i j r }
+        IsChangedImage f i j → RunsAsRenamed i j r }
 {}
 
 /// An image is matched, with classes and selectors as they are, by each in which an instance variable or a class-instance
@@ -93,8 +93,8 @@ pub fn law_changed_images()
 pub fn law_renamed_variable()
     ensures instance { (r : Renaming) (i j : ImageOf Name) (c old new : Name) →
         ((d : Name) → class_image r d ≡ d) → ((s : Name) → selector_image r s ≡ s) → HasOrderedClasses i →
-        MayBeRenamed i of_instance c old new → IsChangedImage (with_instance_renamed i c old new) i j → AreMatched i j r }
+        MayBeRenamed i of_instance c old new → IsChangedImage (with_instance_renamed i c old new) i j → RunsAsRenamed i j r }
     ensures class_side { (r : Renaming) (i j : ImageOf Name) (c old new : Name) →
         ((d : Name) → class_image r d ≡ d) → ((s : Name) → selector_image r s ≡ s) → HasOrderedClasses i →
-        MayBeRenamed i of_class_side c old new → IsChangedImage (with_class_side_renamed i c old new) i j → AreMatched i j r }
+        MayBeRenamed i of_class_side c old new → IsChangedImage (with_class_side_renamed i c old new) i j → RunsAsRenamed i j r }
 {}

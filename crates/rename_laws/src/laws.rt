@@ -5,7 +5,7 @@ ghost use Rattle.image_model.specs.Image.{ImageOf};
 ghost use Rattle.image_model.specs.Words.{text_words};
 ghost use Rattle.run_model.specs.Values.{Name};
 ghost use Rattle.run_model.specs.Renamings.{no_renaming};
-ghost use Rattle.run_model.specs.Matched.{AreMatched};
+ghost use Rattle.mapped_model.specs.RenamedRuns.{RunsAsRenamed};
 ghost use Rattle.rename_model.specs.CommandWords.{is_good_class_name};
 ghost use Rattle.rename_model.specs.Conditions.{is_user_class, is_name_unused};
 ghost use Rattle.rename_model.specs.ClassRenamed.{WritingOf, class_renamed};
@@ -18,7 +18,7 @@ use mapped_model::law_changed_images;
 pub fn law_renamed_class()
     ensures matched { (writing : WritingOf Name) (i : ImageOf Name) (c d : Name) → IsBehindKernel i →
         is_user_class text_eq i c ≡ true → is_good_class_name d ≡ true → is_name_unused text_eq i d ≡ true →
-        AreMatched i (class_renamed text_words writing i c d) (record no_renaming { classes = (c, d) ∷ [] }) }
+        RunsAsRenamed i (class_renamed text_words writing i c d) (record no_renaming { classes = (c, d) ∷ [] }) }
 {
     law_changed_images();
 }

@@ -4,7 +4,7 @@ ghost use Rattle.rb_base.specs.Names.{text_eq};
 ghost use Rattle.image_model.specs.Image.{ImageOf};
 ghost use Rattle.st_kernel.specs.Selectors.{is_control};
 ghost use Rattle.run_model.specs.Values.{Name};
-ghost use Rattle.run_model.specs.Matched.{AreMatched};
+ghost use Rattle.mapped_model.specs.RenamedRuns.{RunsAsRenamed};
 ghost use Rattle.rename_model.specs.CommandWords.{text_command_words};
 ghost use Rattle.rename_model.specs.Conditions.{is_no_kernel_selector, is_selector_fresh};
 ghost use Rattle.rename_model.specs.ClassRenamed.{WritingOf};
@@ -19,10 +19,10 @@ use mapped_model::{law_changed_images, law_matched_by_maps, law_matched_images};
 /// written. What the command asks of both selectors says as much.
 pub fn law_renamed_selector()
     ensures matched { (writing : WritingOf Name) (i : ImageOf Name) (s t : Name) → is_control s ≡ false → is_control t ≡ false →
-        is_selector_fresh text_eq i t ≡ true → AreMatched i (selector_renamed text_eq writing i s t) (one_selector s t) }
+        is_selector_fresh text_eq i t ≡ true → RunsAsRenamed i (selector_renamed text_eq writing i s t) (one_selector s t) }
     ensures by_command { (writing : WritingOf Name) (i : ImageOf Name) (old new : Name) →
         is_no_kernel_selector text_eq text_command_words i old ≡ true → is_no_kernel_selector text_eq text_command_words i new ≡ true →
-        is_selector_fresh text_eq i new ≡ true → AreMatched i (selector_renamed text_eq writing i old new) (one_selector old new) }
+        is_selector_fresh text_eq i new ≡ true → RunsAsRenamed i (selector_renamed text_eq writing i old new) (one_selector old new) }
 {
     law_changed_images();
     law_matched_images();

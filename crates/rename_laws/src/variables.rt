@@ -8,7 +8,7 @@ ghost use Rattle.image_model.specs.Words.{text_words};
 ghost use Rattle.image_model.specs.Means.{of_instance, of_class_side, of_class};
 ghost use Rattle.run_model.specs.Values.{Name};
 ghost use Rattle.run_model.specs.Renamings.{OfClass, instance_image, class_side_image};
-ghost use Rattle.run_model.specs.Matched.{AreMatched};
+ghost use Rattle.mapped_model.specs.RenamedRuns.{RunsAsRenamed};
 ghost use Rattle.mapped_model.specs.NamesOfImages.{HasOrderedClasses};
 ghost use Rattle.mapped_model.specs.RenamedVariables.{renamed_below};
 ghost use Rattle.rename_model.specs.Conditions.{is_user_class, has_variable, is_variable_free, is_name_unused};
@@ -32,13 +32,13 @@ pub fn law_renamed_variable_of()
     ensures instance { (writing : WritingOf Name) (i : ImageOf Name) (c x y : Name) → HasVariablesOnce of_instance i →
         is_user_class text_eq i c ≡ true → has_variable text_eq i of_instance c x ≡ true → is_variable_free text_eq i c y ≡ true →
         is_pseudo_variable y ≡ false →
-        AreMatched i (variable_renamed text_words writing i of_instance c x y) (one_variable i of_instance c x y) }
+        RunsAsRenamed i (variable_renamed text_words writing i of_instance c x y) (one_variable i of_instance c x y) }
     ensures class_side { (writing : WritingOf Name) (i : ImageOf Name) (c x y : Name) → HasVariablesOnce of_class_side i →
         is_user_class text_eq i c ≡ true → has_variable text_eq i of_class_side c x ≡ true → is_variable_free text_eq i c y ≡ true →
         is_pseudo_variable y ≡ false →
-        AreMatched i (variable_renamed text_words writing i of_class_side c x y) (one_variable i of_class_side c x y) }
+        RunsAsRenamed i (variable_renamed text_words writing i of_class_side c x y) (one_variable i of_class_side c x y) }
     ensures shared { (writing : WritingOf Name) (i : ImageOf Name) (c x y : Name) → is_name_unused text_eq i y ≡ true →
-        is_pseudo_variable y ≡ false → AreMatched i (variable_renamed text_words writing i of_class c x y) (one_variable i of_class c x y) }
+        is_pseudo_variable y ≡ false → RunsAsRenamed i (variable_renamed text_words writing i of_class c x y) (one_variable i of_class c x y) }
     ensures instance_names { (i : ImageOf Name) (c x y : Name) (k : OfClass) → HasOrderedClasses i →
         instance_image (one_variable i of_instance c x y) k ≡ (k.0, renamed_below i c x y k) }
     ensures class_side_names { (i : ImageOf Name) (c x y : Name) (k : OfClass) → HasOrderedClasses i →

@@ -1,5 +1,5 @@
--- The source of each method of an image spells it, of the kernel or not.
-use Rattle.std.proofs.Common.{◌≡◌, Bool, true, false, not, [], ◌∷◌, ◌++◌, map, Ok, subst}
+-- The source of each method of a valid image spells it, of the kernel or not.
+use Rattle.std.proofs.Common.{◌≡◌, Bool, true, false, not, cond, List, [], ◌∷◌, ◌++◌, map, filter, Ok, refl, sym, subst}
 use Rattle.std.specs.Prelude.{if◌then◌else◌}
 use Rattle.std.specs.List.{AllByRecursion}
 use Rattle.rb_base.specs.Names.{text_eq}
@@ -7,18 +7,21 @@ use Rattle.token_model.specs.declared.kind.Dialect.{Dialect}
 use Rattle.tree_model.specs.Tree.{MethodOf}
 use Rattle.grammar_model.specs.Spelling.{SpellsMethod}
 use Rattle.image_model.specs.Image.{EntryOf, ImageOf}
+use Rattle.image_model.specs.Words.{text_words}
 use Rattle.image_model.specs.Lookup.{is_method}
+use Rattle.image_model.specs.Valid.{IsUserMethod, IsValid}
 use Rattle.file_model.specs.Changes.{ChangeOf, Define, DefineAt, Comment, SetClassSide, RemoveMethod, RemoveClass, RunOf}
 use Rattle.file_model.specs.Refusals.{has_method, definition_refusals, comment_refusals, class_side_refusals, removal_refusals, class_removal_refusals, method_refusals}
 use Rattle.file_model.specs.Applied.{is_of_class, with_definition, with_comment, with_class_side, defined, without_class, without_method, changed, entry_in, with_method, method_added}
 use Rattle.file_model.specs.Filing.{Text}
-use Rattle.file_model.specs.Reading.{IsImageOf}
+use Rattle.file_model.specs.Fileable.{reading_of}
+use Rattle.file_model.specs.Reading.{IsKernelOf}
 use Rattle.file_model.specs.Places.{put_again_behind, method_place}
 use Rattle.file_laws.proofs.OtherOrder.{all_reordered}
 use Rattle.file_laws.proofs.PutAgain.{put_again_behind_same}
 use Rattle.file_laws.proofs.Refused.{unless_ok}
 use Rattle.file_laws.proofs.Sound.{All-filter, All-last, All-replaced}
-use Rattle.file_laws.proofs.Taking.{IsKeptByChunks, kept_kernel, kept_image}
+use Rattle.file_laws.proofs.Taking.{IsKeptByChunks, kept_kernel}
 
 module _ (d : Dialect) where
   -- the source of a method spells it
@@ -58,6 +61,17 @@ module _ (d : Dialect) where
     places = λ i stated s. all_reordered IsSpelled i.methods (put_again_behind (λ (m : EntryOf Text). m.kernel) (method_place text_eq stated.methods) i.methods) (put_again_behind_same (λ (m : EntryOf Text). m.kernel) (method_place text_eq stated.methods) i.methods) s;
   }
 
-  -- so it is in the image of each file-out
-  pub all_spelled : (prelude text : Text) (i : ImageOf Text) → IsImageOf d prelude text i → AllByRecursion IsSpelled i.methods
-  all_spelled prelude text i h = kept_image d AllSpelled (spelled_keeps false) prelude text i h (kept_kernel d AllSpelled (spelled_keeps true) prelude h.kernel h.is_kernel tt)
+  -- where those of the users are spelled, and those of the kernel, all are
+  spelled_all : (kernel : ImageOf Text) (ms : List (EntryOf Text)) → AllByRecursion (λ (m : EntryOf Text). m.kernel ≡ false → IsUserMethod (reading_of d kernel) m) ms → AllByRecursion IsSpelled (filter (λ (m : EntryOf Text). m.kernel) ms) → AllByRecursion IsSpelled ms
+  spelled_all kernel [] users own = tt
+  spelled_all kernel (m ∷ ms) users own = by m.kernel refl own (spelled_all kernel ms users.1)
+    where
+      by : (b : Bool) → m.kernel ≡ b → AllByRecursion IsSpelled (cond b (m ∷ filter (λ (e : EntryOf Text). e.kernel) ms) (filter (λ (e : EntryOf Text). e.kernel) ms)) → (AllByRecursion IsSpelled (filter (λ (e : EntryOf Text). e.kernel) ms) → AllByRecursion IsSpelled ms) → IsSpelled m × AllByRecursion IsSpelled ms
+      by true e h rest = (h.0, rest h.1)
+      by false e h rest = (subst (λ (b : Bool). SpellsMethod d b m.source m.tree) (sym e) (users.0 e).spells, rest h)
+
+  -- so it is in each valid image
+  pub valid_spelled : (prelude : Text) (kernel i : ImageOf Text) → IsKernelOf d prelude kernel → IsValid text_words (reading_of d kernel) i → AllByRecursion IsSpelled i.methods
+  valid_spelled prelude kernel i is valid =
+      spelled_all kernel i.methods valid.user_methods
+      (subst (AllByRecursion IsSpelled) (sym valid.kernel_methods) (kept_kernel d AllSpelled (spelled_keeps true) prelude kernel is tt))

@@ -4,7 +4,7 @@ use Rattle.rb_base.specs.Names.{text_eq}
 use Rattle.image_model.specs.Image.{ImageOf}
 use Rattle.st_kernel.specs.Selectors.{is_control}
 use Rattle.run_model.specs.Values.{Name}
-use Rattle.run_model.specs.Matched.{AreMatched}
+use Rattle.mapped_model.specs.RenamedRuns.{RunsAsRenamed}
 use Rattle.mapped_model.specs.NamesOfImages.{names_in}
 use Rattle.rename_model.specs.Conditions.{is_selector_fresh}
 use Rattle.rename_model.specs.ClassRenamed.{WritingOf}
@@ -15,7 +15,7 @@ use Rattle.rename_laws.proofs.selectors.law_renamed_selector.Goals as goal
 
 pub returns : goal.returns
 returns k =
-    let matched : (writing : WritingOf Name) (i : ImageOf Name) (s t : Name) → is_control s ≡ false → is_control t ≡ false → is_selector_fresh text_eq i t ≡ true → AreMatched i (selector_renamed text_eq writing i s t) (one_selector s t) =
+    let matched : (writing : WritingOf Name) (i : ImageOf Name) (s t : Name) → is_control s ≡ false → is_control t ≡ false → is_selector_fresh text_eq i t ≡ true → RunsAsRenamed i (selector_renamed text_eq writing i s t) (one_selector s t) =
     λ writing i s t old new fresh.
     k.law_matched_by_maps.ensures.same_in_all_classes (one_selector s t) (maps writing i s t) (names_in i) i (selector_renamed text_eq writing i s t) (λ c. refl) (as-renaming writing i s t)
     (single writing i s t new fresh) (record { instance = λ x y p q e. e; class_side = λ x y p q e. e }) (k.law_matched_images.ensures.words i) (words-stay writing i s t old)

@@ -11,7 +11,7 @@ use Rattle.mapped_model.specs.NamesOfImages.{HasOrderedClasses}
 use Rattle.file_model.specs.Filing.{Text}
 use Rattle.file_model.specs.Fileable.{reading_of}
 use Rattle.rename_laws.specs.BehindKernel.{AssignsNothingFixed}
-use Rattle.renamed_files.proofs.Spelled.{IsSpelled, all_spelled}
+use Rattle.renamed_files.proofs.Spelled.{IsSpelled, valid_spelled}
 use Rattle.renamed_files.proofs.KernelWords.{words_kept, doits_kernel, given_some}
 use Rattle.renamed_files.proofs.laws.every_image_may_be_renamed.Goals as goal
 
@@ -24,29 +24,26 @@ ordered d kernel image valid = record {
 }
 
 pub returns-clause-behind_kernel : goal.returns-clause-behind_kernel
-returns-clause-behind_kernel c dialect text image is =
-    let valid = c.every_image_is_valid.ensures.valid dialect text is.kernel image is.is_kernel is in
-    let classes = valid.kernel_classes ∙ c.kernel_has_these_classes.ensures dialect is.kernel is.is_kernel in
+returns-clause-behind_kernel c dialect kernel image is valid =
+    let classes = valid.kernel_classes ∙ c.kernel_has_these_classes.ensures dialect kernel is in
     record {
-      ordered = ordered dialect is.kernel image valid;
+      ordered = ordered dialect kernel image valid;
       words = words_kept image valid.class_names_distinct classes;
       classes_there = valid.method_classes_there;
       methods =
           all-implies (IsSpelled dialect) (λ (m : EntryOf Text). AssignsNothingFixed (means text_words image m) m.tree.body)
-          (λ m spells. c.law_assigned_names.ensures.method dialect m.kernel image m.source m spells) image.methods (all_spelled dialect prelude_text text image is);
+          (λ m spells. c.law_assigned_names.ensures.method dialect m.kernel image m.source m spells) image.methods (valid_spelled dialect prelude_text kernel image is valid);
       doits =
-          all-implies (IsUserDoIt (reading_of dialect is.kernel)) (λ (x : DoItOf Text). AssignsNothingFixed (means_in_doit text_words image x) x.body)
+          all-implies (IsUserDoIt (reading_of dialect kernel)) (λ (x : DoItOf Text). AssignsNothingFixed (means_in_doit text_words image x) x.body)
           (λ x user. c.law_assigned_names.ensures.doit dialect image x.source x user.spells) image.doits valid.doits;
     }
 
 pub returns-clause-instance_once : goal.returns-clause-instance_once
-returns-clause-instance_once c dialect text image is =
-    let valid = c.every_image_is_valid.ensures.valid dialect text is.kernel image is.is_kernel is in
-    let classes = valid.kernel_classes ∙ c.kernel_has_these_classes.ensures dialect is.kernel is.is_kernel in
-    record { ordered = ordered dialect is.kernel image valid; once = valid.instance_variables_once; doits = doits_kernel image valid.class_names_distinct classes valid.superclasses_before }
+returns-clause-instance_once c dialect kernel image is valid =
+    let classes = valid.kernel_classes ∙ c.kernel_has_these_classes.ensures dialect kernel is in
+    record { ordered = ordered dialect kernel image valid; once = valid.instance_variables_once; doits = doits_kernel image valid.class_names_distinct classes valid.superclasses_before }
 
 pub returns-clause-class_side_once : goal.returns-clause-class_side_once
-returns-clause-class_side_once c dialect text image is =
-    let valid = c.every_image_is_valid.ensures.valid dialect text is.kernel image is.is_kernel is in
-    let classes = valid.kernel_classes ∙ c.kernel_has_these_classes.ensures dialect is.kernel is.is_kernel in
-    record { ordered = ordered dialect is.kernel image valid; once = valid.class_side_variables_once; doits = doits_kernel image valid.class_names_distinct classes valid.superclasses_before }
+returns-clause-class_side_once c dialect kernel image is valid =
+    let classes = valid.kernel_classes ∙ c.kernel_has_these_classes.ensures dialect kernel is in
+    record { ordered = ordered dialect kernel image valid; once = valid.class_side_variables_once; doits = doits_kernel image valid.class_names_distinct classes valid.superclasses_before }

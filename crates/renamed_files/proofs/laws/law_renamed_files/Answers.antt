@@ -1,38 +1,16 @@
-use Rattle.std.proofs.Common.{◌≡◌, length, refl}
-use Rattle.std.specs.Prelude.{Bool, true, false, not, ◌||◌, nat_le}
-use Rattle.std.proofs.lemmas.Bool.{false≢true}
-use Rattle.text_model.specs.Literals.{is_identifier}
-use Rattle.scope_model.specs.SpecialNames.{is_pseudo_variable}
-use Rattle.run_model.proofs.Finite.{and-true_left, and-true_right}
-use Rattle.file_model.specs.Filing.{Text}
-use Rattle.rename_model.specs.CommandWords.{may_be_declared, begins_upper}
-use Rattle.rename_model.specs.ClassRenamed.{canonical}
 use Rattle.renamed_files.proofs.laws.law_renamed_files.Goals as goal
 
--- neither of two tests, where it is denied that one holds
-denied_left : (a b : Bool) → not (a || b) ≡ true → a ≡ false
-denied_left true b e = absurd (false≢true e)
-denied_left false b e = refl
-
--- a name that may be declared is no pseudo-variable
-declared : (n : Text) → may_be_declared n ≡ true → is_pseudo_variable n ≡ false
-declared n e = denied_left (is_pseudo_variable n) _ (and-true_right (is_identifier n) _ (and-true_right (nat_le (length n) 200) _ e))
-
 pub returns-clause-class : goal.returns-clause-class
-returns-clause-class k dialect text image c d is user good unused =
-    k.law_renamed_class.ensures.matched canonical image c d (k.every_image_may_be_renamed.ensures.behind_kernel dialect text image is) user good unused
+returns-clause-class k dialect text image c d is = k.law_renamed_images.ensures.class dialect is.kernel image c d is.is_kernel (k.every_image_is_valid.ensures.valid dialect text is.kernel image is.is_kernel is)
 
 pub returns-clause-selector : goal.returns-clause-selector
-returns-clause-selector k dialect text image s t is old new fresh = k.law_renamed_selector.ensures.by_command canonical image s t old new fresh
+returns-clause-selector k dialect text image s t is = k.law_renamed_images.ensures.selector dialect is.kernel image s t is.is_kernel (k.every_image_is_valid.ensures.valid dialect text is.kernel image is.is_kernel is)
 
 pub returns-clause-instance : goal.returns-clause-instance
-returns-clause-instance k dialect text image c x y is user has good free =
-    k.law_renamed_variable_of.ensures.instance canonical image c x y (k.every_image_may_be_renamed.ensures.instance_once dialect text image is) user has free (declared y (and-true_left (may_be_declared y) (not (begins_upper y)) good))
+returns-clause-instance k dialect text image c x y is = k.law_renamed_images.ensures.instance dialect is.kernel image c x y is.is_kernel (k.every_image_is_valid.ensures.valid dialect text is.kernel image is.is_kernel is)
 
 pub returns-clause-class_side : goal.returns-clause-class_side
-returns-clause-class_side k dialect text image c x y is user has good free =
-    k.law_renamed_variable_of.ensures.class_side canonical image c x y (k.every_image_may_be_renamed.ensures.class_side_once dialect text image is) user has free (declared y (and-true_left (may_be_declared y) (not (begins_upper y)) good))
+returns-clause-class_side k dialect text image c x y is = k.law_renamed_images.ensures.class_side dialect is.kernel image c x y is.is_kernel (k.every_image_is_valid.ensures.valid dialect text is.kernel image is.is_kernel is)
 
 pub returns-clause-shared : goal.returns-clause-shared
-returns-clause-shared k dialect text image c x y is good unused =
-    k.law_renamed_variable_of.ensures.shared canonical image c x y unused (declared y (and-true_left (may_be_declared y) (begins_upper y) good))
+returns-clause-shared k dialect text image c x y is = k.law_renamed_images.ensures.shared dialect is.kernel image c x y is.is_kernel (k.every_image_is_valid.ensures.valid dialect text is.kernel image is.is_kernel is)
