@@ -1,9 +1,11 @@
 -- The examples are as the definitions have them.
-use Rattle.std.proofs.Common.{◌≡◌, List, [], ◌∷◌, map, refl}
+use Rattle.std.proofs.Common.{◌≡◌, List, [], ◌∷◌, map, false, refl}
 use Rattle.scope_model.specs.SpecialNames.{is_pseudo_variable}
 use Rattle.st_kernel.specs.Selectors.{is_reflective_selector, is_reserved_selector, is_control}
 use Rattle.command_model.specs.Examples.{Row, verdict_of, AllJudged, classes, instance_variables, class_variables, methods, moves}
 use Rattle.command_model.specs.Refused.{reflections, names, class_rows, new_variables, used_variables, method_rows, move_rows, reached_rows}
+use Rattle.command_model.specs.Orders.{order_rows, EndsEarly, Asking, answer_of, AllFalse, missing}
+use Rattle.command_model.specs.Compared.{Pair, comparison_of, AllCompared, literal_pairs, node_pairs, FirstAlone}
 
 -- rows are right whose verdicts are those that stand in them
 all_judged : (rs : List Row) → map verdict_of rs ≡ map (λ (r : Row). r.verdict) rs → AllJudged rs
@@ -12,6 +14,22 @@ all_judged (r ∷ rs) e =
     let first : verdict_of r ≡ r.verdict = cc in
     let others : map verdict_of rs ≡ map (λ (r : Row). r.verdict) rs = cc in
     (first, all_judged rs others)
+
+-- conditions are false whose answers are
+all_false : (qs : List Asking) → map answer_of qs ≡ map (λ (q : Asking). false) qs → AllFalse qs
+all_false [] e = tt
+all_false (q ∷ qs) e =
+    let first : answer_of q ≡ false = cc in
+    let others : map answer_of qs ≡ map (λ (q : Asking). false) qs = cc in
+    (first, all_false qs others)
+
+-- pairs are right that compare as it stands in them
+all_compared : (ps : List Pair) → map comparison_of ps ≡ map (λ (p : Pair). p.is_same) ps → AllCompared ps
+all_compared [] e = tt
+all_compared (p ∷ ps) e =
+    let first : comparison_of p ≡ p.is_same = cc in
+    let others : map comparison_of ps ≡ map (λ (p : Pair). p.is_same) ps = cc in
+    (first, all_compared ps others)
 
 pub judges_classes : AllJudged classes
 unfolding is_pseudo_variable is_reflective_selector is_reserved_selector is_control
@@ -64,3 +82,23 @@ judges_move_rows = all_judged move_rows refl
 pub judges_reached_rows : AllJudged reached_rows
 unfolding is_pseudo_variable is_reflective_selector is_reserved_selector is_control
 judges_reached_rows = all_judged reached_rows refl
+
+pub judges_order_rows : AllJudged order_rows
+unfolding is_pseudo_variable is_reflective_selector is_reserved_selector is_control
+judges_order_rows = all_judged order_rows refl
+
+pub ends_early : EndsEarly
+ends_early = (refl, refl)
+
+pub denies_missing : AllFalse missing
+unfolding is_pseudo_variable is_reflective_selector is_reserved_selector is_control
+denies_missing = all_false missing refl
+
+pub compares_literal_pairs : AllCompared literal_pairs
+compares_literal_pairs = all_compared literal_pairs refl
+
+pub compares_node_pairs : AllCompared node_pairs
+compares_node_pairs = all_compared node_pairs refl
+
+pub compares_methods : FirstAlone
+compares_methods = refl

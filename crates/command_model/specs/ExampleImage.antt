@@ -140,9 +140,11 @@ checking_bonus = method (codes "Checking") (answering (codes "bonus") (numeral (
 abbrev pub loan_with : EntryOf Text
 loan_with = method (codes "Loan") (taking (codes "with:") (codes "note" ∷ []) (name (codes "note")))
 
--- `go ^[:each | self tax]`
+-- `go ^[:each :other | | it | it := each. self tax]`
 abbrev pub loan_go : EntryOf Text
-loan_go = method (codes "Loan") (answering (codes "go") (block (codes "each" ∷ []) [] (more_statements [] (unary (name (codes "self")) (codes "tax")) no_statements) []))
+loan_go =
+    method (codes "Loan") (answering (codes "go") (block (codes "each" ∷ codes "other" ∷ []) (codes "it" ∷ [])
+    (more_statements [] (assign (codes "it") (name (codes "each"))) (more_statements [] (unary (name (codes "self")) (codes "tax")) no_statements)) []))
 
 -- `extra ^rate + Bonus`, with the name of the instance variable
 abbrev pub extra_of : Text → EntryOf Text
@@ -151,12 +153,19 @@ extra_of x = method (codes "Premium") (answering (codes "extra") (send (name x) 
 abbrev pub premium_extra : EntryOf Text
 premium_extra = extra_of (codes "rate")
 
+-- `fee ^super fee` in Premium, as it is in Savings
+abbrev pub premium_fee : EntryOf Text
+premium_fee = method (codes "Premium") super_fee
+
 -- the methods of the user by their classes
 abbrev pub account_methods : List (EntryOf Text)
 account_methods = account_fee ∷ account_balance ∷ account_named ∷ account_make ∷ []
 
+abbrev pub other_savings_methods : List (EntryOf Text)
+other_savings_methods = savings_holder ∷ savings_bonus ∷ savings_interest ∷ savings_printed ∷ savings_all ∷ []
+
 abbrev pub savings_methods : List (EntryOf Text)
-savings_methods = savings_fee ∷ savings_holder ∷ savings_bonus ∷ savings_interest ∷ savings_printed ∷ savings_all ∷ []
+savings_methods = savings_fee ∷ other_savings_methods
 
 abbrev pub checking_methods : List (EntryOf Text)
 checking_methods = checking_fee ∷ checking_bonus ∷ []

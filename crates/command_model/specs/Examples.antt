@@ -1,6 +1,6 @@
 -- Commands that are accepted in small images, and the images after them.
-use Rattle.std.specs.Prelude.{◌≡◌, List, [], ◌∷◌, ◌++◌, false, codes, Some, Result, Ok}
-use Rattle.tree_model.specs.Tree.{assign, MethodOf}
+use Rattle.std.specs.Prelude.{◌≡◌, List, [], ◌∷◌, ◌++◌, true, false, codes, Some, Result, Ok}
+use Rattle.tree_model.specs.Tree.{send, assign, trees_of, MethodOf}
 use Rattle.image_model.specs.Image.{ClassOf, EntryOf, ImageOf}
 use Rattle.image_model.specs.Grown.{with_method}
 use Rattle.command_model.specs.Commands.{CommandOf, RenameClass, AddClass, RemoveClass, AddInstVar, RenameInstVar, RemoveInstVar, PushUpInstVar, PushDownInstVar, AddClassVar, RenameClassVar, RemoveClassVar, PushUpClassVar, PushDownClassVar, AddClassSideVar, RenameClassSideVar, RemoveClassSideVar, RenameSelector, AddMethod, RemoveMethod, PushUpMethod, PushDownMethod}
@@ -8,7 +8,7 @@ use Rattle.command_model.specs.Conditions.{ConditionOf}
 use Rattle.command_model.specs.Asked.{text_asked}
 use Rattle.command_model.specs.MethodEffects.{of_class_named}
 use Rattle.command_model.specs.Judged.{judged}
-use Rattle.command_model.specs.ExampleImage.{Text, class_with, account, savings, checking, loan, premium, unary, name, numeral, answering, method, class_method, written, marking, account_fee, account_balance, account_named, account_make, super_fee, savings_fee, savings_holder, savings_bonus, savings_interest, savings_printed, savings_all, checking_fee, checking_bonus, premium_extra, extra_of, account_methods, savings_methods, checking_methods, loan_methods, premium_methods, first_doit, third_doit, last_doits, written_doit, bank, with_classes, with_methods, with_both}
+use Rattle.command_model.specs.ExampleImage.{Text, class_with, account, savings, checking, loan, premium, unary, name, numeral, answering, method, class_method, written, marking, account_fee, account_balance, account_named, account_make, super_fee, savings_fee, savings_holder, savings_bonus, savings_interest, savings_printed, savings_all, checking_fee, checking_bonus, loan_with, loan_go, premium_extra, extra_of, premium_fee, account_methods, savings_methods, other_savings_methods, checking_methods, loan_methods, premium_methods, first_doit, third_doit, last_doits, written_doit, bank, with_classes, with_methods, with_both}
 
 -- an image, a command, and the image after it or its first condition that is false
 pub record Row : Type 0 where
@@ -103,13 +103,17 @@ class_variables =
 abbrev pub changed_to : MethodOf Text → EntryOf Text → EntryOf Text
 changed_to tree m = written (record m { tree = tree })
 
--- a selector is that of methods of several classes, of a message to `super` and of a do-it; a method is added to a class that nothing means, and one that hides what is inherited; one goes whose like is inherited but for a comment, and one whose selector nothing sends
+-- `copy ^self shallowCopy` on the class side, as it is on the instance side of Object
+abbrev pub savings_copy : EntryOf Text
+savings_copy = class_method (codes "Savings") (answering (codes "copy") (unary (name (codes "self")) (codes "shallowCopy")))
+
+-- a selector is that of methods of several classes, of a message to `super` and of a do-it; a method is added to a class that nothing means, and one that hides what is inherited; one goes whose like is inherited but for a comment, one of the class side whose like is that of the instance side of Object, and one whose selector nothing sends
 abbrev pub methods : List Row
 methods =
     accepted (RenameSelector (codes "fee") (codes "charge"))
     (record (with_methods (
     (changed_to (answering (codes "charge") (numeral (codes "1"))) account_fee ∷ account_balance ∷ account_named ∷ account_make ∷ [])
-    ++ (changed_to (answering (codes "charge") (unary (name (codes "super")) (codes "charge"))) savings_fee ∷ savings_holder ∷ savings_bonus ∷ savings_interest ∷ savings_printed ∷ savings_all ∷ [])
+    ++ (changed_to (answering (codes "charge") (unary (name (codes "super")) (codes "charge"))) savings_fee ∷ other_savings_methods)
     ++ (changed_to (record (answering (codes "charge") (numeral (codes "1"))) { head = codes "\"none\"" ∷ [] }) checking_fee ∷ checking_bonus ∷ [])
     ++ loan_methods ++ premium_methods))
     { doits = written_doit (first_doit (codes "Premium") (codes "charge")) ∷ last_doits (third_doit (codes "Premium")) })
@@ -118,23 +122,38 @@ methods =
     ∷ accepted (AddMethod (codes "Loan") false (codes "p") (codes "fee") (answering (codes "fee") (numeral (codes "3"))))
     (with_method bank (method (codes "Loan") (answering (codes "fee") (numeral (codes "3")))))
     ∷ accepted (RemoveMethod (codes "Checking") false (codes "fee")) (with_methods (account_methods ++ savings_methods ++ checking_bonus ∷ loan_methods ++ premium_methods))
+    ∷ accepted_in (with_method bank savings_copy) (RemoveMethod (codes "Savings") true (codes "copy")) bank
     ∷ accepted (RemoveMethod (codes "Savings") false (codes "printed"))
     (with_methods (account_methods ++ (savings_fee ∷ savings_holder ∷ savings_bonus ∷ savings_interest ∷ savings_all ∷ []) ++ checking_methods ++ loan_methods ++ premium_methods))
     ∷ []
 
--- the bank in which Savings has its `fee` on the class side alone
-abbrev pub other_side : ImageOf Text
-other_side = with_methods (account_methods ++ (savings_holder ∷ savings_bonus ∷ savings_interest ∷ savings_printed ∷ savings_all ∷ []) ++ checking_methods ++ loan_methods ++ premium_methods ++ class_method (codes "Savings") super_fee ∷ [])
+-- `log ^Transcript show: Premium`
+abbrev pub loan_log : EntryOf Text
+loan_log = method (codes "Loan") (answering (codes "log") (send (name (codes "Transcript")) (codes "show:") (trees_of (name (codes "Premium") ∷ []))))
 
--- a method goes up at its place, where another subclass has its own; one goes down to all direct subclasses in the order of classes, and another one to those alone that have none of their own, where `super` stands on the other side
+-- the bank in which not Savings has its `fee` but another method, which is the last
+abbrev pub with_other_fee : List (EntryOf Text) → EntryOf Text → ImageOf Text
+with_other_fee above m = with_methods (above ++ other_savings_methods ++ checking_methods ++ loan_methods ++ premium_methods ++ m ∷ [])
+
+-- the methods of Account, where its `fee` has gone down to the classes without one
+abbrev pub without_fee : List (EntryOf Text)
+without_fee =
+    of_class_named account_fee (codes "Savings") ∷ of_class_named account_fee (codes "Loan") ∷ account_balance ∷ account_named ∷ account_make ∷ []
+
+-- a method goes up at its place, where another subclass has its own; methods go up with names of each kind, whose selectors nothing sends; one goes down to all direct subclasses in the order of classes, and another one to those alone that have none of their own, where `super` leads to the other side, or from a class below to a direct subclass
 abbrev pub moves : List Row
 moves =
     accepted (PushUpMethod (codes "Savings") false (codes "bonus"))
     (with_methods (account_methods ++ (savings_fee ∷ savings_holder ∷ of_class_named savings_bonus (codes "Account") ∷ savings_interest ∷ savings_printed ∷ savings_all ∷ []) ++ checking_methods ++ loan_methods ++ premium_methods))
+    ∷ accepted (PushUpMethod (codes "Loan") false (codes "with:"))
+    (with_methods (account_methods ++ savings_methods ++ checking_methods ++ of_class_named loan_with (codes "Account") ∷ loan_go ∷ premium_methods))
+    ∷ accepted (PushUpMethod (codes "Loan") false (codes "go"))
+    (with_methods (account_methods ++ savings_methods ++ checking_methods ++ loan_with ∷ of_class_named loan_go (codes "Account") ∷ premium_methods))
+    ∷ accepted_in (with_method bank loan_log) (PushUpMethod (codes "Loan") false (codes "log")) (with_method bank (of_class_named loan_log (codes "Account")))
     ∷ accepted (PushDownMethod (codes "Account") false (codes "balance"))
     (with_methods ((account_fee ∷ of_class_named account_balance (codes "Savings") ∷ of_class_named account_balance (codes "Checking") ∷ of_class_named account_balance (codes "Loan") ∷ account_named ∷ account_make ∷ [])
     ++ savings_methods ++ checking_methods ++ loan_methods ++ premium_methods))
-    ∷ accepted_in other_side (PushDownMethod (codes "Account") false (codes "fee"))
-    (with_methods ((of_class_named account_fee (codes "Savings") ∷ of_class_named account_fee (codes "Loan") ∷ account_balance ∷ account_named ∷ account_make ∷ [])
-    ++ (savings_holder ∷ savings_bonus ∷ savings_interest ∷ savings_printed ∷ savings_all ∷ []) ++ checking_methods ++ loan_methods ++ premium_methods ++ class_method (codes "Savings") super_fee ∷ []))
+    ∷ accepted_in (with_other_fee account_methods (class_method (codes "Savings") super_fee)) (PushDownMethod (codes "Account") false (codes "fee"))
+    (with_other_fee without_fee (class_method (codes "Savings") super_fee))
+    ∷ accepted_in (with_other_fee account_methods premium_fee) (PushDownMethod (codes "Account") false (codes "fee")) (with_other_fee without_fee premium_fee)
     ∷ []

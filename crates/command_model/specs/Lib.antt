@@ -18,3 +18,5 @@ pub mod Judged
 pub mod ExampleImage
 pub mod Examples
 pub mod Refused
+pub mod Orders
+pub mod Compared

@@ -5,7 +5,7 @@ use Rattle.image_model.specs.Image.{EntryOf, ImageOf, plus}
 use Rattle.image_model.specs.Grown.{with_method}
 use Rattle.command_model.specs.Commands.{CommandOf, RenameClass, AddClass, RemoveClass, AddInstVar, RemoveInstVar, PushUpInstVar, PushDownInstVar, AddClassVar, RemoveClassVar, PushUpClassVar, PushDownClassVar, AddClassSideVar, RemoveClassSideVar, RenameSelector, AddMethod, RemoveMethod, PushUpMethod, PushDownMethod}
 use Rattle.command_model.specs.Conditions.{of_a_class, of_a_class_variable, of_another_variable, of_methods, ConditionOf, NoReflection, IsUserClass, GoodName, NameUnused, SelectorFresh, NotKernelSelector, Arity, Implements, NotImplements, Removable, NoSubclasses, NotReferenced, HasVariable, VariableFree, VariableUnused, ParentIsUser, NoSuper, MeansSame, Unreached, IsClass, ChildOf, LacksVariable, KnownSelector}
-use Rattle.command_model.specs.ExampleImage.{Text, account, savings, checking, loan, premium, unary, name, numeral, taking, answering, method, super_fee, doit, bank, with_classes}
+use Rattle.command_model.specs.ExampleImage.{Text, account, savings, checking, loan, premium, unary, name, numeral, taking, answering, method, doit, premium_fee, bank, with_classes}
 use Rattle.command_model.specs.Examples.{Row}
 
 -- a command that is refused in an image, or in the bank
@@ -22,7 +22,7 @@ adding c tree = AddMethod c false (codes "p") tree.selector tree
 -- a do-it names the program; a method that is added is the one for messages that are not understood, or looks at the program
 abbrev pub reflections : List Row
 reflections =
-    refused_in (plus bank (doit (unary (name (codes "Smalltalk")) (codes "foo")))) (RemoveClass (codes "Loan")) NoReflection
+    refused_in (plus bank (doit (unary (name (codes "Smalltalk")) (codes "foo")))) (RemoveClass (codes "Nobody")) NoReflection
     ∷ refused (adding (codes "Loan") (taking (codes "doesNotUnderstand:") (codes "m" ∷ []) (numeral (codes "1")))) NoReflection
     ∷ refused (adding (codes "Loan") (answering (codes "ask") (send (name (codes "self")) (codes "perform:") (trees_of (name (codes "nil") ∷ []))))) NoReflection
     ∷ []
@@ -60,7 +60,7 @@ class_rows =
 abbrev pub loan_quote : EntryOf Text
 loan_quote = method (codes "Loan") (answering (codes "quote") (name (codes "rate")))
 
--- a variable that is inherited, or of another kind; a new one whose name a class above, a class below or a variable of another kind has, or a block declares; one that goes up past a method that has its name
+-- a variable that is inherited, or of another kind; a new one whose name a class above, a class below or a variable of another kind has, or a block declares; one that goes up past a method that has its name, a class-instance variable of it, a variable of it in the superclass, or a class variable of it in another subclass
 abbrev pub new_variables : List Row
 new_variables =
     refused (RemoveInstVar (codes "Premium") (codes "rate")) (HasVariable (codes "Premium") (codes "rate"))
@@ -68,10 +68,13 @@ new_variables =
     ∷ refused (AddInstVar (codes "Premium") (codes "balance")) (VariableFree (codes "Premium") (codes "balance"))
     ∷ refused (AddInstVar (codes "Account") (codes "rate")) (VariableFree (codes "Account") (codes "rate"))
     ∷ refused (AddInstVar (codes "Account") (codes "made")) (VariableFree (codes "Account") (codes "made"))
-    ∷ refused (AddInstVar (codes "Account") (codes "each")) (VariableFree (codes "Account") (codes "each"))
+    ∷ refused (AddInstVar (codes "Account") (codes "other")) (VariableFree (codes "Account") (codes "other"))
     ∷ refused (AddClassSideVar (codes "Savings") (codes "owner")) (VariableFree (codes "Savings") (codes "owner"))
     ∷ refused_in (with_method bank loan_quote) (PushUpInstVar (codes "Savings") (codes "rate")) (VariableFree (codes "Account") (codes "rate"))
+    ∷ refused_in (with_classes (account ∷ savings ∷ checking ∷ record loan { class_side = codes "rate" ∷ [] } ∷ premium ∷ [])) (PushUpInstVar (codes "Savings") (codes "rate")) (VariableFree (codes "Account") (codes "rate"))
+    ∷ refused_in (with_classes (record account { class_side = codes "rate" ∷ [] } ∷ savings ∷ checking ∷ loan ∷ premium ∷ [])) (PushUpInstVar (codes "Savings") (codes "rate")) (VariableFree (codes "Account") (codes "rate"))
     ∷ refused (PushUpClassVar (codes "Savings") (codes "Prime")) (VariableFree (codes "Account") (codes "Prime"))
+    ∷ refused_in (with_classes (account ∷ savings ∷ record checking { shared = codes "Bonus" ∷ [] } ∷ loan ∷ premium ∷ [])) (PushUpClassVar (codes "Savings") (codes "Bonus")) (VariableFree (codes "Account") (codes "Bonus"))
     ∷ refused (PushUpInstVar (codes "Account") (codes "owner")) (ParentIsUser (codes "Account"))
     ∷ []
 
@@ -86,25 +89,34 @@ used_variables =
     ∷ refused_in (with_classes (account ∷ record savings { class_side = codes "Total" ∷ [] } ∷ checking ∷ loan ∷ premium ∷ [])) (PushDownClassVar (codes "Account") (codes "Total") (codes "Savings")) (LacksVariable (codes "Savings") (codes "Total"))
     ∷ []
 
--- `fee ^super fee` and `named ^Prime` in Premium, as they are in a class above
-abbrev pub premium_fee : EntryOf Text
-premium_fee = method (codes "Premium") super_fee
-
+-- `named ^Prime` in Premium, as it is in Account
 abbrev pub premium_named : EntryOf Text
 premium_named = method (codes "Premium") (answering (codes "named") (name (codes "Prime")))
 
--- a method that is inherited, one of the kernel, and one that is there; a method without a like above it, one with `super` whose like is above it, and one with a name that means another thing there
+-- `shallowCopy ^1`, whose selector the kernel alone sends
+abbrev pub loan_shallow_copy : EntryOf Text
+loan_shallow_copy = method (codes "Loan") (answering (codes "shallowCopy") (numeral (codes "1")))
+
+-- a method that is inherited, one of the kernel, and one that is there; a method without a like above it, one of a selector of the kernel, one with `super` whose like is above it, and one with a name that means another thing there
 abbrev pub method_rows : List Row
 method_rows =
     refused (RemoveMethod (codes "Loan") false (codes "fee")) (Implements (codes "Loan") false (codes "fee"))
     ∷ refused (RemoveMethod (codes "Object") false (codes "copy")) (Implements (codes "Object") false (codes "copy"))
     ∷ refused (adding (codes "Checking") (answering (codes "fee") (numeral (codes "3")))) (NotImplements (codes "Checking") false (codes "fee"))
     ∷ refused (RemoveMethod (codes "Savings") false (codes "bonus")) (Removable (codes "Savings") false (codes "bonus"))
+    ∷ refused_in (with_method bank loan_shallow_copy) (RemoveMethod (codes "Loan") false (codes "shallowCopy")) (Removable (codes "Loan") false (codes "shallowCopy"))
     ∷ refused_in (with_method bank premium_fee) (RemoveMethod (codes "Premium") false (codes "fee")) (Removable (codes "Premium") false (codes "fee"))
     ∷ refused_in (with_method bank premium_named) (RemoveMethod (codes "Premium") false (codes "named")) (Removable (codes "Premium") false (codes "named"))
     ∷ []
 
--- a method that goes to a class of the kernel, or where one is; with `super`; with a name that means another thing in the superclass, or in a subclass; and one that another class finds which a do-it names, or that a class below finds, or to which `super` leads
+-- `sum ^Total`, and the bank in which Savings has a class variable of that name, too
+abbrev pub account_sum : EntryOf Text
+account_sum = method (codes "Account") (answering (codes "sum") (name (codes "Total")))
+
+abbrev pub twice_total : ImageOf Text
+twice_total = with_classes (account ∷ record savings { shared = codes "Total" ∷ [] } ∷ checking ∷ loan ∷ premium ∷ [])
+
+-- a method that goes to a class of the kernel, or where one is; with `super`; with a name that means another thing in the superclass or in a subclass, or a class variable of another class
 abbrev pub move_rows : List Row
 move_rows =
     refused (PushUpMethod (codes "Account") false (codes "balance")) (ParentIsUser (codes "Account"))
@@ -113,12 +125,14 @@ move_rows =
     ∷ refused (PushDownMethod (codes "Savings") false (codes "fee")) (NoSuper (codes "Savings") false (codes "fee"))
     ∷ refused (PushUpMethod (codes "Savings") false (codes "interest")) (MeansSame (codes "Savings") false (codes "interest") (codes "Account"))
     ∷ refused (PushDownMethod (codes "Account") false (codes "named")) (MeansSame (codes "Account") false (codes "named") (codes "Savings"))
+    ∷ refused_in (with_method twice_total account_sum) (PushDownMethod (codes "Account") false (codes "sum")) (MeansSame (codes "Account") false (codes "sum") (codes "Savings"))
     ∷ []
 
--- of these only the messages that are sent decide
+-- another class finds the method that goes up, and a do-it names that class; a class below finds the one that is added, where it found none and where it found another; a message to `super` finds the one no more that goes down
 abbrev pub reached_rows : List Row
 reached_rows =
     refused (PushUpMethod (codes "Savings") false (codes "holder")) (Unreached (codes "holder"))
     ∷ refused (adding (codes "Savings") (answering (codes "tax") (numeral (codes "2")))) (Unreached (codes "tax"))
+    ∷ refused (adding (codes "Premium") (answering (codes "fee") (numeral (codes "3")))) (Unreached (codes "fee"))
     ∷ refused (PushDownMethod (codes "Account") false (codes "fee")) (Unreached (codes "fee"))
     ∷ []
