@@ -4,8 +4,9 @@ use Rattle.scope_model.specs.SpecialNames.{is_pseudo_variable}
 use Rattle.st_kernel.specs.Selectors.{is_reflective_selector, is_reserved_selector, is_control}
 use Rattle.command_model.specs.Examples.{Row, verdict_of, AllJudged, classes, instance_variables, class_variables, methods, moves}
 use Rattle.command_model.specs.Refused.{reflections, names, class_rows, new_variables, used_variables, method_rows, move_rows, reached_rows}
-use Rattle.command_model.specs.Orders.{order_rows, EndsEarly, Asking, answer_of, AllFalse, missing}
-use Rattle.command_model.specs.Compared.{Pair, comparison_of, AllCompared, literal_pairs, node_pairs, FirstAlone}
+use Rattle.command_model.specs.Orders.{order_rows, Asking, answer_of, AllFalse, missing}
+use Rattle.command_model.specs.Listed.{Listing, listed, AllListed, class_listings, method_listings}
+use Rattle.command_model.specs.Compared.{CommentsDoNotCount, AreTreesApart, AreMethodsApart}
 
 -- rows are right whose verdicts are those that stand in them
 all_judged : (rs : List Row) → map verdict_of rs ≡ map (λ (r : Row). r.verdict) rs → AllJudged rs
@@ -23,13 +24,13 @@ all_false (q ∷ qs) e =
     let others : map answer_of qs ≡ map (λ (q : Asking). false) qs = cc in
     (first, all_false qs others)
 
--- pairs are right that compare as it stands in them
-all_compared : (ps : List Pair) → map comparison_of ps ≡ map (λ (p : Pair). p.is_same) ps → AllCompared ps
-all_compared [] e = tt
-all_compared (p ∷ ps) e =
-    let first : comparison_of p ≡ p.is_same = cc in
-    let others : map comparison_of ps ≡ map (λ (p : Pair). p.is_same) ps = cc in
-    (first, all_compared ps others)
+-- lists are right that are those that stand in them
+all_listed : (ls : List Listing) → map listed ls ≡ map (λ (l : Listing). l.conditions) ls → AllListed ls
+all_listed [] e = tt
+all_listed (l ∷ ls) e =
+    let first : listed l ≡ l.conditions = cc in
+    let others : map listed ls ≡ map (λ (l : Listing). l.conditions) ls = cc in
+    (first, all_listed ls others)
 
 pub judges_classes : AllJudged classes
 unfolding is_pseudo_variable is_reflective_selector is_reserved_selector is_control
@@ -87,18 +88,21 @@ pub judges_order_rows : AllJudged order_rows
 unfolding is_pseudo_variable is_reflective_selector is_reserved_selector is_control
 judges_order_rows = all_judged order_rows refl
 
-pub ends_early : EndsEarly
-ends_early = (refl, refl)
-
 pub denies_missing : AllFalse missing
 unfolding is_pseudo_variable is_reflective_selector is_reserved_selector is_control
 denies_missing = all_false missing refl
 
-pub compares_literal_pairs : AllCompared literal_pairs
-compares_literal_pairs = all_compared literal_pairs refl
+pub lists_class_listings : AllListed class_listings
+lists_class_listings = all_listed class_listings refl
 
-pub compares_node_pairs : AllCompared node_pairs
-compares_node_pairs = all_compared node_pairs refl
+pub lists_method_listings : AllListed method_listings
+lists_method_listings = all_listed method_listings refl
 
-pub compares_methods : FirstAlone
-compares_methods = refl
+pub overlooks_comments : CommentsDoNotCount
+overlooks_comments = (refl, refl)
+
+pub tells_trees_apart : AreTreesApart
+tells_trees_apart = (refl, refl)
+
+pub tells_methods_apart : AreMethodsApart
+tells_methods_apart = (refl, refl)

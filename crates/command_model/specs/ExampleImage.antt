@@ -176,6 +176,9 @@ loan_methods = loan_with ∷ loan_go ∷ []
 abbrev pub premium_methods : List (EntryOf Text)
 premium_methods = premium_extra ∷ []
 
+abbrev pub user_methods : List (EntryOf Text)
+user_methods = account_methods ++ savings_methods ++ checking_methods ++ loan_methods ++ premium_methods
+
 -- a do-it, with a letter in place of its text
 abbrev pub doit : TreeOf Text → DoItOf Text
 doit t = record { source = codes "d"; body = statement t }
@@ -208,7 +211,7 @@ written_doit d = record d { source = codes "written" }
 abbrev pub bank : ImageOf Text
 bank = record {
   classes = kernel_classes ++ account ∷ savings ∷ checking ∷ loan ∷ premium ∷ [];
-  methods = kernel_methods ++ account_methods ++ savings_methods ++ checking_methods ++ loan_methods ++ premium_methods;
+  methods = kernel_methods ++ user_methods;
   doits = bank_doits;
   heads = 0;
 }

@@ -19,4 +19,5 @@ pub mod ExampleImage
 pub mod Examples
 pub mod Refused
 pub mod Orders
+pub mod Listed
 pub mod Compared

@@ -1,22 +1,19 @@
--- Which condition is told where several are false, where a list of conditions ends, and conditions on things that are not there.
+-- Which condition is told where several are false, and conditions on things that are not there.
 use Rattle.std.specs.Prelude.{◌≡◌, List, [], ◌∷◌, false, Bool, codes}
 use Rattle.tree_model.specs.Tree.{send, trees_of}
 use Rattle.image_model.specs.Image.{EntryOf, plus}
 use Rattle.image_model.specs.Grown.{with_method}
-use Rattle.rb_base.specs.Names.{text_eq}
-use Rattle.rename_model.specs.CommandWords.{text_command_words}
 use Rattle.command_model.specs.Commands.{CommandOf, RenameClass, AddClass, RemoveClass, AddInstVar, RenameInstVar, RemoveInstVar, PushUpInstVar, PushDownClassVar, RenameSelector, RemoveMethod, PushUpMethod, PushDownMethod}
-use Rattle.command_model.specs.Conditions.{of_a_class, of_another_variable, of_methods, ConditionOf, NoReflection, IsUserClass, GoodName, NotKernelSelector, Arity, Implements, NotImplements, Removable, NoSubclasses, NotReferenced, HasVariable, VariableFree, VariableUnused, ParentIsUser, NoSuper, MeansSame, Unreached, IsClass, ChildOf, LacksVariable, KnownSelector}
+use Rattle.command_model.specs.Conditions.{of_a_class, of_another_variable, of_methods, ConditionOf, IsUserClass, GoodName, NotKernelSelector, Arity, Implements, NotImplements, Removable, NoSubclasses, NotReferenced, HasVariable, VariableFree, VariableUnused, ParentIsUser, NoSuper, MeansSame, Unreached, IsClass, ChildOf, LacksVariable, KnownSelector}
 use Rattle.command_model.specs.Asked.{text_asked}
-use Rattle.command_model.specs.Needs.{needs}
 use Rattle.command_model.specs.Holds.{holds}
 use Rattle.command_model.specs.ExampleImage.{Text, account, savings, checking, loan, premium, name, numeral, answering, method, doit, bank, with_classes}
 use Rattle.command_model.specs.Examples.{Row}
 use Rattle.command_model.specs.Refused.{refused_in, refused, adding}
 
--- `both ^super at: rate`
-abbrev pub savings_both : EntryOf Text
-savings_both = method (codes "Savings") (answering (codes "both") (send (name (codes "super")) (codes "at:") (trees_of (name (codes "rate") ∷ []))))
+-- `at ^super at: rate`
+abbrev pub savings_at : EntryOf Text
+savings_at = method (codes "Savings") (answering (codes "at") (send (name (codes "super")) (codes "at:") (trees_of (name (codes "rate") ∷ []))))
 
 -- commands of which several conditions are false
 abbrev pub order_rows : List Row
@@ -38,16 +35,8 @@ order_rows =
     ∷ refused (RemoveMethod (codes "Nobody") false (codes "fee")) (IsClass (codes "Nobody"))
     ∷ refused (PushUpMethod (codes "Account") false (codes "nothing")) (Implements (codes "Account") false (codes "nothing"))
     ∷ refused (PushUpMethod (codes "Savings") false (codes "fee")) (NotImplements (codes "Account") false (codes "fee"))
-    ∷ refused_in (with_method bank savings_both) (PushUpMethod (codes "Savings") false (codes "both")) (NoSuper (codes "Savings") false (codes "both"))
+    ∷ refused_in (with_method bank savings_at) (PushUpMethod (codes "Savings") false (codes "at")) (NoSuper (codes "Savings") false (codes "at"))
     ∷ []
-
--- where there is no superclass, the list ends before the conditions that are given it
-abbrev pub EndsEarly : Type 0
-EndsEarly =
-    (needs text_eq text_command_words bank (PushUpInstVar (codes "Nobody") (codes "x"))
-    ≡ NoReflection ∷ IsUserClass (codes "Nobody") ∷ HasVariable (codes "Nobody") (codes "x") ∷ ParentIsUser (codes "Nobody") ∷ [])
-    × (needs text_eq text_command_words bank (PushUpMethod (codes "Object") false (codes "copy"))
-    ≡ NoReflection ∷ IsUserClass (codes "Object") ∷ Implements (codes "Object") false (codes "copy") ∷ ParentIsUser (codes "Object") ∷ [])
 
 -- a command, and one of its conditions
 pub record Asking : Type 0 where
@@ -66,7 +55,7 @@ abbrev pub AllFalse : List Asking → Type 0
 AllFalse [] = Unit {0}
 AllFalse (q ∷ qs) = (answer_of q ≡ false) × AllFalse qs
 
--- conditions on classes, variables and methods that are not there
+-- conditions on classes, variables and methods that are not there, and one that is none of its command's
 abbrev pub missing : List Asking
 missing =
     asking (adding (codes "Nobody") (answering (codes "tax") (numeral (codes "2")))) (NotImplements (codes "Nobody") false (codes "tax"))
@@ -82,5 +71,7 @@ missing =
     ∷ asking (PushDownMethod (codes "Loan") false (codes "nothing")) (NoSuper (codes "Loan") false (codes "nothing"))
     ∷ asking (PushDownMethod (codes "Loan") false (codes "nothing")) (Unreached (codes "nothing"))
     ∷ asking (PushUpMethod (codes "Loan") false (codes "nothing")) (MeansSame (codes "Loan") false (codes "nothing") (codes "Account"))
+    ∷ asking (PushUpMethod (codes "Loan") false (codes "with:")) (MeansSame (codes "Loan") false (codes "with:") (codes "Nobody"))
     ∷ asking (PushUpMethod (codes "Loan") false (codes "nothing")) (Unreached (codes "nothing"))
+    ∷ asking (RemoveMethod (codes "Loan") false (codes "go")) (Unreached (codes "go"))
     ∷ []

@@ -1,12 +1,12 @@
 -- Commands that are refused in small images, each with its first condition that is false.
-use Rattle.std.specs.Prelude.{List, [], ◌∷◌, false, codes, Err}
-use Rattle.tree_model.specs.Tree.{send, trees_of, MethodOf}
-use Rattle.image_model.specs.Image.{EntryOf, ImageOf, plus}
+use Rattle.std.specs.Prelude.{List, [], ◌∷◌, true, false, codes, Some, Err}
+use Rattle.tree_model.specs.Tree.{send, cascade, trees_of, no_trees, no_messages, more_messages, MethodOf}
+use Rattle.image_model.specs.Image.{ClassOf, EntryOf, ImageOf, plus}
 use Rattle.image_model.specs.Grown.{with_method}
 use Rattle.command_model.specs.Commands.{CommandOf, RenameClass, AddClass, RemoveClass, AddInstVar, RemoveInstVar, PushUpInstVar, PushDownInstVar, AddClassVar, RemoveClassVar, PushUpClassVar, PushDownClassVar, AddClassSideVar, RemoveClassSideVar, RenameSelector, AddMethod, RemoveMethod, PushUpMethod, PushDownMethod}
 use Rattle.command_model.specs.Conditions.{of_a_class, of_a_class_variable, of_another_variable, of_methods, ConditionOf, NoReflection, IsUserClass, GoodName, NameUnused, SelectorFresh, NotKernelSelector, Arity, Implements, NotImplements, Removable, NoSubclasses, NotReferenced, HasVariable, VariableFree, VariableUnused, ParentIsUser, NoSuper, MeansSame, Unreached, IsClass, ChildOf, LacksVariable, KnownSelector}
-use Rattle.command_model.specs.ExampleImage.{Text, account, savings, checking, loan, premium, unary, name, numeral, taking, answering, method, doit, premium_fee, bank, with_classes}
-use Rattle.command_model.specs.Examples.{Row}
+use Rattle.command_model.specs.ExampleImage.{Text, class_with, account, savings, checking, loan, premium, unary, name, numeral, taking, answering, method, class_method, doit, premium_fee, bank, with_classes}
+use Rattle.command_model.specs.Examples.{Row, loan_fresh}
 
 -- a command that is refused in an image, or in the bank
 abbrev pub refused_in : ImageOf Text → CommandOf Text → ConditionOf Text → Row
@@ -45,13 +45,14 @@ names =
     ∷ refused (RenameSelector (codes "fee") (codes "tax")) (SelectorFresh (codes "tax"))
     ∷ []
 
--- a class of the kernel, and one that is not there; a class with a subclass; one that a do-it names; a class under another than the superclass, and one of the kernel
+-- a class of the kernel, and one that is not there; a class with a subclass; one that a do-it names, also where a method of its own does; a class under another than the superclass, and one of the kernel
 abbrev pub class_rows : List Row
 class_rows =
     refused (RenameClass (codes "Object") (codes "Thing")) (IsUserClass (codes "Object"))
     ∷ refused (AddClass (codes "Deposit") (codes "Nobody") []) (IsClass (codes "Nobody"))
     ∷ refused (RemoveClass (codes "Savings")) (NoSubclasses (codes "Savings"))
     ∷ refused (RemoveClass (codes "Premium")) (NotReferenced (codes "Premium"))
+    ∷ refused_in (plus (with_method bank loan_fresh) (doit (name (codes "Loan")))) (RemoveClass (codes "Loan")) (NotReferenced (codes "Loan"))
     ∷ refused (AddClass (codes "Deposit") (codes "Account") (codes "Savings" ∷ codes "Premium" ∷ [])) (ChildOf (codes "Premium") (codes "Account"))
     ∷ refused (AddClass (codes "Deposit") (codes "Object") (codes "Class" ∷ [])) (ChildOf (codes "Class") (codes "Object"))
     ∷ []
@@ -60,7 +61,11 @@ class_rows =
 abbrev pub loan_quote : EntryOf Text
 loan_quote = method (codes "Loan") (answering (codes "quote") (name (codes "rate")))
 
--- a variable that is inherited, or of another kind; a new one whose name a class above, a class below or a variable of another kind has, or a block declares; one that goes up past a method that has its name, a class-instance variable of it, a variable of it in the superclass, or a class variable of it in another subclass
+-- a class under Loan, which has a variable `rate`
+abbrev pub micro : ClassOf Text
+micro = class_with false (codes "Micro") (Some (codes "Loan")) (codes "rate" ∷ []) [] []
+
+-- a variable that is inherited, or of another kind; a new one whose name a class above, a class below or a variable of another kind has, or a block declares; one that goes up past a method that has its name, a class-instance variable of it, a variable of it in the superclass or in a class above that, a class below which has it but not from a direct subclass, or a class variable of it in another subclass
 abbrev pub new_variables : List Row
 new_variables =
     refused (RemoveInstVar (codes "Premium") (codes "rate")) (HasVariable (codes "Premium") (codes "rate"))
@@ -73,6 +78,8 @@ new_variables =
     ∷ refused_in (with_method bank loan_quote) (PushUpInstVar (codes "Savings") (codes "rate")) (VariableFree (codes "Account") (codes "rate"))
     ∷ refused_in (with_classes (account ∷ savings ∷ checking ∷ record loan { class_side = codes "rate" ∷ [] } ∷ premium ∷ [])) (PushUpInstVar (codes "Savings") (codes "rate")) (VariableFree (codes "Account") (codes "rate"))
     ∷ refused_in (with_classes (record account { class_side = codes "rate" ∷ [] } ∷ savings ∷ checking ∷ loan ∷ premium ∷ [])) (PushUpInstVar (codes "Savings") (codes "rate")) (VariableFree (codes "Account") (codes "rate"))
+    ∷ refused_in (with_classes (record account { class_side = codes "zone" ∷ [] } ∷ savings ∷ checking ∷ loan ∷ record premium { instance = codes "zone" ∷ [] } ∷ [])) (PushUpInstVar (codes "Premium") (codes "zone")) (VariableFree (codes "Savings") (codes "zone"))
+    ∷ refused_in (with_classes (account ∷ savings ∷ checking ∷ loan ∷ premium ∷ micro ∷ [])) (PushUpInstVar (codes "Savings") (codes "rate")) (VariableFree (codes "Account") (codes "rate"))
     ∷ refused (PushUpClassVar (codes "Savings") (codes "Prime")) (VariableFree (codes "Account") (codes "Prime"))
     ∷ refused_in (with_classes (account ∷ savings ∷ record checking { shared = codes "Bonus" ∷ [] } ∷ loan ∷ premium ∷ [])) (PushUpClassVar (codes "Savings") (codes "Bonus")) (VariableFree (codes "Account") (codes "Bonus"))
     ∷ refused (PushUpInstVar (codes "Account") (codes "owner")) (ParentIsUser (codes "Account"))
@@ -97,13 +104,26 @@ premium_named = method (codes "Premium") (answering (codes "named") (name (codes
 abbrev pub loan_shallow_copy : EntryOf Text
 loan_shallow_copy = method (codes "Loan") (answering (codes "shallowCopy") (numeral (codes "1")))
 
--- a method that is inherited, one of the kernel, and one that is there; a method without a like above it, one of a selector of the kernel, one with `super` whose like is above it, and one with a name that means another thing there
+-- `bonus ^3` in Premium, where Savings has `bonus ^2`
+abbrev pub premium_bonus : MethodOf Text
+premium_bonus = answering (codes "bonus") (numeral (codes "3"))
+
+-- the class `Class` has `odd ^super copy` on both sides, and a do-it sends that to a class
+abbrev pub odd : MethodOf Text
+odd = answering (codes "odd") (unary (name (codes "super")) (codes "copy"))
+
+abbrev pub odd_classes : ImageOf Text
+odd_classes = plus (with_method (with_method bank (class_method (codes "Class") odd)) (method (codes "Class") odd)) (doit (unary (name (codes "Premium")) (codes "odd")))
+
+-- a method that is inherited, one of the kernel, and one that is there; a method without a like above it, one with another above it, one of a selector of the kernel, one with `super` whose like is above it or on the other side of its class, and one with a name that means another thing above it
 abbrev pub method_rows : List Row
 method_rows =
     refused (RemoveMethod (codes "Loan") false (codes "fee")) (Implements (codes "Loan") false (codes "fee"))
     ∷ refused (RemoveMethod (codes "Object") false (codes "copy")) (Implements (codes "Object") false (codes "copy"))
     ∷ refused (adding (codes "Checking") (answering (codes "fee") (numeral (codes "3")))) (NotImplements (codes "Checking") false (codes "fee"))
     ∷ refused (RemoveMethod (codes "Savings") false (codes "bonus")) (Removable (codes "Savings") false (codes "bonus"))
+    ∷ refused_in (with_method bank (method (codes "Premium") premium_bonus)) (RemoveMethod (codes "Premium") false (codes "bonus")) (Removable (codes "Premium") false (codes "bonus"))
+    ∷ refused_in odd_classes (RemoveMethod (codes "Class") true (codes "odd")) (Removable (codes "Class") true (codes "odd"))
     ∷ refused_in (with_method bank loan_shallow_copy) (RemoveMethod (codes "Loan") false (codes "shallowCopy")) (Removable (codes "Loan") false (codes "shallowCopy"))
     ∷ refused_in (with_method bank premium_fee) (RemoveMethod (codes "Premium") false (codes "fee")) (Removable (codes "Premium") false (codes "fee"))
     ∷ refused_in (with_method bank premium_named) (RemoveMethod (codes "Premium") false (codes "named")) (Removable (codes "Premium") false (codes "named"))
@@ -128,11 +148,17 @@ move_rows =
     ∷ refused_in (with_method twice_total account_sum) (PushDownMethod (codes "Account") false (codes "sum")) (MeansSame (codes "Account") false (codes "sum") (codes "Savings"))
     ∷ []
 
+-- `both ^super balance; holder`, which no text spells
+abbrev pub savings_both : EntryOf Text
+savings_both = method (codes "Savings") (answering (codes "both") (cascade (name (codes "super")) (more_messages (codes "balance") no_trees (more_messages (codes "holder") no_trees no_messages))))
+
 -- another class finds the method that goes up, and a do-it names that class; a class below finds the one that is added, where it found none and where it found another; a message to `super` finds the one no more that goes down
 abbrev pub reached_rows : List Row
 reached_rows =
     refused (PushUpMethod (codes "Savings") false (codes "holder")) (Unreached (codes "holder"))
     ∷ refused (adding (codes "Savings") (answering (codes "tax") (numeral (codes "2")))) (Unreached (codes "tax"))
     ∷ refused (adding (codes "Premium") (answering (codes "fee") (numeral (codes "3")))) (Unreached (codes "fee"))
+    ∷ refused (adding (codes "Premium") premium_bonus) (Unreached (codes "bonus"))
     ∷ refused (PushDownMethod (codes "Account") false (codes "fee")) (Unreached (codes "fee"))
+    ∷ refused_in (with_method bank savings_both) (PushDownMethod (codes "Account") false (codes "balance")) (Unreached (codes "balance"))
     ∷ []

@@ -1,9 +1,8 @@
 // Examples of commands, held against the definitions. The function does nothing; its contract is the law.
 ghost use Rattle.command_model.specs.Compared.{
-  AllCompared,
-  literal_pairs,
-  node_pairs,
-  FirstAlone,
+  CommentsDoNotCount,
+  AreTreesApart,
+  AreMethodsApart,
 };
 ghost use Rattle.command_model.specs.Examples.{
   AllJudged,
@@ -13,7 +12,8 @@ ghost use Rattle.command_model.specs.Examples.{
   methods,
   moves,
 };
-ghost use Rattle.command_model.specs.Orders.{order_rows, EndsEarly, AllFalse, missing};
+ghost use Rattle.command_model.specs.Listed.{AllListed, class_listings, method_listings};
+ghost use Rattle.command_model.specs.Orders.{order_rows, AllFalse, missing};
 ghost use Rattle.command_model.specs.Refused.{
   reflections,
   names,
@@ -26,9 +26,9 @@ ghost use Rattle.command_model.specs.Refused.{
 };
 
 /// In small images commands make the images that stand beside them, or are refused with the first condition that is
-/// false, which stands beside them: each command with an image, and each condition. Where a superclass is missing, a
-/// command's conditions end before those that are given it, and conditions on what is not there are false. Pairs of
-/// trees and of methods compare as it stands beside them, their comments aside.
+/// false, which stands beside them. Each command has the conditions that are listed, in that order; conditions on what
+/// is not there are false. Trees, methods and meanings in lists are each the same as itself alone, and comments do not
+/// count.
 pub fn judges_examples()
     ensures classes { AllJudged classes }
     ensures instance_variables { AllJudged instance_variables }
@@ -44,9 +44,10 @@ pub fn judges_examples()
     ensures move_rows { AllJudged move_rows }
     ensures reached_rows { AllJudged reached_rows }
     ensures order_rows { AllJudged order_rows }
-    ensures ends_early { EndsEarly }
     ensures missing { AllFalse missing }
-    ensures literal_pairs { AllCompared literal_pairs }
-    ensures node_pairs { AllCompared node_pairs }
-    ensures compared_methods { FirstAlone }
+    ensures class_listings { AllListed class_listings }
+    ensures method_listings { AllListed method_listings }
+    ensures comments { CommentsDoNotCount }
+    ensures trees { AreTreesApart }
+    ensures methods_and_meanings { AreMethodsApart }
 {}

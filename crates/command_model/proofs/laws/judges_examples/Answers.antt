@@ -1,4 +1,4 @@
-use Rattle.command_model.proofs.ExamplesJudged.{judges_classes, judges_instance_variables, judges_class_variables, judges_methods, judges_moves, judges_reflections, judges_names, judges_class_rows, judges_new_variables, judges_used_variables, judges_method_rows, judges_move_rows, judges_reached_rows, judges_order_rows, ends_early, denies_missing, compares_literal_pairs, compares_node_pairs, compares_methods}
+use Rattle.command_model.proofs.ExamplesJudged.{judges_classes, judges_instance_variables, judges_class_variables, judges_methods, judges_moves, judges_reflections, judges_names, judges_class_rows, judges_new_variables, judges_used_variables, judges_method_rows, judges_move_rows, judges_reached_rows, judges_order_rows, denies_missing, lists_class_listings, lists_method_listings, overlooks_comments, tells_trees_apart, tells_methods_apart}
 use Rattle.command_model.proofs.laws.judges_examples.Goals as goal
 
 pub returns-clause-classes : goal.returns-clause-classes
@@ -43,17 +43,20 @@ returns-clause-reached_rows c = judges_reached_rows
 pub returns-clause-order_rows : goal.returns-clause-order_rows
 returns-clause-order_rows c = judges_order_rows
 
-pub returns-clause-ends_early : goal.returns-clause-ends_early
-returns-clause-ends_early c = ends_early
-
 pub returns-clause-missing : goal.returns-clause-missing
 returns-clause-missing c = denies_missing
 
-pub returns-clause-literal_pairs : goal.returns-clause-literal_pairs
-returns-clause-literal_pairs c = compares_literal_pairs
+pub returns-clause-class_listings : goal.returns-clause-class_listings
+returns-clause-class_listings c = lists_class_listings
 
-pub returns-clause-node_pairs : goal.returns-clause-node_pairs
-returns-clause-node_pairs c = compares_node_pairs
+pub returns-clause-method_listings : goal.returns-clause-method_listings
+returns-clause-method_listings c = lists_method_listings
 
-pub returns-clause-compared_methods : goal.returns-clause-compared_methods
-returns-clause-compared_methods c = compares_methods
+pub returns-clause-comments : goal.returns-clause-comments
+returns-clause-comments c = overlooks_comments
+
+pub returns-clause-trees : goal.returns-clause-trees
+returns-clause-trees c = tells_trees_apart
+
+pub returns-clause-methods_and_meanings : goal.returns-clause-methods_and_meanings
+returns-clause-methods_and_meanings c = tells_methods_apart
