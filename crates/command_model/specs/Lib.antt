@@ -1,6 +1,7 @@
 pub mod Commands
 pub mod Conditions
 pub mod Asked
+pub mod Numbers
 pub mod Hierarchy
 pub mod SameTrees
 pub mod SameMethods
