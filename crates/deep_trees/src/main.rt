@@ -92,41 +92,25 @@ fn same_first(a: &Sequence, b: &Sequence) -> bool {
     }
 }
 
-/// Whether a copy is the same.
-fn is_copied(alloc: Global, body: &Sequence) -> Result<bool, Memory> {
-    let copy = try_copy_doit(alloc, body)?;
-    Ok(same_first(body, &copy))
-}
-
-/// Whether the part at the path is replaced, and then a copy from before is not the same.
-fn is_replaced(alloc: Global, body: &mut Sequence, path: &Path) -> Result<bool, Memory> {
-    let copy = try_copy_doit(alloc, body)?;
-    let part = Box::new(alloc, leaf(9))?;
-    Ok(replace_at_doit(body, path, part).is_ok() && !same_first(body, &copy))
-}
-
-/// Walks a tree of this height, to whose deepest variable the path leads.
-fn walked(
-    alloc: Global,
-    body: &mut Sequence,
-    height: usize,
-    path: &Path,
-) -> Result<Walked, Memory> {
-    Ok(Walked {
-        height,
-        size: size_doit(body),
-        copied: is_copied(alloc, body)?,
-        found: part_at_doit(body, path).is_some(),
-        replaced: is_replaced(alloc, body, path)?,
-    })
-}
-
 /// Walks a tree of this many pairs of levels.
 fn walk(alloc: Global, pairs: usize) -> Result<Walked, Memory> {
     let node = nested(alloc, pairs)?;
     let height = height(&node);
     let mut body = sequence_of(alloc, node)?;
-    walked(alloc, &mut body, height, &path_of(alloc, pairs)?)
+    let size = size_doit(&body);
+    let copy = try_copy_doit(alloc, &body)?;
+    let copied = same_first(&body, &copy);
+    let path = path_of(alloc, pairs)?;
+    let found = part_at_doit(&body, &path).is_some();
+    let part = Box::new(alloc, leaf(9))?;
+    let replaced = replace_at_doit(&mut body, &path, part).is_ok() && !same_first(&body, &copy);
+    Ok(Walked {
+        height,
+        size,
+        copied,
+        found,
+        replaced,
+    })
 }
 
 fn main(rt: HostRuntime) -> io::Result<()> {
