@@ -1,5 +1,5 @@
 // The lists of declarations and events.
-ghost use Rattle.std.specs.Prelude.{◌≡◌, [], ◌∷◌, ◌++◌, length, OnOk, OnErr, IfSome, IfNone};
+ghost use Rattle.std.specs.Prelude.{◌≡◌, [], ◌∷◌, ◌++◌, length, IfOk, OnOk, OnErr, IfSome, IfNone};
 
 use crate::event::{Declaration, Declarations, Event, Events};
 use rb_base::Memory;
@@ -50,6 +50,15 @@ impl Events {
         }
     }
 
+    /// No events, with room for so many.
+    pub fn with_room(alloc: Global, count: usize) -> Result<Events, Memory>
+        ensures { IfOk result (λ events. events ≡ []) }
+    {
+        Ok(Events {
+            items: Vec::with_capacity(alloc, count)?,
+        })
+    }
+
     /// The events.
     pub fn as_slice(&self) -> &[Event]
         ensures { result.now ≡ self.now }
@@ -66,6 +75,7 @@ impl Events {
     }
 
     /// Appends an event; on want of memory it is dropped.
+    #[inline]
     pub fn push(&mut self, item: Event) -> Result<(), Memory>
         ensures ok { OnOk result (self.new ≡ self.old ++ item ∷ []) }
         ensures err { OnErr result (self.new ≡ self.old) }
