@@ -20,6 +20,12 @@ use st_faults::Sort;
 use st_tree::Comments;
 use std::alloc::Global;
 
+/// How many parts there is room for at once.
+const PARTS: usize = 32;
+
+/// Few texts have more events than one for each so many bytes.
+const BYTES_OF_EVENT: usize = 4;
+
 /// Nothing was found in a text's head.
 fn blank_head(alloc: Global) -> Head
     ensures { result ≡ head_of [] [] }
@@ -35,17 +41,17 @@ fn blank_head(alloc: Global) -> Head
 }
 
 /// A reader before a text whose statements come next.
-fn blank_reader(alloc: Global) -> Result<Reader, Memory>
+fn blank_reader(alloc: Global, text: &[u8]) -> Result<Reader, Memory>
     ensures { IfOk result (λ reader. reader ≡ beginning_with (Part.Sequence (SequencePart.Statements Enclosure.Text 0) ∷ [])) }
 {
-    let mut stack = Stack::new(alloc);
+    let mut stack = Stack::with_room(alloc, PARTS)?;
     stack.push(Part::Sequence(SequencePart::Statements {
         enclosure: Enclosure::Text,
         count: 0,
     }))?;
     Ok(Reader {
         stack,
-        events: Events::new(alloc),
+        events: Events::with_room(alloc, text.len() / BYTES_OF_EVENT)?,
         held: Comments::new(alloc),
         last: 0,
         head: blank_head(alloc),
@@ -53,19 +59,19 @@ fn blank_reader(alloc: Global) -> Result<Reader, Memory>
 }
 
 /// A reader before a do-it.
-fn doit_reader(alloc: Global) -> Result<Reader, Memory>
+fn doit_reader(alloc: Global, text: &[u8]) -> Result<Reader, Memory>
     ensures { IfOk result (λ reader. reader ≡ doit_start) }
 {
-    let mut reader = blank_reader(alloc)?;
+    let mut reader = blank_reader(alloc, text)?;
     reader.push(Part::Head(HeadPart::DoitTemporaries))?;
     Ok(reader)
 }
 
 /// A reader before a method.
-fn method_reader(alloc: Global) -> Result<Reader, Memory>
+fn method_reader(alloc: Global, text: &[u8]) -> Result<Reader, Memory>
     ensures { IfOk result (λ reader. reader ≡ method_start) }
 {
-    let mut reader = blank_reader(alloc)?;
+    let mut reader = blank_reader(alloc, text)?;
     reader.push(Part::Head(HeadPart::MethodTemporaries))?;
     reader.push(Part::Head(HeadPart::Pattern))?;
     Ok(reader)
@@ -137,7 +143,7 @@ pub fn doit_events(alloc: Global, text: &[u8]) -> Result<SequenceEvents, Memory>
     requires { IsRead DoIt text.now }
     ensures { IfOk result (λ found. (ts : List Lexeme) (s : SpannedSequence) → IsLexed Second text.now ts → IsDoIt Longest ts s → found ≡ sequence_events s) }
 {
-    let mut reader = doit_reader(alloc)?;
+    let mut reader = doit_reader(alloc, text)?;
     read_all(alloc, text, &mut reader)?;
     Ok(found_sequence(reader))
 }
@@ -149,7 +155,7 @@ pub fn method_events(alloc: Global, text: &[u8], kernel: bool) -> Result<MethodE
     requires { IsRead (Method kernel) text.now }
     ensures { IfOk result (λ found. (ts : List Lexeme) (m : SpannedMethod) → IsLexed Second text.now ts → IsMethod Longest kernel ts m → found ≡ method_events m) }
 {
-    let mut reader = method_reader(alloc)?;
+    let mut reader = method_reader(alloc, text)?;
     read_all(alloc, text, &mut reader)?;
     Ok(found_method(reader))
 }

@@ -27,13 +27,13 @@ impl Model for Stack {
 }
 
 impl Stack {
-    /// No parts, which takes no memory.
-    pub fn new(alloc: Global) -> Stack
-        ensures { result ≡ [] }
+    /// No parts, with room for so many.
+    pub fn with_room(alloc: Global, count: usize) -> Result<Stack, Memory>
+        ensures { IfOk result (λ stack. stack ≡ []) }
     {
-        Stack {
-            parts: Vec::new(alloc),
-        }
+        Ok(Stack {
+            parts: Vec::with_capacity(alloc, count)?,
+        })
     }
 
     /// Puts a part before all others.
