@@ -6,3 +6,4 @@ pub mod ExpressionEvents
 pub mod WholeEvents
 pub mod Splitting
 pub mod Left
+pub mod Unquoted

@@ -15,7 +15,10 @@ const QUOTE: u8 = b'\'';
 fn singled(alloc: Global, bytes: &[u8]) -> Result<Text, Memory>
     ensures { IfOk result (λ text. text ≡ singled 39 false bytes.now) }
 {
-    let mut kept = Vec::new(alloc);
+    if !bytes.contains(&QUOTE) {
+        return Text::from_slice(alloc, bytes);
+    }
+    let mut kept = Vec::with_capacity(alloc, bytes.len())?;
     let mut odd = false;
     for byte in bytes {
         let second = *byte == QUOTE && odd;
