@@ -37,6 +37,7 @@ impl Stack {
     }
 
     /// Puts a part before all others.
+    #[inline]
     pub fn push(&mut self, part: Part) -> Result<(), Memory>
         ensures { OnOk result (self.new ≡ part ∷ self.old) }
     {
@@ -45,6 +46,7 @@ impl Stack {
     }
 
     /// Takes the first part off.
+    #[inline]
     pub fn pop(&mut self) -> Option<Part>
         ensures some { IfSome result (λ part. self.old ≡ part ∷ self.new) }
         ensures none { IfNone result (self.old ≡ []) }
@@ -65,6 +67,7 @@ pub struct Head {
 }
 
 /// A number and one.
+#[inline]
 pub fn one_more(count: usize) -> Result<usize, Memory>
     ensures { IfOk result (λ more. more ≡ count + 1) }
 {
@@ -103,6 +106,7 @@ pub struct Reader {
 
 impl Reader {
     /// Puts a part before all others.
+    #[inline]
     pub fn push(&mut self, part: Part) -> Result<(), Memory>
         ensures { IfOk result (λ _. self.new ≡ pushed part self.old) }
     {
@@ -110,6 +114,7 @@ impl Reader {
     }
 
     /// Appends an event.
+    #[inline]
     pub fn emit(&mut self, event: Event) -> Result<(), Memory>
         ensures { IfOk result (λ _. self.new ≡ emitted event self.old) }
     {
@@ -117,6 +122,7 @@ impl Reader {
     }
 
     /// Takes the comments that are held.
+    #[inline]
     pub fn take_held(&mut self, alloc: Global) -> Comments
         ensures held { result ≡ self.old.held }
         ensures cleared { self.new ≡ cleared self.old }

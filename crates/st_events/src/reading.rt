@@ -18,6 +18,7 @@ use std::alloc::Global;
 use std::mem;
 
 /// Appends comments.
+#[inline]
 fn append(alloc: Global, held: &mut Comments, notes: Comments) -> Result<(), Memory>
     ensures { IfOk result (λ _. held.new ≡ held.old ++ notes) }
 {
@@ -33,6 +34,7 @@ fn append(alloc: Global, held: &mut Comments, notes: Comments) -> Result<(), Mem
 
 impl Reader {
     /// A token that a part takes, behind which the reader stands.
+    #[inline]
     fn take(&mut self, alloc: Global, part: Part, token: Token<'_>) -> Result<(), Memory>
         ensures { IfOk result (λ _. self.new ≡ taken part (seen token.entry) token.entry.from token.entry.to self.old) }
     {
@@ -47,6 +49,7 @@ impl Reader {
     }
 
     /// What is found where a part is over.
+    #[inline]
     fn pass(&mut self, alloc: Global, part: Part) -> Result<(), Memory>
         ensures { IfOk result (λ _. self.new ≡ passed part self.old) }
     {
@@ -61,6 +64,7 @@ impl Reader {
     }
 
     /// The part that takes a token of the sort from a place on, off the stack. In a text of the grammar there is one.
+    #[inline]
     fn next_part(&mut self, alloc: Global, sort: Sort, from: usize) -> Result<Part, Memory>
         ensures { IfOk result (λ part. (c : Notes) (e : ℕ) (s : Text) (l : LiteralOf Text) →
             step self.old.stack self.old (lex c from e (terminal sort s l)) ≡ taken part (terminal sort s l) from e (advanced c e self.new)) }
@@ -75,6 +79,7 @@ impl Reader {
     }
 
     /// Goes behind a token that ends at a place and has these comments before it.
+    #[inline]
     fn advance(&mut self, alloc: Global, notes: Comments, to: usize) -> Result<(), Memory>
         ensures { IfOk result (λ _. self.new ≡ advanced notes to self.old) }
     {
@@ -84,6 +89,7 @@ impl Reader {
     }
 
     /// Reads a token with these comments before it.
+    #[inline]
     pub fn read(&mut self, alloc: Global, token: Token<'_>, notes: Comments) -> Result<(), Memory>
         ensures { IfOk result (λ _. self.new ≡ step self.old.stack self.old (lex notes token.entry.from token.entry.to (seen token.entry))) }
     {

@@ -12,6 +12,7 @@ use crate::part::{
 use st_faults::Sort;
 
 /// Whether a token of the sort is an identifier.
+#[inline]
 fn is_name(sort: Sort) -> bool
     ensures { (s : Text) (l : LiteralOf Text) → is_name (terminal sort s l) ≡ result }
 {
@@ -22,6 +23,7 @@ fn is_name(sort: Sort) -> bool
 }
 
 /// Whether a token of the sort is a keyword.
+#[inline]
 fn is_keyword(sort: Sort) -> bool
     ensures { (s : Text) (l : LiteralOf Text) → is_keyword (terminal sort s l) ≡ result }
 {
@@ -32,6 +34,7 @@ fn is_keyword(sort: Sort) -> bool
 }
 
 /// Whether a unary or binary message begins with a token of the sort.
+#[inline]
 fn is_operator(sort: Sort) -> bool
     ensures { (s : Text) (l : LiteralOf Text) → is_operator (terminal sort s l) ≡ result }
 {
@@ -48,6 +51,7 @@ fn is_operator(sort: Sort) -> bool
 }
 
 /// Whether a message or the rest of a cascade begins with a token of the sort.
+#[inline]
 fn is_message(sort: Sort) -> bool
     ensures { (s : Text) (l : LiteralOf Text) → is_message (terminal sort s l) ≡ result }
 {
@@ -67,6 +71,7 @@ fn is_message(sort: Sort) -> bool
 }
 
 /// Whether an expression goes on with a token of the sort behind its first name.
+#[inline]
 fn follows_name(sort: Sort) -> bool
     ensures { (s : Text) (l : LiteralOf Text) → follows_name (terminal sort s l) ≡ result }
 {
@@ -77,6 +82,7 @@ fn follows_name(sort: Sort) -> bool
 }
 
 /// Whether a token of the sort goes on with what a block declares.
+#[inline]
 fn is_declaring(sort: Sort) -> bool
     ensures { (s : Text) (l : LiteralOf Text) → is_declaring (terminal sort s l) ≡ result }
 {
@@ -87,6 +93,7 @@ fn is_declaring(sort: Sort) -> bool
 }
 
 /// Whether a part of an expression takes a token of the sort.
+#[inline]
 fn expression_takes(part: &ExpressionPart, sort: Sort) -> bool
     ensures { (s : Text) (l : LiteralOf Text) (joined : Bool) → takes (Part.Expression part.now) (terminal sort s l) joined ≡ result }
 {
@@ -99,6 +106,7 @@ fn expression_takes(part: &ExpressionPart, sort: Sort) -> bool
 }
 
 /// Whether a part of messages takes a token of the sort.
+#[inline]
 fn message_takes(part: &MessagePart, sort: Sort) -> bool
     ensures { (s : Text) (l : LiteralOf Text) (joined : Bool) → takes (Part.Message part.now) (terminal sort s l) joined ≡ result }
 {
@@ -114,6 +122,7 @@ fn message_takes(part: &MessagePart, sort: Sort) -> bool
 }
 
 /// Whether a part of a literal takes a token of the sort, which begins where the one before it ends or not.
+#[inline]
 fn literal_takes(part: &LiteralPart, sort: Sort, joined: bool) -> bool
     ensures { (s : Text) (l : LiteralOf Text) → takes (Part.Literal part.now) (terminal sort s l) joined ≡ result }
 {
@@ -126,6 +135,7 @@ fn literal_takes(part: &LiteralPart, sort: Sort, joined: bool) -> bool
 }
 
 /// Whether a part of a block's head takes a token of the sort.
+#[inline]
 fn block_takes(part: &BlockPart, sort: Sort) -> bool
     ensures { (s : Text) (l : LiteralOf Text) (joined : Bool) → takes (Part.Block part.now) (terminal sort s l) joined ≡ result }
 {
@@ -137,6 +147,7 @@ fn block_takes(part: &BlockPart, sort: Sort) -> bool
 }
 
 /// Whether a part of a sequence takes a token of the sort.
+#[inline]
 fn sequence_takes(part: &SequencePart, sort: Sort) -> bool
     ensures { (s : Text) (l : LiteralOf Text) (joined : Bool) → takes (Part.Sequence part.now) (terminal sort s l) joined ≡ result }
 {
@@ -148,6 +159,7 @@ fn sequence_takes(part: &SequencePart, sort: Sort) -> bool
 }
 
 /// Whether a token of the sort is a bar or the bracket of a primitive.
+#[inline]
 fn opens_body(sort: Sort) -> bool
     ensures { (s : Text) (l : LiteralOf Text) → opens_body (terminal sort s l) ≡ result }
 {
@@ -158,6 +170,7 @@ fn opens_body(sort: Sort) -> bool
 }
 
 /// Whether a part of a text's head takes a token of the sort.
+#[inline]
 fn head_takes(part: &HeadPart, sort: Sort) -> bool
     ensures { (s : Text) (l : LiteralOf Text) (joined : Bool) → takes (Part.Head part.now) (terminal sort s l) joined ≡ result }
 {
@@ -174,6 +187,7 @@ fn head_takes(part: &HeadPart, sort: Sort) -> bool
 }
 
 /// Whether a part takes a token of the sort, which begins where the one before it ends or not.
+#[inline]
 pub fn takes(part: &Part, sort: Sort, joined: bool) -> bool
     ensures { (s : Text) (l : LiteralOf Text) → takes part.now (terminal sort s l) joined ≡ result }
 {

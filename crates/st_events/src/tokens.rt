@@ -13,6 +13,7 @@ use std::alloc::Global;
 
 /// The first token from a place on that is no comment, behind the comments before it, which are appended. The place is at
 /// most the text's length, in bytes. A text of the grammar has one there.
+#[inline]
 pub fn next_token<'t>(
     alloc: Global,
     text: &'t [u8],
