@@ -28,7 +28,7 @@ fn statements(alloc: Global, events: Events, names: &mut Names) -> Result<Statem
     ensures adds { OnOk result (Adds names.old names.new (AllPass (all_names events))) }
     ensures grows { Grows names.old names.new }
 {
-    let mut stacks = Stacks::new(alloc);
+    let mut stacks = Stacks::with_room(alloc)?;
     for event in events.into_vec() {
         build(alloc, &mut stacks, names, event)?;
     }

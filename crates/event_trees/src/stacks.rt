@@ -1,5 +1,5 @@
 // The parts of a tree that wait for what they are part of.
-ghost use Rattle.std.specs.Prelude.{◌≡◌, OnOk};
+ghost use Rattle.std.specs.Prelude.{◌≡◌, IfOk, OnOk};
 ghost use Rattle.tree_model.specs.Tree.{array, bytes, var, word};
 ghost use Rattle.st_tree.specs.LiteralView.{literal_of};
 ghost use Rattle.event_trees.specs.Stacks.{nothing, with_node, with_literal, with_array, with_operand, with_send, with_message, with_cascade, with_target, with_value, with_scope, with_block, with_brace, with_return, with_statement};
@@ -33,19 +33,22 @@ pub struct Stacks {
     pub scopes: Vec<Scope>,
 }
 
+/// How many nodes there is room for at once.
+const NODES: usize = 16;
+
 impl Stacks {
-    /// No part waits.
-    pub fn new(alloc: Global) -> Stacks
-        ensures { held result ≡ nothing }
+    /// No part waits. The statements get no room, since those at the end are kept with the tree.
+    pub fn with_room(alloc: Global) -> Result<Stacks, Memory>
+        ensures { IfOk result (λ stacks. held stacks ≡ nothing) }
     {
-        Stacks {
-            nodes: Vec::new(alloc),
+        Ok(Stacks {
+            nodes: Vec::with_capacity(alloc, NODES)?,
             literals: Vec::new(alloc),
             messages: Vec::new(alloc),
             statements: Vec::new(alloc),
             targets: Vec::new(alloc),
             scopes: Vec::new(alloc),
-        }
+        })
     }
 
     /// A variable is one more node.

@@ -15,7 +15,7 @@ use Rattle.event_trees.proofs.sequences.statements.Goals as goal
 
 pub loop-event-init : goal.loop-event-init
 loop-event-init c = record {
-  built = λ final g. ap (map_stacks (slice_get final)) c.new-stacks.ensures;
+  built = λ final g. ap (map_stacks (slice_get final)) c.in_ok-stacks.ensures;
   adds = Adds-none c.args.names.now (AllPass []);
 }
 
