@@ -9,6 +9,9 @@ pub fn take_last<T>(items: &mut Vec<T>, count: usize) -> Result<Vec<T>, Memory>
     ensures kept { OnOk result (items.new.items ≡ front count items.old.items) }
     ensures taken { IfOk result (λ taken. taken.items ≡ last count items.old.items) }
 {
+    if count == 0 {
+        return Ok(Vec::new(*items.allocator()));
+    }
     let at = items.len().saturating_sub(count);
     Ok(items.split_off(at)?)
 }
