@@ -30,6 +30,7 @@ fn enter(
 }
 
 /// Does with the parts what an event says, and gives its names numbers.
+#[inline]
 pub fn build(
     alloc: Global,
     stacks: &mut Stacks,

@@ -5,6 +5,7 @@ ghost use Rattle.event_trees.specs.Stacks.{front, last};
 use rb_base::Memory;
 
 /// Takes the last items off, or all where there are fewer.
+#[inline]
 pub fn take_last<T>(items: &mut Vec<T>, count: usize) -> Result<Vec<T>, Memory>
     ensures kept { OnOk result (items.new.items ≡ front count items.old.items) }
     ensures taken { IfOk result (λ taken. taken.items ≡ last count items.old.items) }
@@ -17,6 +18,7 @@ pub fn take_last<T>(items: &mut Vec<T>, count: usize) -> Result<Vec<T>, Memory>
 }
 
 /// Takes the last item off, where there is one.
+#[inline]
 pub fn take_one<T>(items: &mut Vec<T>) -> Option<T>
     ensures kept { items.new.items ≡ front 1 items.old.items }
     ensures taken { last 1 items.old.items ≡ option_to_list result }

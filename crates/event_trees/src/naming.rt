@@ -8,6 +8,7 @@ use rb_base::{Ids, Memory, NameId, Names, Text};
 use std::alloc::Global;
 
 /// The number of a name, which is added where it is new.
+#[inline]
 pub fn number_of(names: &mut Names, name: &Text) -> Result<NameId, Memory>
     ensures number { IfOk result (λ n. slice_get names.new n ≡ Some name.now) }
     ensures adds { OnOk result (Adds names.old names.new (AllPass (name.now ∷ []))) }

@@ -52,6 +52,7 @@ impl Stacks {
     }
 
     /// A variable is one more node.
+    #[inline]
     pub fn variable(&mut self, name: NameId) -> Result<(), Memory>
         ensures { OnOk result (held self.new ≡ with_node (held self.old) (var name)) }
     {
@@ -62,6 +63,7 @@ impl Stacks {
     }
 
     /// One more literal.
+    #[inline]
     pub fn literal(&mut self, kind: LiteralKind) -> Result<(), Memory>
         ensures { OnOk result (held self.new ≡ with_literal (held self.old) (literal_of kind)) }
     {
@@ -70,6 +72,7 @@ impl Stacks {
     }
 
     /// `nil`, `true` or `false` in an array is one more literal.
+    #[inline]
     pub fn word(&mut self, name: NameId) -> Result<(), Memory>
         ensures { OnOk result (held self.new ≡ with_literal (held self.old) (word name)) }
     {
@@ -99,6 +102,7 @@ impl Stacks {
     }
 
     /// The last literal becomes a node.
+    #[inline]
     pub fn operand(&mut self) -> Result<(), Memory>
         ensures { OnOk result (held self.new ≡ with_operand (held self.old)) }
     {
@@ -111,6 +115,7 @@ impl Stacks {
     }
 
     /// The last nodes are the arguments of a message to the one before them.
+    #[inline]
     pub fn send(&mut self, alloc: Global, selector: NameId, count: usize) -> Result<(), Memory>
         ensures { OnOk result (held self.new ≡ with_send (held self.old) selector count) }
     {
@@ -128,6 +133,7 @@ impl Stacks {
     }
 
     /// The last nodes are the arguments of a message of a cascade.
+    #[inline]
     pub fn message(&mut self, selector: NameId, count: usize) -> Result<(), Memory>
         ensures { OnOk result (held self.new ≡ with_message (held self.old) selector count) }
     {
@@ -156,6 +162,7 @@ impl Stacks {
     }
 
     /// One more variable of an assignment.
+    #[inline]
     pub fn target(&mut self, name: NameId) -> Result<(), Memory>
         ensures { OnOk result (held self.new ≡ with_target (held self.old) name) }
     {
@@ -164,6 +171,7 @@ impl Stacks {
     }
 
     /// The last node is the value of the last target.
+    #[inline]
     pub fn value(&mut self, alloc: Global) -> Result<(), Memory>
         ensures { OnOk result (held self.new ≡ with_value (held self.old)) }
     {
@@ -230,6 +238,7 @@ impl Stacks {
     }
 
     /// The last node is returned.
+    #[inline]
     pub fn returned(&mut self, alloc: Global) -> Result<(), Memory>
         ensures { OnOk result (held self.new ≡ with_return (held self.old)) }
     {
@@ -244,6 +253,7 @@ impl Stacks {
     }
 
     /// The last node becomes a statement.
+    #[inline]
     pub fn statement(&mut self, comments: Comments) -> Result<(), Memory>
         ensures { OnOk result (held self.new ≡ with_statement (held self.old) comments) }
     {
