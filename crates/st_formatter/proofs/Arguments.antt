@@ -1,5 +1,5 @@
 -- Messages and their arguments.
-use Rattle.std.proofs.Common.{◌≡◌, refl, sym, ap, ◌∙◌, ℕ, Bool, true, false, ◌==◌, if◌then◌else◌, List, [], ◌∷◌, ◌++◌, length, arith}
+use Rattle.std.proofs.Common.{◌≡◌, refl, ℕ, false, ◌==◌, if◌then◌else◌, List, [], ◌∷◌, length}
 use Rattle.tree_model.specs.Tree.{TreeOf, TreesOf, no_trees, more_trees, trees_of, map_trees}
 use Rattle.text_model.specs.Pieces.{has_colon}
 use Rattle.text_model.specs.Precedences.{message_precedence}

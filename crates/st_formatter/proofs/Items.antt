@@ -1,5 +1,5 @@
 -- The items of a list: their names, and that each weighs less than the list.
-use Rattle.std.proofs.Common.{◌≡◌, refl, sym, ap, subst, ◌∙◌, ℕ, zero, suc, ◌<◌, List, [], ◌∷◌, length, get_or, arith}
+use Rattle.std.proofs.Common.{◌≡◌, sym, ap, subst, ℕ, zero, suc, ◌<◌, List, [], ◌∷◌, length, get_or, arith}
 use Rattle.tree_model.specs.Tree.{LiteralOf, literals_of, TreeOf, trees_of}
 use Rattle.tree_model.specs.Measure.{literal_weight, literals_weight, weight, trees_weight, messages_weight, statements_weight}
 use Rattle.tree_model.specs.AllNames.{LiteralNames, LiteralsNames, AllNames, TreesNames, MessagesNames, StatementsNames}

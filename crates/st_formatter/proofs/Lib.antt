@@ -3,3 +3,4 @@ pub mod Words
 pub mod Items
 pub mod Turned
 pub mod Scans
+pub mod Pieces

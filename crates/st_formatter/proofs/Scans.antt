@@ -1,5 +1,5 @@
 -- Steps of a scan over the bytes of keywords, and cases of statements.
-use Rattle.std.proofs.Common.{◌≡◌, refl, sym, ap, ◌∙◌, ℕ, zero, suc, ◌+◌, ◌<◌, ◌≤◌, Bool, true, false, ◌&&◌, ◌==◌, List, [], ◌∷◌, length, get_or, drop, arith, codes}
+use Rattle.std.proofs.Common.{◌≡◌, refl, ℕ, zero, suc, ◌<◌, ◌≤◌, true, false, List, [], ◌∷◌, length, get_or, drop, arith, codes}
 use Rattle.std.proofs.lemmas.List.{drop_more}
 use Rattle.token_model.specs.Bytes.{is_letter, is_word}
 use Rattle.tree_model.specs.Tree.{StatementsOf, no_statements, more_statements, map_statements}

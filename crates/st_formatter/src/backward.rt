@@ -1,5 +1,6 @@
 // A text that is written from its end.
-ghost use Rattle.std.specs.Prelude.{◌≡◌, [], ◌∷◌, ◌++◌, OnOk, replicate};
+ghost use Rattle.std.specs.Prelude.{◌≡◌, ◌==◌, [], ◌∷◌, ◌++◌, OnOk, replicate};
+ghost use Rattle.std.specs.List.{list_any};
 ghost use Rattle.rb_base.specs.Doubling.{doubled};
 
 use rb_base::Memory;
@@ -51,18 +52,20 @@ impl Backward {
     pub fn put(&mut self, piece: &[u8]) -> Result<(), Memory>
         ensures { OnOk result (self.new ≡ piece.now ++ self.old) }
     {
-        let mut at = piece.len();
-        while at > 0 {
-            at -= 1;
-            self.put_byte(piece[at])?;
-        }
+        let at = self.reversed.len();
+        self.reversed.extend_from_slice(piece)?;
+        self.reversed[at..].reverse();
         Ok(())
     }
 
     /// Writes a piece with each quote in it doubled before the text.
+    #[tactic(auto, using(crate::proofs::Pieces::quote_rules))]
     pub fn put_doubled(&mut self, piece: &[u8]) -> Result<(), Memory>
         ensures { OnOk result (self.new ≡ doubled 39 piece.now ++ self.old) }
     {
+        if !has_quote(piece) {
+            return self.put(piece);
+        }
         let mut at = piece.len();
         while at > 0 {
             at -= 1;
@@ -101,4 +104,11 @@ impl Backward {
         bytes.reverse();
         bytes
     }
+}
+
+/// Whether the bytes have a quote among them.
+fn has_quote(bytes: &[u8]) -> bool
+    ensures { result ≡ list_any (λ b. b == 39) bytes.now }
+{
+    bytes.iter().any(|byte| *byte == b'\'')
 }

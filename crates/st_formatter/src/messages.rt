@@ -1,16 +1,16 @@
 // Parts of messages.
-ghost use Rattle.std.specs.Prelude.{◌≡◌, ◌<◌, ◌++◌, ◌&&◌, length, true, OnOk, OnErr, IsErr, codes};
+ghost use Rattle.std.specs.Prelude.{◌≡◌, suc, ◌<◌, ◌≤◌, ◌++◌, ◌&&◌, length, take, true, IfOk, OnOk, OnErr, IsErr, codes};
 ghost use Rattle.rb_base.specs.Names.{name_at};
 ghost use Rattle.tree_model.specs.Tree.{map_names, map_messages};
 ghost use Rattle.tree_model.specs.AllNames.{AllNames, MessagesNames};
 ghost use Rattle.st_tree.specs.View.{messages_of};
-ghost use Rattle.text_model.specs.Pieces.{pieces_behind};
+ghost use Rattle.text_model.specs.Pieces.{keywords_of, pieces_behind};
 ghost use Rattle.text_model.specs.Precedences as rule;
 ghost use Rattle.st_formatter.specs.Turns.{items_at};
 
 use crate::backward::Backward;
-use crate::selectors::{message_precedence, text_of};
-use rb_base::{Memory, Names, Text};
+use crate::selectors::{last_keyword, message_precedence, text_of};
+use rb_base::{Memory, Names};
 use st_tree::{Message, Node, NodeKind};
 use text_model::Precedence;
 
@@ -30,17 +30,26 @@ pub(crate) fn flat_after(written: Result<(), Memory>) -> Result<bool, Memory>
     Ok(true)
 }
 
-/// Writes the keyword of this number behind a blank before the text, or nothing where there is none.
-#[tactic(auto, using(crate::proofs::Turned::item_rules))]
-pub(crate) fn write_keyword(keywords: &[Text], at: usize, out: &mut Backward) -> Result<(), Memory>
-    ensures { OnOk result (out.new ≡ pieces_behind (codes " ") (items_at keywords.now at) ++ out.old) }
+/// Writes the keyword of this number behind a blank before the text, or nothing where a selector of `count` keywords
+/// has none. It is the last keyword of `rest`, and what is returned is `rest` without it.
+pub(crate) fn write_keyword<'a>(
+    rest: &'a [u8],
+    at: usize,
+    count: usize,
+    out: &mut Backward,
+) -> Result<&'a [u8], Memory>
+    requires last { at < count → length (keywords_of rest.now) ≡ suc at }
+    requires none { count ≤ at → length (keywords_of rest.now) ≤ at }
+    ensures text { OnOk result (out.new ≡ pieces_behind (codes " ") (items_at (keywords_of rest.now) at) ++ out.old) }
+    ensures rest { IfOk result (λ left. keywords_of left.now ≡ take at (keywords_of rest.now)) }
 {
-    if at >= keywords.len() {
-        return Ok(());
+    if at >= count {
+        return Ok(rest);
     }
-    out.put(keywords[at].as_slice())?;
+    let start = last_keyword(rest);
+    out.put(&rest[start..])?;
     out.put_byte(b' ')?;
-    Ok(())
+    Ok(&rest[..start])
 }
 
 /// How loosely an expression holds together.

@@ -1,5 +1,5 @@
 // Names and selectors.
-ghost use Rattle.std.specs.Prelude.{◌≡◌, ℕ, ◌<◌, List, ◌∷◌, ◌++◌, false, length, IfOk, OnOk};
+ghost use Rattle.std.specs.Prelude.{◌≡◌, ◌<◌, [], ◌∷◌, ◌++◌, length, take, drop, OnOk};
 ghost use Rattle.std.specs.List.{list_all};
 ghost use Rattle.rb_base.specs.Names.{name_at};
 ghost use Rattle.token_model.specs.Bytes as class;
@@ -10,9 +10,8 @@ ghost use Rattle.text_model.specs.Precedences as rule;
 
 use crate::backward::Backward;
 use crate::bytes::{is_binary, is_letter, is_second, is_word};
-use rb_base::{Memory, NameId, Names, Text};
+use rb_base::{Memory, NameId, Names};
 use st_tree::Node;
-use std::alloc::Global;
 use text_model::Precedence;
 
 /// The text of a name.
@@ -31,44 +30,39 @@ pub(crate) fn write_name(name: NameId, names: &Names, out: &mut Backward) -> Res
     out.put(text_of(names, name))
 }
 
-/// A selector's keywords, or the whole of one that has no colon.
-#[tactic(auto, using(crate::proofs::Words::word_rules))]
-pub(crate) fn keywords(alloc: Global, selector: &[u8]) -> Result<Vec<Text>, Memory>
-    ensures { IfOk result (λ pieces. pieces.items ≡ piece.keywords_of selector.now) }
+/// How many keywords a selector has: the whole of one that has no colon counts as one.
+#[tactic(auto, using(crate::proofs::Words::count_rules))]
+pub(crate) fn count_keywords(selector: &[u8]) -> usize
+    ensures { result ≡ length (piece.keywords_of selector.now) }
 {
-    let mut pieces = Vec::new(alloc);
-    let mut word = Vec::new(alloc);
+    let mut count = 0;
+    let mut begun = false;
     for byte in selector {
-        word = word_behind(alloc, word, *byte, &mut pieces)?;
+        if *byte == b':' {
+            count += 1;
+            begun = false;
+        } else {
+            begun = true;
+        }
     }
-    if word.is_empty() {
-        return Ok(pieces);
-    }
-    pieces.push(Text::from_vec(word))?;
-    Ok(pieces)
+    if begun { count + 1 } else { count }
 }
 
-/// What is left of a word behind its next byte: nothing behind a colon, where the word is a piece by itself.
-#[tactic(auto, using(crate::proofs::Words::word_rules))]
-fn word_behind(
-    alloc: Global,
-    word: Vec<u8>,
-    byte: u8,
-    pieces: &mut Vec<Text>,
-) -> Result<Vec<u8>, Memory>
-    requires { piece.has_colon word.items ≡ false }
-    ensures word { IfOk result (λ left. piece.has_colon left.items ≡ false) }
-    ensures pieces { IfOk result (λ left. (rest : List ℕ) →
-        pieces.old.items ++ piece.keywords_of (word.items ++ byte ∷ rest)
-        ≡ pieces.new.items ++ piece.keywords_of (left.items ++ rest)) }
+/// Where a selector's last keyword begins: behind the colon of the keyword before it.
+pub(crate) fn last_keyword(selector: &[u8]) -> usize
+    requires { 0 < length selector.now }
+    ensures begins { result < length selector.now }
+    ensures cut { piece.keywords_of selector.now
+        ≡ piece.keywords_of (take result selector.now) ++ drop result selector.now ∷ [] }
 {
-    let mut word = word;
-    word.push(byte)?;
-    if byte == b':' {
-        pieces.push(Text::from_vec(word))?;
-        return Ok(Vec::new(alloc));
+    let mut at = selector.len() - 1;
+    while at > 0 {
+        if selector[at - 1] == b':' {
+            return at;
+        }
+        at -= 1;
     }
-    Ok(word)
+    at
 }
 
 /// Whether a selector has a colon, as those of keywords do.

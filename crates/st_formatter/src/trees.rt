@@ -19,7 +19,8 @@ use crate::lines::{start_line, write_notes, write_parameters, write_temporaries}
 use crate::literals::write_literal;
 use crate::messages::{both, flat_after, messages_precedence, precedence_of, write_keyword};
 use crate::selectors::{
-    argument_limit, is_looser, keywords, message_precedence, receiver_limit, text_of, write_name,
+    argument_limit, count_keywords, is_looser, message_precedence, receiver_limit, text_of,
+    write_name,
 };
 use rb_base::{Memory, NameId, Names};
 use st_tree::{Message, Node, NodeKind, Sequence, Statement};
@@ -137,14 +138,15 @@ fn write_message(
 {
     let text = text_of(names, selector);
     let message = message_precedence(text, arguments);
-    let words = keywords(out.alloc(), text)?;
+    let count = count_keywords(text);
+    let mut words = text;
     let mut flat = true;
-    let mut at = words.len().max(arguments.len());
+    let mut at = count.max(arguments.len());
     while at > 0 {
         at -= 1;
         let one = write_argument(arguments, at, message, level, names, out)?;
         flat = both(one, flat);
-        write_keyword(words.as_slice(), at, out)?;
+        words = write_keyword(words, at, count, out)?;
     }
     Ok(flat)
 }

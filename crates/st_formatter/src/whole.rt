@@ -12,7 +12,7 @@ ghost use Rattle.text_model.specs.Whole.{pattern_text, primitive_lines, canonica
 use crate::backward::Backward;
 use crate::lines::{start_line, write_notes};
 use crate::messages::write_keyword;
-use crate::selectors::{keywords, text_of, write_name};
+use crate::selectors::{count_keywords, text_of, write_name};
 use crate::trees::write_lines;
 use rb_base::{Memory, NameId, Names, Text};
 use st_tree::{Method, Sequence};
@@ -102,13 +102,15 @@ fn write_pattern(
     ensures { OnOk result (out.new ≡
         pattern_text (name_at names.now selector) (map (name_at names.now) arguments.now) ++ out.old) }
 {
-    let words = keywords(out.alloc(), text_of(names, selector))?;
+    let text = text_of(names, selector);
+    let count = count_keywords(text);
+    let mut words = text;
     let mut pattern = Backward::new(out.alloc());
-    let mut at = words.len().max(arguments.len());
+    let mut at = count.max(arguments.len());
     while at > 0 {
         at -= 1;
         write_argument_name(arguments, at, names, &mut pattern)?;
-        write_keyword(words.as_slice(), at, &mut pattern)?;
+        words = write_keyword(words, at, count, &mut pattern)?;
     }
     let bytes = pattern.into_vec();
     out.put(without_first(bytes.as_slice()))

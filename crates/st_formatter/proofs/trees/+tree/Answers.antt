@@ -1,11 +1,14 @@
-use Rattle.std.proofs.Common.{◌≡◌, ℕ, ◌+◌, ◌-◌, ◌<◌, suc, length, refl, ap, codes, arith}
+use Rattle.std.proofs.Common.{◌≡◌, ℕ, ◌+◌, ◌-◌, ◌<◌, ◌≤◌, suc, length, refl, sym, ap, ◌∙◌, codes, arith}
 use Rattle.std.proofs.lemmas.Grind.{common_steps}
+use Rattle.std.proofs.lemmas.List.{take_all, drop_all}
 use Rattle.rb_base.specs.Names.{name_at}
 use Rattle.tree_model.specs.Tree.{trees_of}
 use Rattle.tree_model.specs.Measure.{trees_weight, messages_weight}
 use Rattle.st_tree.specs.View.{messages_of}
+use Rattle.text_model.specs.Pieces.{keywords_of}
 use Rattle.st_formatter.proofs.Items.{message_weight-item, ArgumentNames-item, selector-item}
 use Rattle.st_formatter.proofs.Turned.{items_at-within, items_at-beyond, and-true, arguments-turned, flat-turned, brace_whole}
+use Rattle.st_formatter.proofs.Words.{items-left, length-left}
 use Rattle.st_formatter.proofs.trees.+tree.Goals as goal
 
 pub write_argument-returns-then-at-arguments-clause-text : goal.write_argument-returns-then-at-arguments-clause-text
@@ -29,17 +32,38 @@ write_brace-returns-in_ok-put_byte-in-Some-2-clause-text t c =
     rw (c.in-Some.ensures.cases.0)
     (brace_whole _ _ _ _ _ _ _ c.in_ok-put_byte-in-Some-2.ensures c.in_ok-one-in-Some-2.ensures.text others c.in_ok-put_byte-in-Some.ensures)
 
+pub write_message-loop-at-init : goal.write_message-loop-at-init
+write_message-loop-at-init t c =
+    let pieces = keywords_of c.text_of-text.result.now in
+    let counted : length pieces ≤ c.max-at.result = omega arith in
+    let arguments = drop_all c.max-at.result c.args.arguments.now (omega arith) in
+    record {
+      flat = rw arguments refl;
+      words = sym (take_all c.max-at.result pieces counted);
+      out = rw (arguments, drop_all c.max-at.result pieces counted) refl;
+    }
+
+pub write_message-write_keyword-requires : goal.write_message-write_keyword-requires
+write_message-write_keyword-requires t c =
+    let f : c.loop-at.at ≡ suc (c.loop-at.at - 1) = omega arith in
+    let words = rw f at c.loop-at.invariant.words in
+    let left = length-left _ _ (c.loop-at.at - 1) _ words c.count_keywords-count.ensures in
+    record { last = left.0; none = left.1 }
+
 pub write_message-loop-at-preserved : goal.write_message-loop-at-preserved
 write_message-loop-at-preserved t c =
     let e : c.loop-at.at ≡ c.loop-at.at - 1 + 1 = omega arith in
     let f : c.loop-at.at ≡ suc (c.loop-at.at - 1) = omega arith in
     let out = rw e at c.loop-at.invariant.out in
     let flat = rw f at c.loop-at.invariant.flat in
-    let turn = arguments-turned (codes " ") c.args.level c.message_precedence-message.result (name_at c.args.names.now) c.in_ok-words.words.items c.args.arguments.now (c.loop-at.at - 1) c.args.out.now in
+    let words = rw f at c.loop-at.invariant.words in
+    let left = items-left _ _ (c.loop-at.at - 1) words in
+    let turn = arguments-turned (codes " ") c.args.level c.message_precedence-message.result (name_at c.args.names.now) (keywords_of c.text_of-text.result.now) c.args.arguments.now (c.loop-at.at - 1) c.args.out.now in
     let both = flat-turned (name_at c.args.names.now) c.args.arguments.now (c.loop-at.at - 1) in
     record {
       flat = cc (both, flat, c.both-flat.ensures, c.in_ok-one.ensures.flat);
-      out = cc (turn, out, c.in_ok-write_keyword.ensures, c.in_ok-one.ensures.text, c.as_slice.ensures.value);
+      words = c.in_ok-words.ensures.rest ∙ left.1;
+      out = cc (turn, out, left.0, c.in_ok-words.ensures.text, c.in_ok-one.ensures.text);
     }
 
 pub write_messages-write_message-requires : goal.write_messages-write_message-requires

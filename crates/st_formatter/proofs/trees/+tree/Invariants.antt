@@ -1,9 +1,9 @@
-use Rattle.std.proofs.Common.{◌≡◌, ◌+◌, ◌*◌, ◌++◌, ◌≤◌, drop, length, codes}
+use Rattle.std.proofs.Common.{◌≡◌, ◌+◌, ◌*◌, ◌++◌, ◌≤◌, take, drop, length, codes}
 use Rattle.rb_base.specs.Names.{name_at}
 use Rattle.tree_model.specs.Tree.{trees_of, map_trees, map_messages, map_statements}
 use Rattle.tree_model.specs.Measure.{weight, trees_weight, messages_weight, statements_weight}
 use Rattle.st_tree.specs.View.{messages_of, statements_of}
-use Rattle.text_model.specs.Pieces.{pieces_behind, pieces_in_turn}
+use Rattle.text_model.specs.Pieces.{keywords_of, pieces_behind, pieces_in_turn}
 use Rattle.text_model.specs.Flat.{are_trees_flat, are_messages_flat}
 use Rattle.text_model.specs.Expressions.{expression_texts, argument_texts, message_texts, statement_lines}
 use Rattle.st_formatter.proofs.trees.+tree.Given as goal
@@ -43,7 +43,8 @@ invariant-write_message-loop-at l =
     let rest = map_trees (name_at l.names) (trees_of (drop l.at l.arguments)) in
     record {
       flat : l.flat ≡ are_trees_flat rest;
-      out : l.out ≡ pieces_behind (codes " ") (pieces_in_turn (drop l.at l.words.items) (argument_texts l.level l.message rest)) ++ l.initial.out;
+      words : keywords_of l.words ≡ take l.at (keywords_of l.initial.words);
+      out : l.out ≡ pieces_behind (codes " ") (pieces_in_turn (drop l.at (keywords_of l.initial.words)) (argument_texts l.level l.message rest)) ++ l.initial.out;
     }
 
 abbrev pub decreases-write_message-loop-at : goal.decreases-write_message-loop-at
