@@ -62,6 +62,11 @@ onto_first-append : (b : ℕ) (ks ls : List (List ℕ)) → 0 < length ks → on
 onto_first-append b [] ls h = absurd (omega arith)
 onto_first-append b (k ∷ ks) ls h = refl
 
+-- nor makes another where there are some
+length-onto_some : (b : ℕ) (ks : List (List ℕ)) → 0 < length ks → length (onto_first b ks) ≡ length ks
+length-onto_some b [] h = absurd (omega arith)
+length-onto_some b (k ∷ ks) h = refl
+
 -- a selector is cut behind a colon
 pub keywords_of-cut : (s : List ℕ) (i : ℕ) → i < length s → is_colon (get_or s i 0) ≡ true → keywords_of s ≡ keywords_of (take (suc i) s) ++ keywords_of (drop (suc i) s)
 keywords_of-cut [] i h e = absurd (omega arith)
@@ -77,6 +82,19 @@ keywords_of-cut (b ∷ c ∷ s) (suc i) h e =
 -- a byte alone is one keyword
 pub keywords_of-byte : (b : ℕ) → keywords_of (b ∷ []) ≡ (b ∷ []) ∷ []
 keywords_of-byte b = elim (cases_Bool (is_colon b)) [ inl h ↦ rw h refl | inr h ↦ rw h refl ]
+
+-- one keyword is all of the selector
+pub only_keyword : (s : List ℕ) → length (keywords_of s) ≡ 1 → keywords_of s ≡ s ∷ []
+only_keyword [] h = absurd (omega arith)
+only_keyword (b ∷ []) h = keywords_of-byte b
+only_keyword (b ∷ c ∷ s) h =
+    let some = keywords_of-some c s in
+    elim (cases_Bool (is_colon b)) [
+      | inl f ↦ let two = rw f at h in absurd (omega (arith, two, some))
+      | inr f ↦
+        let one = rw f at h in
+        rw f (ap (onto_first b) (only_keyword (c ∷ s) (sym (length-onto_some b (keywords_of (c ∷ s)) some) ∙ one)))
+    ]
 
 -- the last byte is one keyword
 pub keyword-last : (s : List ℕ) (i : ℕ) → suc i ≡ length s → keywords_of (drop i s) ≡ drop i s ∷ []

@@ -1,5 +1,5 @@
 // A text that is written from its end.
-ghost use Rattle.std.specs.Prelude.{◌≡◌, ◌==◌, [], ◌∷◌, ◌++◌, OnOk, replicate};
+ghost use Rattle.std.specs.Prelude.{◌≡◌, ◌==◌, [], ◌∷◌, ◌++◌, IfOk, OnOk, replicate};
 ghost use Rattle.std.specs.List.{list_any};
 ghost use Rattle.rb_base.specs.Doubling.{doubled};
 
@@ -25,14 +25,12 @@ impl Model for Backward {
 }
 
 impl Backward {
-    /// The empty text, which takes no memory.
-    pub fn new(alloc: Global) -> Backward
-        ensures { result ≡ [] }
+    /// The empty text, with room for so many bytes.
+    pub fn with_room(alloc: Global, bytes: usize) -> Result<Backward, Memory>
+        ensures { IfOk result (λ text. text ≡ []) }
     {
-        Backward {
-            alloc,
-            reversed: Vec::new(alloc),
-        }
+        let reversed = Vec::with_capacity(alloc, bytes)?;
+        Ok(Backward { alloc, reversed })
     }
 
     /// What gives the memory.

@@ -9,7 +9,7 @@ ghost use Rattle.text_model.specs.Precedences as rule;
 ghost use Rattle.st_formatter.specs.Turns.{items_at};
 
 use crate::backward::Backward;
-use crate::selectors::{last_keyword, message_precedence, text_of};
+use crate::selectors::{keyword_start, message_precedence, text_of};
 use rb_base::{Memory, Names};
 use st_tree::{Message, Node, NodeKind};
 use text_model::Precedence;
@@ -46,7 +46,7 @@ pub(crate) fn write_keyword<'a>(
     if at >= count {
         return Ok(rest);
     }
-    let start = last_keyword(rest);
+    let start = keyword_start(rest, at);
     out.put(&rest[start..])?;
     out.put_byte(b' ')?;
     Ok(&rest[..start])

@@ -1,5 +1,5 @@
 // Names and selectors.
-ghost use Rattle.std.specs.Prelude.{◌≡◌, ◌<◌, [], ◌∷◌, ◌++◌, length, take, drop, OnOk};
+ghost use Rattle.std.specs.Prelude.{◌≡◌, suc, ◌<◌, ◌≤◌, [], ◌∷◌, ◌++◌, length, take, drop, OnOk};
 ghost use Rattle.std.specs.List.{list_all};
 ghost use Rattle.rb_base.specs.Names.{name_at};
 ghost use Rattle.token_model.specs.Bytes as class;
@@ -48,8 +48,21 @@ pub(crate) fn count_keywords(selector: &[u8]) -> usize
     if begun { count + 1 } else { count }
 }
 
+/// Where the last keyword of a selector begins, which has this number: the first begins the selector.
+pub(crate) fn keyword_start(selector: &[u8], number: usize) -> usize
+    requires { length (piece.keywords_of selector.now) ≡ suc number }
+    ensures within { result ≤ length selector.now }
+    ensures cut { piece.keywords_of selector.now
+        ≡ piece.keywords_of (take result selector.now) ++ drop result selector.now ∷ [] }
+{
+    if number == 0 {
+        return 0;
+    }
+    last_keyword(selector)
+}
+
 /// Where a selector's last keyword begins: behind the colon of the keyword before it.
-pub(crate) fn last_keyword(selector: &[u8]) -> usize
+fn last_keyword(selector: &[u8]) -> usize
     requires { 0 < length selector.now }
     ensures begins { result < length selector.now }
     ensures cut { piece.keywords_of selector.now

@@ -18,6 +18,12 @@ use rb_base::{Memory, NameId, Names, Text};
 use st_tree::{Method, Sequence};
 use std::alloc::Global;
 
+/// The room in bytes that a text has to begin with. Most texts are shorter.
+const TEXT_ROOM: usize = 512;
+
+/// The room in bytes that a pattern has to begin with. Most patterns are shorter.
+const PATTERN_ROOM: usize = 64;
+
 /// Appends the canonical text of a method. The numbers of its names are those of `names`. On want of memory nothing is
 /// appended.
 pub fn format_method(
@@ -31,7 +37,7 @@ pub fn format_method(
         out.old ++ canonical_method (map_method (name_at names.now) (method_of method.now))) }
     ensures err { OnErr result (out.new ≡ out.old) }
 {
-    let mut text = Backward::new(alloc);
+    let mut text = Backward::with_room(alloc, TEXT_ROOM)?;
     write_lines(&method.body, 1, names, &mut text)?;
     write_primitive(method.primitive, &mut text)?;
     write_notes(method.head.as_slice(), 1, &mut text)?;
@@ -58,7 +64,7 @@ pub fn format_doit(
         out.old ++ canonical_doit (map_sequence (name_at names.now) (sequence_of body.now))) }
     ensures err { OnErr result (out.new ≡ out.old) }
 {
-    let mut text = Backward::new(alloc);
+    let mut text = Backward::with_room(alloc, TEXT_ROOM)?;
     write_lines(body, 0, names, &mut text)?;
     let bytes = text.into_vec();
     out.push_slice(without_first(bytes.as_slice()))
@@ -105,7 +111,7 @@ fn write_pattern(
     let text = text_of(names, selector);
     let count = count_keywords(text);
     let mut words = text;
-    let mut pattern = Backward::new(out.alloc());
+    let mut pattern = Backward::with_room(out.alloc(), PATTERN_ROOM)?;
     let mut at = count.max(arguments.len());
     while at > 0 {
         at -= 1;

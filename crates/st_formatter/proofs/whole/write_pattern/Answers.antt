@@ -13,7 +13,7 @@ loop-at-init c =
     let arguments = drop_all c.max-at.result c.args.arguments.now (omega arith) in
     record {
       words = sym (take_all c.max-at.result pieces counted);
-      pattern = rw (arguments, drop_all c.max-at.result pieces counted) c.new-pattern.ensures;
+      pattern = rw (arguments, drop_all c.max-at.result pieces counted) c.in_ok-pattern.ensures;
     }
 
 pub write_keyword-requires : goal.write_keyword-requires
