@@ -43,7 +43,7 @@ pub(crate) fn write_spaced(
     while at > 0 {
         at -= 1;
         write_name(names_in_order[at], names, out)?;
-        out.put(b" ")?;
+        out.put_byte(b' ')?;
     }
     Ok(())
 }
@@ -63,7 +63,7 @@ pub(crate) fn write_temporaries(
     }
     out.put(b" |")?;
     write_spaced(temporaries, names, out)?;
-    out.put(b"|")?;
+    out.put_byte(b'|')?;
     start_line(level, out)
 }
 
@@ -79,13 +79,13 @@ pub(crate) fn write_parameters(
     if parameters.is_empty() {
         return Ok(());
     }
-    out.put(b"|")?;
+    out.put_byte(b'|')?;
     let mut at = parameters.len();
     while at > 0 {
         at -= 1;
-        out.put(b" ")?;
+        out.put_byte(b' ')?;
         write_name(parameters[at], names, out)?;
-        out.put(b":")?;
+        out.put_byte(b':')?;
     }
     Ok(())
 }
