@@ -92,8 +92,8 @@ only_keyword (b ∷ c ∷ s) h =
     elim (cases_Bool (is_colon b)) [
       | inl f ↦ let two = rw f at h in absurd (omega (arith, two, some))
       | inr f ↦
-        let one = rw f at h in
-        rw f (ap (onto_first b) (only_keyword (c ∷ s) (sym (length-onto_some b (keywords_of (c ∷ s)) some) ∙ one)))
+          let one = rw f at h in
+          rw f (ap (onto_first b) (only_keyword (c ∷ s) (sym (length-onto_some b (keywords_of (c ∷ s)) some) ∙ one)))
     ]
 
 -- the last byte is one keyword

@@ -114,16 +114,17 @@ fn write_send(
     ensures flat { IfOk result (λ flat. flat ≡ is_flat (map_names (name_at names.now) (send receiver.now selector (trees_of arguments.now)))) }
 {
     let message = message_precedence(text_of(names, selector), arguments);
-    let message_flat = write_message(selector, arguments, level, names, out)?;
+    let message_flat = write_message(selector, message, arguments, level, names, out)?;
     let receiver_flat = write_operand(receiver, receiver_limit(message), level, names, out)?;
     Ok(both(receiver_flat, message_flat))
 }
 
-/// Writes a message before the text, each part behind a blank.
+/// Writes a message of this precedence before the text, each part behind a blank.
 #[cycle(tree)]
 #[tactic(auto, using(crate::proofs::Items::item_rules))]
 fn write_message(
     selector: NameId,
+    message: Precedence,
     arguments: &[Node],
     level: usize,
     names: &Names,
@@ -133,11 +134,10 @@ fn write_message(
     requires arguments { TreesNames (λ n. n < length names.now) (trees_of arguments.now) }
     ensures text { let s = name_at names.now selector in
         let trees = map_trees (name_at names.now) (trees_of arguments.now) in
-        OnOk result (out.new ≡ message_text s (argument_texts level (rule.message_precedence s trees) trees) ++ out.old) }
+        OnOk result (out.new ≡ message_text s (argument_texts level message trees) ++ out.old) }
     ensures flat { IfOk result (λ flat. flat ≡ are_trees_flat (map_trees (name_at names.now) (trees_of arguments.now))) }
 {
     let text = text_of(names, selector);
-    let message = message_precedence(text, arguments);
     let count = count_keywords(text);
     let mut words = text;
     let mut flat = true;
@@ -197,27 +197,35 @@ fn write_messages(
             let mut at = rest.len();
             while at > 0 {
                 at -= 1;
-                let next = &rest[at];
-                let one = write_message(
-                    next.selector,
-                    next.arguments.as_slice(),
-                    level,
-                    names,
-                    out,
-                )?;
+                let one = write_next(&rest[at], level, names, out)?;
                 flat = both(one, flat);
                 out.put_byte(b';')?;
             }
-            let one = write_message(
-                first.selector,
-                first.arguments.as_slice(),
-                level,
-                names,
-                out,
-            )?;
+            let one = write_next(first, level, names, out)?;
             Ok(both(one, flat))
         }
     }
+}
+
+/// Writes a message of a cascade before the text.
+#[cycle(tree)]
+#[tactic(auto, using(crate::proofs::Items::item_rules))]
+fn write_next(
+    next: &Message,
+    level: usize,
+    names: &Names,
+    out: &mut Backward,
+) -> Result<bool, Memory>
+    requires selector { next.now.selector < length names.now }
+    requires arguments { TreesNames (λ n. n < length names.now) (trees_of next.now.arguments) }
+    ensures text { let s = name_at names.now next.now.selector in
+        let trees = map_trees (name_at names.now) (trees_of next.now.arguments) in
+        OnOk result (out.new ≡ message_text s (argument_texts level (rule.message_precedence s trees) trees) ++ out.old) }
+    ensures flat { IfOk result (λ flat. flat ≡ are_trees_flat (map_trees (name_at names.now) (trees_of next.now.arguments))) }
+{
+    let arguments = next.arguments.as_slice();
+    let message = message_precedence(text_of(names, next.selector), arguments);
+    write_message(next.selector, message, arguments, level, names, out)
 }
 
 /// Writes a brace array before the text.

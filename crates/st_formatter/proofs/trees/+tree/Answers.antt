@@ -2,8 +2,7 @@ use Rattle.std.proofs.Common.{◌≡◌, ℕ, ◌+◌, ◌-◌, ◌<◌, ◌≤�
 use Rattle.std.proofs.lemmas.Grind.{common_steps}
 use Rattle.std.proofs.lemmas.List.{take_all, drop_all}
 use Rattle.rb_base.specs.Names.{name_at}
-use Rattle.tree_model.specs.Tree.{trees_of}
-use Rattle.tree_model.specs.Measure.{trees_weight, messages_weight}
+use Rattle.tree_model.specs.Measure.{messages_weight}
 use Rattle.st_tree.specs.View.{messages_of}
 use Rattle.text_model.specs.Pieces.{keywords_of}
 use Rattle.st_formatter.proofs.Items.{message_weight-item, ArgumentNames-item, selector-item}
@@ -58,7 +57,7 @@ write_message-loop-at-preserved t c =
     let flat = rw f at c.loop-at.invariant.flat in
     let words = rw f at c.loop-at.invariant.words in
     let left = items-left _ _ (c.loop-at.at - 1) words in
-    let turn = arguments-turned (codes " ") c.args.level c.message_precedence-message.result (name_at c.args.names.now) (keywords_of c.text_of-text.result.now) c.args.arguments.now (c.loop-at.at - 1) c.args.out.now in
+    let turn = arguments-turned (codes " ") c.args.level c.args.message (name_at c.args.names.now) (keywords_of c.text_of-text.result.now) c.args.arguments.now (c.loop-at.at - 1) c.args.out.now in
     let both = flat-turned (name_at c.args.names.now) c.args.arguments.now (c.loop-at.at - 1) in
     record {
       flat = cc (both, flat, c.both-flat.ensures, c.in_ok-one.ensures.flat);
@@ -66,18 +65,17 @@ write_message-loop-at-preserved t c =
       out = cc (turn, out, left.0, c.in_ok-words.ensures.text, c.in_ok-one.ensures.text);
     }
 
-pub write_messages-write_message-requires : goal.write_messages-write_message-requires
-write_messages-write_message-requires t c =
+pub write_messages-write_next-requires : goal.write_messages-write_next-requires
+write_messages-write_next-requires t c =
     let within : c.loop-at.at - 1 < length c.in-Some.rest.now = omega arith in
     let lighter = message_weight-item c.in-Some.rest.now (c.loop-at.at - 1) c.index-rest-at.result within c.index-rest-at.is in
     let whole = ap (λ ms. messages_weight (messages_of ms)) c.in-Some.ensures.cases.0 in
-    let same = ap (λ ts. trees_weight (trees_of ts)) c.as_slice.ensures in
     let names = rw (c.in-Some.ensures.cases.0) at c.requires in
     let P : ℕ → Type 0 = λ n. n < length c.args.names.now in (
-      omega (arith, lighter, whole, same),
+      omega (arith, lighter, whole),
       (
         selector-item (length c.args.names.now) c.in-Some.rest.now (c.loop-at.at - 1) c.index-rest-at.result within c.index-rest-at.is names.2,
-        rw c.as_slice.ensures (ArgumentNames-item P c.in-Some.rest.now (c.loop-at.at - 1) c.index-rest-at.result within c.index-rest-at.is names.2),
+        ArgumentNames-item P c.in-Some.rest.now (c.loop-at.at - 1) c.index-rest-at.result within c.index-rest-at.is names.2,
       ),
     )
 

@@ -26,6 +26,9 @@ decreases-write_argument l = 3 * trees_weight (trees_of l.arguments.now)
 abbrev pub decreases-write_messages : goal.decreases-write_messages
 decreases-write_messages l = 3 * messages_weight (messages_of l.messages.now)
 
+abbrev pub decreases-write_next : goal.decreases-write_next
+decreases-write_next l = 3 * trees_weight (trees_of l.next.now.arguments) + 2
+
 abbrev pub decreases-write_brace : goal.decreases-write_brace
 decreases-write_brace l = 3 * trees_weight (trees_of l.items.now)
 
