@@ -41,16 +41,7 @@ impl Declarations {
 }
 
 impl Events {
-    /// No events, which takes no memory.
-    pub fn new(alloc: Global) -> Events
-        ensures { result ≡ [] }
-    {
-        Events {
-            items: Vec::new(alloc),
-        }
-    }
-
-    /// No events, with room for so many.
+    /// No events, with room for as many as `count`; `Memory` where there is none.
     pub fn with_room(alloc: Global, count: usize) -> Result<Events, Memory>
         ensures { IfOk result (λ events. events ≡ []) }
     {
