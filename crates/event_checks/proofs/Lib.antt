@@ -3,3 +3,4 @@ pub mod Repeats
 pub mod Changes
 pub mod Assigned
 pub mod Raised
+pub mod Short

@@ -36,7 +36,7 @@ statement_parts NoStatements = []
 statement_parts (MoreStatements c f t ss) = cut (height (plain_tree t)) ∷ statement_parts ss
 
 -- one more height
-greatest_more : (hs : List ℕ) (h : ℕ) → greatest (hs ++ h ∷ []) ≡ max h (greatest hs)
+pub greatest_more : (hs : List ℕ) (h : ℕ) → greatest (hs ++ h ∷ []) ≡ max h (greatest hs)
 greatest_more [] h = refl
 greatest_more (k ∷ hs) h = omega (arith, greatest_more hs h)
 

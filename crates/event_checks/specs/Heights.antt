@@ -1,5 +1,5 @@
 -- The heights of what events build.
-use Rattle.std.specs.Prelude.{ℕ, zero, suc, ◌+◌, ◌-◌, nat_lt, if◌then◌else◌, List, [], ◌∷◌, ◌++◌, length, take, drop, max, min, Option, Some, None}
+use Rattle.std.specs.Prelude.{ℕ, zero, suc, ◌+◌, ◌-◌, nat_lt, Bool, true, ◌&&◌, if◌then◌else◌, List, [], ◌∷◌, ◌++◌, length, take, drop, max, min, Option, Some, None}
 use Rattle.std.specs.Option.{option_or}
 use Rattle.parse_events.specs.declared.event.Event.{Event}
 use Rattle.parse_events.specs.declared.event.Event.TheVariants.{Number, Str, Symbol, Char, Word, Array, Bytes, Literal, Var, Send, Message, Cascade, Target, Assign, Enter, Block, Brace, Return, Statement}
@@ -54,3 +54,18 @@ tall_at e inside hs = None
 abbrev pub first_tall_in : ℕ → List ℕ → List Event → Option ℕ
 first_tall_in inside hs [] = None
 first_tall_in inside hs (e ∷ es) = option_or (tall_at e inside hs) (first_tall_in (open_behind e inside) (heights_behind e hs) es)
+
+-- how many more events the statement outside all blocks may have, where it may have this many before an event
+abbrev pub left_behind : Event → ℕ → ℕ → ℕ
+left_behind (Statement f c) zero left = 200
+left_behind e inside left = left - 1
+
+-- whether an event ends no statement outside all blocks that has too many events
+abbrev pub short_at : Event → ℕ → ℕ → Bool
+short_at (Statement f c) zero left = nat_lt 0 left
+short_at e inside left = true
+
+-- whether each statement outside all blocks has 200 events at most, with its own
+abbrev pub all_short : ℕ → ℕ → List Event → Bool
+all_short inside left [] = true
+all_short inside left (e ∷ es) = short_at e inside left && all_short (open_behind e inside) (left_behind e inside left) es

@@ -1,9 +1,9 @@
 // Outermost statements that are too high.
-ghost use Rattle.std.specs.Prelude.{◌≡◌, ◌+◌, ◌-◌, ◌≤◌, [], ◌∷◌, ◌++◌, Option, IfOk, OnOk, length, take};
+ghost use Rattle.std.specs.Prelude.{◌≡◌, ◌+◌, ◌-◌, ◌≤◌, ◌↔◌, [], ◌∷◌, ◌++◌, Option, IfOk, IsTrue, OnOk, length, take};
 ghost use Rattle.grammar_model.specs.Checks.{first_tall};
 ghost use Rattle.grammar_model.specs.Spanned.{SpannedStatements};
 ghost use Rattle.parse_events.specs.Found.{statements_events};
-ghost use Rattle.event_checks.specs.Heights.{greatest, raised, heights_behind, open_behind, tall_at, first_tall_in};
+ghost use Rattle.event_checks.specs.Heights.{greatest, raised, heights_behind, open_behind, tall_at, first_tall_in, left_behind, short_at, all_short};
 
 use parse_events::Event;
 use rb_base::Memory;
@@ -150,9 +150,59 @@ fn tall_in_events(alloc: Global, events: &[Event]) -> Result<Option<usize>, Memo
     Ok(None)
 }
 
+/// How many more events the statement outside all blocks may have behind an event, where it may have this many before.
+fn left_behind(depth: usize, left: u8, event: &Event) -> u8
+    ensures { result ≡ left_behind event.now depth left }
+{
+    match event {
+        Event::Statement { .. } if depth == 0 => MOST_LEVELS,
+        _ => left.saturating_sub(1),
+    }
+}
+
+/// Whether an event ends no statement outside all blocks that has too many events.
+fn is_short_at(depth: usize, left: u8, event: &Event) -> bool
+    ensures { result ≡ short_at event.now depth left }
+{
+    match event {
+        Event::Statement { .. } => depth > 0 || left > 0,
+        _ => true,
+    }
+}
+
+/// Whether each statement outside all blocks has 200 events at most, with its own. An event raises a height by one level
+/// at most, so no such statement is too high.
+fn are_short(events: &[Event]) -> Result<bool, Memory>
+    ensures { IfOk result (λ short. short ≡ all_short 0 200 events.now) }
+{
+    let mut depth = 0;
+    let mut left = MOST_LEVELS;
+    for event in events {
+        if !is_short_at(depth, left, event) {
+            return Ok(false);
+        }
+        left = left_behind(depth, left, event);
+        depth = open_behind(depth, event)?;
+    }
+    Ok(true)
+}
+
+/// Whether there are 200 events at most, which build nothing that is too high.
+fn are_few(events: &[Event]) -> bool
+    ensures { IsTrue result ↔ length events.now ≤ 200 }
+{
+    events.len() <= usize::from(MOST_LEVELS)
+}
+
 /// The place of the first outermost statement that is higher than 200: of its first token.
 pub(crate) fn first_tall(alloc: Global, events: &[Event]) -> Result<Option<usize>, Memory>
     ensures { IfOk result (λ tall. (ss : SpannedStatements) → events.now ≡ statements_events ss → tall ≡ first_tall ss) }
 {
+    if are_few(events) {
+        return Ok(None);
+    }
+    if are_short(events)? {
+        return Ok(None);
+    }
     tall_in_events(alloc, events)
 }
