@@ -4,3 +4,4 @@ pub mod Changes
 pub mod Assigned
 pub mod Raised
 pub mod Short
+pub mod NoneFixed

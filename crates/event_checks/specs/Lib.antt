@@ -1,4 +1,5 @@
 pub mod Lists
 pub mod Duplicates
 pub mod Scopes
+pub mod FixedNames
 pub mod Heights

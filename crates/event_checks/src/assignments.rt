@@ -1,32 +1,16 @@
 // Assignments to names that cannot be assigned.
 ghost use Rattle.std.specs.Prelude.{◌≡◌, List, Option, IfOk};
-ghost use Rattle.grammar_model.specs.Words.{is_literal_word, is_pseudo};
 ghost use Rattle.grammar_model.specs.Checks.{known_of, fixed_in_statements};
 ghost use Rattle.grammar_model.specs.Spanned.{Declared, SpannedStatements};
 ghost use Rattle.parse_events.specs.Found.{declarations, statements_events};
 ghost use Rattle.event_checks.specs.Scopes.{Scoped, IsScopes, assigned_at, behind, first_fixed_in};
 
+use crate::fixed_names::may_assign_fixed;
 use crate::scopes::Scopes;
+use crate::words::is_pseudo;
 use parse_events::{Declaration, Event};
 use rb_base::Memory;
 use std::alloc::Global;
-
-/// Whether a name is nil, true or false.
-fn is_literal_word(name: &[u8]) -> bool
-    ensures { result ≡ is_literal_word name.now }
-{
-    name == b"nil".as_slice() || name == b"true".as_slice() || name == b"false".as_slice()
-}
-
-/// Whether a name is that of a pseudo-variable: self, super, nil, true, false or thisContext.
-fn is_pseudo(name: &[u8]) -> bool
-    ensures { result ≡ is_pseudo name.now }
-{
-    is_literal_word(name)
-        || name == b"self".as_slice()
-        || name == b"super".as_slice()
-        || name == b"thisContext".as_slice()
-}
 
 /// The place of an event that assigns a name that cannot be assigned.
 fn fixed_at(scopes: &Scopes, event: &Event) -> Option<usize>
@@ -88,6 +72,9 @@ pub(crate) fn first_fixed(
     ensures { IfOk result (λ fixed. (ps ds : List Declared) (ss : SpannedStatements) → arguments.now ≡ declarations ps → temporaries.now ≡ declarations ds → events.now ≡ statements_events ss →
         fixed ≡ fixed_in_statements (known_of ps ds) ss) }
 {
+    if !may_assign_fixed(alloc, arguments, events)? {
+        return Ok(None);
+    }
     let mut scopes = Scopes::new(alloc);
     scopes.declare_list(alloc, arguments, temporaries)?;
     fixed_in_events(alloc, &mut scopes, events)

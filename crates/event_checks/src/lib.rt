@@ -5,7 +5,9 @@
 mod assignments;
 mod check;
 mod duplicates;
+mod fixed_names;
 mod heights;
 mod scopes;
+mod words;
 
 pub use check::check_tree;

@@ -1,0 +1,8 @@
+use Rattle.std.proofs.Common.{◌≡◌, drop}
+use Rattle.std.specs.List.{list_any}
+use Rattle.std.specs.Str.{bytes_eq}
+use Rattle.event_checks.specs.FixedNames.{texts}
+use Rattle.event_checks.proofs.fixed_names.is_among.Given as goal
+
+abbrev pub invariant-loop-known : goal.invariant-loop-known
+invariant-loop-known l = list_any (bytes_eq l.name) (texts l.names) ≡ list_any (bytes_eq l.name) (texts (drop l.known-index l.names))
