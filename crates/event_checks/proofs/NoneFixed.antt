@@ -12,9 +12,9 @@ use Rattle.grammar_model.specs.Checks.{Known, known_of, is_fixed}
 use Rattle.parse_events.specs.declared.event.Declaration.{Declaration}
 use Rattle.parse_events.specs.declared.event.Event.{Event}
 use Rattle.parse_events.specs.declared.event.Event.TheVariants as event
-use Rattle.event_checks.specs.Lists.{declared}
+use Rattle.event_checks.specs.Lists.{declared, names_of}
 use Rattle.event_checks.specs.Scopes.{Scoped, left, behind, assigned_at, first_fixed_in, known_as}
-use Rattle.event_checks.specs.FixedNames.{names_of, parameters_at, parameters_in, assigns_at, assigns_in, is_target}
+use Rattle.event_checks.specs.FixedNames.{parameters_at, parameters_in, assigns_at, assigns_in, is_target}
 
 -- an event that is no assignment assigns nothing
 no_target : (ks : List Known) (e : Event) → is_target e ≡ false → assigned_at ks e ≡ None

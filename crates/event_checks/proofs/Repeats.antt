@@ -1,11 +1,11 @@
 -- Names that a tree declares twice are those that its events declare twice.
-use Rattle.std.proofs.Common.{◌≡◌, ℕ, ◌+◌, ◌<◌, length, arith, Bool, true, false, ◌||◌, if◌then◌else◌, List, [], ◌∷◌, ◌++◌, Option, Some, None, refl, sym, ap, ◌∙◌, append_assoc}
+use Rattle.std.proofs.Common.{◌≡◌, ℕ, ◌+◌, ◌<◌, length, take, drop, get_or, Bool, true, false, ◌||◌, if◌then◌else◌, List, [], ◌∷◌, ◌++◌, Option, Some, None, refl, sym, ap, ◌∙◌, append_assoc}
 use Rattle.std.specs.Prelude.{is_some}
 use Rattle.std.proofs.Math.Bool.{or_comm}
 use Rattle.std.specs.List.{list_any}
 use Rattle.std.specs.Option.{option_or}
 use Rattle.std.specs.Str.{bytes_eq}
-use Rattle.std.proofs.lemmas.List.{append-nil}
+use Rattle.std.proofs.lemmas.List.{append-nil, map-append, take_more}
 use Rattle.std.proofs.lemmas.List.Folds.{list_any-append}
 use Rattle.tree_model.specs.Tree.{LiteralOf, number, str, symbol, char, array, bytes, word, LiteralsOf, no_literals, more_literals}
 use Rattle.grammar_model.specs.Terminal.{Text}
@@ -15,9 +15,9 @@ use Rattle.parse_events.specs.declared.event.Declaration.{Declaration}
 use Rattle.parse_events.specs.declared.event.Event.{Event}
 use Rattle.parse_events.specs.declared.event.Event.TheVariants as event
 use Rattle.parse_events.specs.Found.{count_literals, count_trees, count_messages, count_statements, literal_events, literals_events, tree_events, trees_events, messages_events, statements_events}
-use Rattle.event_checks.specs.Lists.{declared}
+use Rattle.event_checks.specs.Lists.{declared, names_of}
 use Rattle.event_checks.specs.Duplicates.{first_duplicate_in}
-use Rattle.event_checks.proofs.Lists.{both_again, option_or_assoc, option_or_none, last_of, last_of_two}
+use Rattle.event_checks.proofs.Lists.{both_again, drop_here, option_or_assoc, option_or_none, last_of, last_of_two}
 
 -- names in another order make the same names repeat
 repeat_same : (s u : List Text) → ((t : Text) → list_any (bytes_eq t) s ≡ list_any (bytes_eq t) u) → (ds : List Declared) → first_repeat s ds ≡ first_repeat u ds
@@ -126,11 +126,25 @@ mutual
 pub repeats_all : (ss : SpannedStatements) → first_duplicate_in (statements_events ss) ≡ duplicate_in_statements ss
 repeats_all ss = ap first_duplicate_in (sym (append-nil (statements_events ss))) ∙ repeats_statements ss [] ∙ option_or_none (duplicate_in_statements ss)
 
--- one name does not repeat
-pub one_at_most : (first second : List Declaration) → length first + length second < 2 → first_repeat [] (declared first ++ declared second) ≡ None
-one_at_most [] [] h = refl
-one_at_most [] (d ∷ []) h = refl
-one_at_most [] (d ∷ e ∷ ds) h = absurd (omega (arith, h))
-one_at_most (d ∷ []) [] h = refl
-one_at_most (d ∷ []) (e ∷ ds) h = absurd (omega (arith, h))
-one_at_most (d ∷ e ∷ ds) es h = absurd (omega (arith, h))
+-- the declaration at an index has a name that stands before it
+pub repeat_at_index : (first second : List Declaration) (i : ℕ) (d : Declaration) (rest : List Declared) → i < length second → d ≡ get_or second i d →
+    true ≡ list_any (bytes_eq d.name) (names_of first ++ names_of (take i second)) →
+    first_repeat (names_of first ++ names_of (take i second)) (declared (drop i second) ++ rest) ≡ Some d.from
+repeat_at_index first second i d rest h is known =
+    let names : List Text = names_of first ++ names_of (take i second) in
+    ap (λ (ds : List Declaration). first_repeat names (declared ds ++ rest)) (drop_here second i d h is) ∙
+    repeat_here names (record { name = d.name; from = d.from }) (declared (drop (i + 1) second) ++ rest) known
+
+-- it has none
+pub repeat_past_index : (first second : List Declaration) (i : ℕ) (d : Declaration) (rest : List Declared) → i < length second → d ≡ get_or second i d →
+    false ≡ list_any (bytes_eq d.name) (names_of first ++ names_of (take i second)) →
+    first_repeat (names_of first ++ names_of (take i second)) (declared (drop i second) ++ rest) ≡ first_repeat (names_of first ++ names_of (take (i + 1) second)) (declared (drop (i + 1) second) ++ rest)
+repeat_past_index first second i d rest h is new =
+    let names : List Text = names_of first ++ names_of (take i second) in
+    let more : take (i + 1) second ≡ take i second ++ d ∷ [] = take_more second i d h ∙ ap (λ (e : Declaration). take i second ++ e ∷ []) (sym is) in
+    let joined : names_of first ++ names_of (take (i + 1) second) ≡ names ++ d.name ∷ [] =
+    ap (λ (ds : List Declaration). names_of first ++ names_of ds) more ∙
+    ap (λ (ns : List Text). names_of first ++ ns) (map-append (λ (d : Declaration). d.name) (take i second) (d ∷ [])) ∙
+    sym (append_assoc (names_of first) (names_of (take i second)) (d.name ∷ [])) in
+    ap (λ (ds : List Declaration). first_repeat names (declared ds ++ rest)) (drop_here second i d h is) ∙
+    repeat_more names (names_of first ++ names_of (take (i + 1) second)) (record { name = d.name; from = d.from }) (declared (drop (i + 1) second) ++ rest) new joined

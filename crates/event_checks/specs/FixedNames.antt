@@ -5,17 +5,13 @@ use Rattle.std.specs.List.{list_any}
 use Rattle.std.specs.Str.{bytes_eq}
 use Rattle.grammar_model.specs.Terminal.{Text}
 use Rattle.grammar_model.specs.Words.{is_pseudo}
-use Rattle.parse_events.specs.declared.event.Declaration.{Declaration}
 use Rattle.parse_events.specs.declared.event.Event.{Event}
 use Rattle.parse_events.specs.declared.event.Event.TheVariants.{Target, Enter}
+use Rattle.event_checks.specs.Lists.{names_of}
 
 -- the texts that references point to
 abbrev pub texts : List (Bor (List ℕ)) → List Text
 texts ns = map (λ (n : Bor (List ℕ)). n.now) ns
-
--- the names of declarations
-abbrev pub names_of : List Declaration → List Text
-names_of ds = map (λ (d : Declaration). d.name) ds
 
 -- the names of the parameters of an event
 abbrev pub parameters_at : Event → List Text

@@ -1,17 +1,20 @@
 // Names that are declared twice in one list.
-ghost use Rattle.std.specs.Prelude.{◌≡◌, [], ◌∷◌, ◌++◌, List, true, false, Option, None, IfOk};
+ghost use Rattle.std.specs.Prelude.{◌≡◌, [], ◌∷◌, ◌++◌, List, false, Option, IfOk};
 ghost use Rattle.std.specs.List.{list_any};
 ghost use Rattle.std.specs.Option.{option_or};
 ghost use Rattle.std.specs.Str.{bytes_eq};
 ghost use Rattle.grammar_model.specs.Checks.{first_repeat, duplicate_in_statements};
 ghost use Rattle.grammar_model.specs.Spanned.{Declared, SpannedStatements};
 ghost use Rattle.parse_events.specs.Found.{declarations, statements_events};
-ghost use Rattle.event_checks.specs.Lists.{declared};
+ghost use Rattle.event_checks.specs.Lists.{declared, names_of};
 ghost use Rattle.event_checks.specs.Duplicates.{repeat_at, first_duplicate_in};
 
 use parse_events::{Declaration, Event};
 use rb_base::{Memory, Names};
 use std::alloc::Global;
+
+/// The most names of a list that are compared with each other, without a table of them.
+const FEW_NAMES: usize = 8;
 
 /// Whether a name was among the names; else it is put at their end.
 fn is_repeat(names: &mut Names, name: &[u8]) -> Result<bool, Memory>
@@ -35,17 +38,48 @@ fn repeat_among(names: &mut Names, declarations: &[Declaration]) -> Result<Optio
     Ok(None)
 }
 
-/// Whether a list of two parts declares at most one name, which cannot be declared twice.
-fn has_one_at_most(first: &[Declaration], second: &[Declaration]) -> bool
-    ensures { result ≡ true → first_repeat [] (declared first.now ++ declared second.now) ≡ None }
+/// Whether one of the declarations has the name.
+fn has_name(declarations: &[Declaration], name: &[u8]) -> bool
+    ensures { result ≡ list_any (bytes_eq name.now) (names_of declarations.now) }
 {
-    if first.is_empty() {
-        return second.len() < 2;
-    }
-    if second.is_empty() {
-        return first.len() < 2;
+    for declaration in declarations {
+        if name == declaration.name.as_slice() {
+            return true;
+        }
     }
     false
+}
+
+/// Whether a declaration of one of two lists has the name.
+fn have_name(first: &[Declaration], second: &[Declaration], name: &[u8]) -> bool
+    ensures { result ≡ list_any (bytes_eq name.now) (names_of first.now ++ names_of second.now) }
+{
+    has_name(first, name) || has_name(second, name)
+}
+
+/// The place of the first declaration of the second list whose name stands before it, in the first list or in its own.
+/// Each is compared with all that stand before it.
+fn repeat_behind(first: &[Declaration], second: &[Declaration]) -> Option<usize>
+    ensures { (rest : List Declared) → first_repeat (names_of first.now) (declared second.now ++ rest) ≡ option_or result (first_repeat (names_of first.now ++ names_of second.now) rest) }
+{
+    for (index, declaration) in second.iter().enumerate() {
+        if have_name(first, &second[..index], declaration.name.as_slice()) {
+            return Some(declaration.from);
+        }
+    }
+    None
+}
+
+/// The place of the first declaration of a name that was declared before, in one list of two parts that declares few
+/// names.
+fn repeat_in_few(first: &[Declaration], second: &[Declaration]) -> Option<usize>
+    ensures { result ≡ first_repeat [] (declared first.now ++ declared second.now) }
+{
+    let repeat = repeat_behind(&[], first);
+    if repeat.is_some() {
+        return repeat;
+    }
+    repeat_behind(first, second)
 }
 
 /// The place of the first declaration of a name that was declared before, in one list of two parts.
@@ -56,8 +90,8 @@ fn repeat_in(
 ) -> Result<Option<usize>, Memory>
     ensures { IfOk result (λ repeat. repeat ≡ first_repeat [] (declared first.now ++ declared second.now)) }
 {
-    if has_one_at_most(first, second) {
-        return Ok(None);
+    if first.len().saturating_add(second.len()) <= FEW_NAMES {
+        return Ok(repeat_in_few(first, second));
     }
     let mut names = Names::new(alloc);
     let repeat = repeat_among(&mut names, first)?;

@@ -4,9 +4,9 @@ ghost use Rattle.std.specs.List.{list_any};
 ghost use Rattle.std.specs.Str.{bytes_eq};
 ghost use Rattle.grammar_model.specs.Checks.{known_of};
 ghost use Rattle.parse_events.specs.declared.event.Declaration.{Declaration as Declared};
-ghost use Rattle.event_checks.specs.Lists.{declared};
+ghost use Rattle.event_checks.specs.Lists.{declared, names_of};
 ghost use Rattle.event_checks.specs.Scopes.{first_fixed_in};
-ghost use Rattle.event_checks.specs.FixedNames.{texts, names_of, parameters_at, parameters_in, assigns_at, assigns_in, is_target};
+ghost use Rattle.event_checks.specs.FixedNames.{texts, parameters_at, parameters_in, assigns_at, assigns_in, is_target};
 
 use crate::words::is_pseudo;
 use parse_events::{Declaration, Event};

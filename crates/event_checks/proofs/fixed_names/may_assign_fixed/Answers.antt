@@ -2,8 +2,8 @@ use Rattle.std.proofs.Common.{List, [], ◌++◌, sym, ap, ◌∙◌}
 use Rattle.std.specs.Borrow.{Bor}
 use Rattle.grammar_model.specs.Terminal.{Text}
 use Rattle.grammar_model.specs.Checks.{known_of}
-use Rattle.event_checks.specs.Lists.{declared}
-use Rattle.event_checks.specs.FixedNames.{texts, names_of, parameters_in}
+use Rattle.event_checks.specs.Lists.{declared, names_of}
+use Rattle.event_checks.specs.FixedNames.{texts, parameters_in}
 use Rattle.event_checks.proofs.NoneFixed.{no_targets, none_assigned}
 use Rattle.event_checks.proofs.fixed_names.may_assign_fixed.Goals as goal
 
