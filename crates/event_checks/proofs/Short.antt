@@ -1,6 +1,6 @@
 -- Statements of few events are not too high.
-use Rattle.std.proofs.Common.{◌≡◌, ℕ, zero, suc, ◌+◌, ◌-◌, ◌<◌, ◌≤◌, Bool, true, false, ◌&&◌, if◌then◌else◌, List, [], ◌∷◌, ◌++◌, length, take, drop, Option, Some, None, refl, sym, ap, ◌∙◌, append_assoc, arith}
-use Rattle.std.specs.Prelude.{nat_lt}
+use Rattle.std.proofs.Common.{◌≡◌, ℕ, zero, suc, ◌+◌, ◌-◌, ◌<◌, ◌≤◌, Bool, true, false, ◌&&◌, if◌then◌else◌, List, [], ◌∷◌, ◌++◌, length, take, drop, get_or, Option, Some, None, refl, sym, ap, ◌∙◌, append_assoc, arith}
+use Rattle.std.specs.Prelude.{nat_lt, is_some}
 use Rattle.std.specs.Option.{option_or}
 use Rattle.std.proofs.lemmas.List.{length-append}
 use Rattle.std.proofs.lemmas.Bool.{and_parts}
@@ -15,7 +15,7 @@ use Rattle.parse_events.specs.declared.event.Event.{Event}
 use Rattle.parse_events.specs.declared.event.Event.TheVariants as event
 use Rattle.parse_events.specs.Found.{count_literals, count_trees, count_messages, count_statements, declarations, literal_events, literals_events, tree_events, trees_events, messages_events, statements_events}
 use Rattle.event_checks.specs.Heights.{cut, greatest, raised, heights_behind, open_behind, tall_at, first_tall_in, all_short}
-use Rattle.event_checks.proofs.Lists.{last_of}
+use Rattle.event_checks.proofs.Lists.{drop_here, last_of}
 use Rattle.event_checks.proofs.Raised.{greatest_more, raises_all}
 
 -- the first heights are no greater than all
@@ -75,6 +75,17 @@ none_tall : (e : Event) (inside : ℕ) (hs : List ℕ) → greatest hs ≤ 200 �
 none_tall (event.Statement f c) zero hs h =
     ap (λ (b : Bool). if b then Some f else None) (not_above (greatest (drop (length hs - 1) hs)) (omega (arith, h, greatest_drop (length hs - 1) hs)))
 none_tall e inside hs h = refl
+
+-- past an event that is no statement which is too high
+pub tall_past : (inside next : ℕ) (hs now gs : List ℕ) (es : List Event) (i : ℕ) (e : Event) (tall : Option ℕ) → i < length es → e ≡ get_or es i e →
+    tall ≡ tall_at e inside now → now ≡ hs → is_some tall ≡ false → next ≡ open_behind e inside → gs ≡ heights_behind e hs →
+    first_tall_in inside hs (drop i es) ≡ first_tall_in next gs (drop (i + 1) es)
+tall_past inside next hs now gs es i e None h is tall same none behind built =
+    let here : tall_at e inside hs ≡ None = ap (tall_at e inside) (sym same) ∙ sym tall in
+    ap (first_tall_in inside hs) (drop_here es i e h is) ∙
+    ap (λ (a : Option ℕ). option_or a (first_tall_in (open_behind e inside) (heights_behind e hs) (drop (i + 1) es))) here ∙
+    (λ k. first_tall_in (sym behind k) (sym built k) (drop (i + 1) es))
+tall_past inside next hs now gs es i e (Some f) h is tall same none behind built = cc
 
 -- few events build nothing that is too high
 pub few_low : (inside : ℕ) (hs : List ℕ) (es : List Event) → greatest hs + length es ≤ 200 → first_tall_in inside hs es ≡ None

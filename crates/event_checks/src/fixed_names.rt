@@ -30,7 +30,12 @@ fn is_target(event: &Event) -> bool
 fn has_target(events: &[Event]) -> bool
     ensures { result ≡ list_any is_target events.now }
 {
-    events.iter().any(|event| is_target(event))
+    for event in events {
+        if is_target(event) {
+            return true;
+        }
+    }
+    false
 }
 
 /// Puts the names of declarations at the end.
@@ -95,7 +100,12 @@ fn assigns_at(names: &[&[u8]], event: &Event) -> bool
 fn assigns_in(names: &[&[u8]], events: &[Event]) -> bool
     ensures { result ≡ assigns_in (texts names.now) events.now }
 {
-    events.iter().any(|event| assigns_at(names, event))
+    for event in events {
+        if assigns_at(names, event) {
+            return true;
+        }
+    }
+    false
 }
 
 /// Whether a text may assign a name that cannot be assigned. Most texts assign no pseudo-variable, and nothing that has
