@@ -11,18 +11,26 @@ const DOITS: &[&str] = &[
     "| a | [:a | ]. [:a | ]",
     "| nil super | super foo",
     "[:a | [| a | a := 3]]",
+    "| a b c d e f g h i | i := a",
+    "[:a :b :c :d :e :f :g :h :i :j :k :l :m :n :o :p :q | | r | r := q]",
+    "[:a :b :c :d :e :f :g :h :i :j :k :l :m :n :o :p :q | [| q | q := a]]",
 ];
 
 const FAULTS_OF_DOITS: &[(&str, ParseFault)] = &[
     ("| a b a | a", DuplicateName { at: 6 }),
     ("[:a :a | a]", DuplicateName { at: 5 }),
     ("[:a | | a | a]", DuplicateName { at: 8 }),
+    ("| a b c d e f g h i a | a", DuplicateName { at: 20 }),
     ("nil := 3. [:a :a | ]", DuplicateName { at: 15 }),
     ("nil := 3", AssignsFixed { at: 0 }),
     ("super := 3", AssignsFixed { at: 0 }),
     ("| nil | nil := 3", AssignsFixed { at: 8 }),
     ("[:a | a := 3]", AssignsFixed { at: 6 }),
     ("| a | [:a | a := 3]", AssignsFixed { at: 12 }),
+    (
+        "[:a :b :c :d :e :f :g :h :i :j :k :l :m :n :o :p :q | q := a]",
+        AssignsFixed { at: 54 },
+    ),
     ("a := b := nil := 3", AssignsFixed { at: 10 }),
     ("<primitive: 1>", PrimitiveInUser { at: 0 }),
     ("| a a | '", Lexical(LexFault::OpenString { at: 8 })),
