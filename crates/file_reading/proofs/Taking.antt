@@ -32,6 +32,12 @@ Answers-weaker P Q h (Ok new) p = (p.0, h (Ok (filed new)) p.1)
 Answers-weaker P Q h (Err (stop.Refused cause)) p = (p.0, p.1, h (Err p.0) p.2)
 Answers-weaker P Q h (Err stop.Memory) p = tt
 
+-- the answer by a cause, where there is one
+pub told : (P : Result Filing Cause → Type 0) (new : Progress) (cause : Option ImageCause) (a : Result Progress Stop) → (cause ≡ None → Answers P (Ok new)) → ((k : ImageCause) → cause ≡ Some k → Answers P (Err (stop.Refused k)))
+    → a ≡ option_map_or (λ k. Err (stop.Refused k)) cause (Ok new) → Answers P a
+told P new None a kept refused is = subst (Answers P) (sym is) (kept refl)
+told P new (Some k) a kept refused is = subst (Answers P) (sym is) (refused k refl)
+
 -- what is read with a draft and a table of names
 abbrev pub with_draft : List Text → PlacedDraft → Progress
 with_draft names d = record { names = names; draft = d }

@@ -2,6 +2,7 @@
 //! those before it, and the draft of an image that comes of it is made an image.
 #![tactic(auto)]
 
+mod doits;
 mod faults;
 mod image;
 mod read;

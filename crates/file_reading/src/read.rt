@@ -1,14 +1,13 @@
 // The loop over the chunks of a text.
 ghost use Rattle.std.specs.Prelude.{◌≡◌, IfOk, IfErr, Ok, Err};
 ghost use Rattle.token_model.specs.declared.kind.Dialect.TheVariants.{Second};
-ghost use Rattle.rb_base.specs.Names.{HasNoTwice, text_eq};
+ghost use Rattle.rb_base.specs.Names.{HasNoTwice};
 ghost use Rattle.chunk_format.specs.Chunks.{IsChunk, piece};
 ghost use Rattle.file_model.specs.Filing.{begun};
-ghost use Rattle.file_model.specs.Places.{placed};
 ghost use Rattle.file_model.specs.Reading.{Takes, ReadsText, IsImageOf, no_image};
 ghost use Rattle.file_faults.specs.Faults.{IsRefused};
 ghost use Rattle.st_kernel.specs.KernelText.{prelude_text};
-ghost use Rattle.file_reading.specs.Filed.{text_image, image_so_far, places_so_far, filed, IsSoundSoFar, IsSound};
+ghost use Rattle.file_reading.specs.Filed.{text_image, image_so_far, filed, IsSoundSoFar, IsSound};
 ghost use Rattle.file_reading.specs.Loop.{Tells, RefusesChunk};
 
 use crate::reading::{Progress, Reading, Stop};
@@ -16,9 +15,8 @@ use crate::take::take_chunk;
 use crate::words::names_differ;
 use chunk_format::{Chunk, chunks};
 use file_faults::{ImageFault, no_end, refused};
-use file_numbers::places_by_numbers;
 use placed_draft::PlacedDraft;
-use rb_base::{Memory, Names};
+use rb_base::Names;
 use st_kernel::prelude;
 use std::alloc::Global;
 
@@ -34,14 +32,13 @@ fn nothing(alloc: Global) -> Progress
 }
 
 /// Begins another text behind what was read.
-fn begin(reading: Progress) -> Progress
+fn begin(mut reading: Progress) -> Progress
     requires { IsSoundSoFar reading }
     ensures sound { IsSoundSoFar result }
     ensures filed { filed result ≡ begun (image_so_far reading) }
 {
-    let Progress { names, mut draft } = reading;
-    draft.begin_file();
-    Progress { names, draft }
+    reading.draft.begin_file();
+    reading
 }
 
 /// Takes a chunk, or tells its refusal with its number.
@@ -87,19 +84,6 @@ fn read_text(
     Ok(reading)
 }
 
-/// Puts methods and classes at the places that are stated for them and not settled yet. Nothing more is read then.
-fn finish(alloc: Global, reading: Progress) -> Result<Reading, Memory>
-    requires { IsSoundSoFar reading }
-    ensures sound { IfOk result IsSound }
-    ensures image { IfOk result (λ last. text_image last ≡ placed text_eq (places_so_far reading) (image_so_far reading)) }
-{
-    places_by_numbers();
-    let Progress { names, draft } = reading;
-    names_differ(&names);
-    let draft = draft.finish(alloc)?;
-    Ok(Reading { names, draft })
-}
-
 /// Reads a file-out of Smalltalk-80 (Krasner, "The Smalltalk-80 Code File Format", 1983) behind the text of the kernel, and
 /// gives the draft of its image with its names, or the first chunk that is refused.
 ///
@@ -116,7 +100,7 @@ pub fn read_draft(alloc: Global, text: &[u8]) -> Result<Reading, ImageFault>
         Err(_) => return Err(ImageFault::Memory),
     };
     let progress = read_text(alloc, false, text, kernel)?;
-    let reading = finish(alloc, progress)?;
+    let reading = progress.finish(alloc)?;
     names_differ(&reading.names);
     Ok(reading)
 }

@@ -1,5 +1,5 @@
 // Do-its that get another source.
-ghost use Rattle.std.specs.Prelude.{◌≡◌, ◌≤◌, ◌==◌, ◌||◌, not, nat_le, length, false, IfSome, IfNone, Some, None};
+ghost use Rattle.std.specs.Prelude.{◌≡◌, ◌≤◌, ◌==◌, ◌||◌, ◌-◌, not, nat_le, length, slice_set, false, IfSome, IfNone, Some, None, Ok};
 ghost use Rattle.std.specs.Option.{option_map_or};
 ghost use Rattle.rb_base.specs.Names.{name_at};
 ghost use Rattle.token_model.specs.declared.kind.Dialect.TheVariants.{Second};
@@ -10,18 +10,19 @@ ghost use Rattle.chunk_format.specs.Blank.{blank_len};
 ghost use Rattle.file_model.specs.Causes.{UnknownDefinition, first_cause};
 ghost use Rattle.file_model.specs.Forms as forms;
 ghost use Rattle.file_model.specs.Numerals as numerals;
-ghost use Rattle.file_model.specs.Filing.{ReplacementChunk, replacement_refusals, taken};
+ghost use Rattle.file_model.specs.Places.{opened_at};
+ghost use Rattle.file_model.specs.Filing.{ReplacementChunk, replacement_refusals, goes_on, taken};
 ghost use Rattle.chunk_forms.specs.Told.{replacement_text};
 ghost use Rattle.placed_draft.specs.Placed.{image_of};
-ghost use Rattle.file_reading.specs.Filed.{image_so_far, filed, IsSoundSoFar, IsNumberIn};
+ghost use Rattle.file_reading.specs.Filed.{image_so_far, places_so_far, filed, IsSoundSoFar, IsNumberIn, text_doit};
 ghost use Rattle.file_reading.specs.Answers.{Answers, Replaces};
 
+use crate::doits::doit_of;
 use crate::faults::stop_of;
 use crate::reading::{Progress, Stop};
 use chunk_forms::{ChunkForm, Replacement, chunk_form, place_in};
-use class_table::DoIt;
 use file_faults::ImageCause;
-use rb_base::{Names, Text};
+use rb_base::Names;
 use st_parser::parse_doit;
 use st_tree::Sequence;
 use std::alloc::Global;
@@ -74,6 +75,25 @@ fn replaced_number(
     Some(number)
 }
 
+/// Puts a do-it of this source and this tree in the place of the one that has a number, counted from 1.
+fn replace_at(
+    alloc: Global,
+    number: usize,
+    source: &[u8],
+    body: Sequence,
+    mut reading: Progress,
+) -> Result<Progress, Stop>
+    requires sound { IsSoundSoFar reading }
+    requires known { SequenceNames (IsNumberIn reading.names) (sequence_of body) }
+    requires first { 1 ≤ number }
+    requires within { number ≤ length (image_of reading.draft).doits }
+    ensures { Answers (λ r. r ≡ Ok (goes_on (opened_at None (places_so_far reading)) None (record (image_so_far reading) { doits = slice_set (image_so_far reading).doits (number - 1) (text_doit reading.names source.now body) }))) result }
+{
+    let doit = doit_of(alloc, source, body)?;
+    reading.draft.replace_doit(number, doit);
+    Ok(reading)
+}
+
 /// Replaces a do-it by one that spells this tree.
 fn put_replacement(
     alloc: Global,
@@ -88,12 +108,7 @@ fn put_replacement(
 {
     match replaced_number(kernel, replacement, &body, &reading) {
         None => Err(Stop::Refused(ImageCause::UnknownDefinition)),
-        Some(number) => {
-            let Progress { names, mut draft } = reading;
-            let source = Text::from_slice(alloc, replacement.source)?;
-            draft.replace_doit(number, DoIt { source, body });
-            Ok(Progress { names, draft })
-        }
+        Some(number) => replace_at(alloc, number, replacement.source, body, reading),
     }
 }
 
@@ -102,14 +117,13 @@ pub(crate) fn replace(
     alloc: Global,
     kernel: bool,
     replacement: &Replacement<'_>,
-    reading: Progress,
+    mut reading: Progress,
 ) -> Result<Progress, Stop>
     requires { IsSoundSoFar reading }
     ensures { Answers (Replaces kernel (filed reading) (replacement_text replacement.now)) result }
 {
-    let Progress { mut names, draft } = reading;
-    match parse_doit(alloc, replacement.source, &mut names) {
-        Ok(body) => put_replacement(alloc, kernel, replacement, body, Progress { names, draft }),
+    match parse_doit(alloc, replacement.source, &mut reading.names) {
+        Ok(body) => put_replacement(alloc, kernel, replacement, body, reading),
         Err(fault) => Err(stop_of(fault)),
     }
 }

@@ -234,32 +234,32 @@ pub(crate) fn said_in(
     ensures grows { Grows names.old names.new }
 {
     let form = chunk_form(body, kernel, names);
-    match &form {
+    match form {
         ChunkForm::Evaluates => Ok(Said::Evaluates),
-        ChunkForm::Defines(definition) => defines(alloc, definition, names),
-        ChunkForm::DefinesAt { definition, place } => defines_at(alloc, definition, *place, names),
-        ChunkForm::Comments { class, text } => comments(alloc, *class, text, names),
+        ChunkForm::Defines(definition) => defines(alloc, &definition, names),
+        ChunkForm::DefinesAt { definition, place } => defines_at(alloc, &definition, place, names),
+        ChunkForm::Comments { class, text } => comments(alloc, class, text, names),
         ChunkForm::SetsClassSide {
             class,
             names: variables,
-        } => sets_class_side(alloc, *class, variables, names),
+        } => sets_class_side(alloc, class, variables, names),
         ChunkForm::Opens {
             class,
             meta,
             protocol,
-        } => opens(alloc, *class, *meta, protocol, names),
+        } => opens(alloc, class, meta, protocol, names),
         ChunkForm::OpensAt {
             class,
             meta,
             protocol,
             place,
-        } => opens_at(alloc, *class, *meta, protocol, *place, names),
+        } => opens_at(alloc, class, meta, protocol, place, names),
         ChunkForm::Settles => Ok(Said::Settles),
         ChunkForm::RemovesMethod {
             class,
             meta,
             selector,
-        } => removes_method(*class, *meta, selector, names),
+        } => removes_method(class, meta, selector, names),
         ChunkForm::RemovesClass { name } => removes_class(name, names),
         ChunkForm::HasPools => Ok(Said::HasPools),
         ChunkForm::IsUnknown => Ok(Said::IsUnknown),

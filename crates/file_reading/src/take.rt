@@ -1,5 +1,6 @@
 // What chunks make of what was read so far.
-ghost use Rattle.std.specs.Prelude.{◌≡◌, ◌<◌, ℕ, length, IsSome, Some, None, Ok};
+ghost use Rattle.std.specs.Prelude.{◌≡◌, ◌<◌, ℕ, length, IsSome, Some, None, Ok, Err};
+ghost use Rattle.std.specs.Option.{option_map_or};
 ghost use Rattle.std.specs.Result.{result_map_both};
 ghost use Rattle.rb_base.specs.Names.{text_eq, name_at};
 ghost use Rattle.token_model.specs.declared.kind.Dialect.TheVariants.{Second};
@@ -21,7 +22,9 @@ ghost use Rattle.image_draft.specs.Drafted.{change_of};
 ghost use Rattle.file_reading.specs.Filed.{image_so_far, places_so_far, filed, run_in, IsSoundSoFar, IsNumberIn, text_doit};
 ghost use Rattle.file_reading.specs.Said.{said_text, SaidNames};
 ghost use Rattle.file_reading.specs.Answers.{Answers, TakesSource, change_taken};
+ghost use Rattle.file_reading.specs.declared.reading.Stop.TheVariants as stop;
 
+use crate::doits::doit_of;
 use crate::faults::stop_of;
 use crate::reading::{Progress, Stop};
 use crate::replace::replace;
@@ -29,7 +32,6 @@ use crate::said::{Said, said_in};
 use crate::words::names_differ;
 use chunk_format::{Chunk, source_in};
 use chunk_forms::replacement_in;
-use class_table::DoIt;
 use file_faults::ImageCause;
 use file_numbers::{changes_by_numbers, methods_by_numbers, places_by_numbers};
 use image_draft::{Change, Definition, Run};
@@ -38,20 +40,32 @@ use st_parser::{parse_doit, parse_method};
 use st_tree::{Method, Sequence};
 use std::alloc::Global;
 
+/// What was read, or the cause for which a chunk is refused.
+fn told(reading: Progress, refused: Option<ImageCause>) -> Result<Progress, Stop>
+    ensures { result ≡ option_map_or (λ cause. Err (stop.Refused cause)) refused (Ok reading) }
+{
+    match refused {
+        None => Ok(reading),
+        Some(cause) => Err(Stop::Refused(cause)),
+    }
+}
+
 /// Makes a change, which ends a run of methods.
-fn make(alloc: Global, kernel: bool, change: Change, reading: Progress) -> Result<Progress, Stop>
+fn make(
+    alloc: Global,
+    kernel: bool,
+    change: Change,
+    mut reading: Progress,
+) -> Result<Progress, Stop>
     requires sound { IsSoundSoFar reading }
     requires known { ChangeNames (IsNumberIn reading.names) (change_of change) }
     ensures { Answers (λ r. r ≡ change_taken kernel (filed reading) (map_change (name_at reading.names) (change_of change))) result }
 {
     changes_by_numbers();
     places_by_numbers();
-    let Progress { names, mut draft } = reading;
-    names_differ(&names);
-    match draft.change(alloc, kernel, change)? {
-        None => Ok(Progress { names, draft }),
-        Some(cause) => Err(Stop::Refused(cause)),
-    }
+    names_differ(&reading.names);
+    let refused = reading.draft.change(alloc, kernel, change)?;
+    told(reading, refused)
 }
 
 /// Defines a class and states a place for it, which ends a run of methods.
@@ -60,7 +74,7 @@ fn define_at(
     kernel: bool,
     definition: Definition,
     place: usize,
-    reading: Progress,
+    mut reading: Progress,
 ) -> Result<Progress, Stop>
     requires sound { IsSoundSoFar reading }
     requires known { ChangeNames (IsNumberIn reading.names) (DefineAt definition place) }
@@ -68,39 +82,32 @@ fn define_at(
 {
     changes_by_numbers();
     places_by_numbers();
-    let Progress { names, mut draft } = reading;
-    names_differ(&names);
-    match draft.define_at(alloc, kernel, definition, place)? {
-        None => Ok(Progress { names, draft }),
-        Some(cause) => Err(Stop::Refused(cause)),
-    }
+    names_differ(&reading.names);
+    let refused = reading.draft.define_at(alloc, kernel, definition, place)?;
+    told(reading, refused)
 }
 
 /// Begins a run of methods. A place may be stated for the first of them.
-fn open(run: Run, place: Option<usize>, reading: Progress) -> Result<Progress, Stop>
+fn open(run: Run, place: Option<usize>, mut reading: Progress) -> Result<Progress, Stop>
     requires sound { IsSoundSoFar reading }
     requires known { IsNumberIn reading.names run.class }
     ensures { Answers (λ r. r ≡ unless (run_refusals text_eq (image_so_far reading).classes (map_run (name_at reading.names) run)) (goes_on (opened_at place (places_so_far reading)) (Some (map_run (name_at reading.names) run)) (image_so_far reading))) result }
 {
     methods_by_numbers();
-    let Progress { names, mut draft } = reading;
-    names_differ(&names);
-    match draft.open(run, place) {
-        None => Ok(Progress { names, draft }),
-        Some(cause) => Err(Stop::Refused(cause)),
-    }
+    names_differ(&reading.names);
+    let refused = reading.draft.open(run, place);
+    told(reading, refused)
 }
 
 /// Puts methods and classes at the places that were stated for them.
-fn settle(alloc: Global, reading: Progress) -> Result<Progress, Stop>
+fn settle(alloc: Global, mut reading: Progress) -> Result<Progress, Stop>
     requires { IsSoundSoFar reading }
     ensures { Answers (λ r. r ≡ Ok (goes_on no_places None (placed text_eq (places_so_far reading) (image_so_far reading)))) result }
 {
     places_by_numbers();
-    let Progress { names, mut draft } = reading;
-    names_differ(&names);
-    draft.settle(alloc)?;
-    Ok(Progress { names, draft })
+    names_differ(&reading.names);
+    reading.draft.settle(alloc)?;
+    Ok(reading)
 }
 
 /// Puts a do-it at the end.
@@ -108,16 +115,15 @@ fn add_doit(
     alloc: Global,
     source: &[u8],
     body: Sequence,
-    reading: Progress,
+    mut reading: Progress,
 ) -> Result<Progress, Stop>
     requires sound { IsSoundSoFar reading }
     requires known { SequenceNames (IsNumberIn reading.names) (sequence_of body) }
     ensures { Answers (λ r. r ≡ Ok (with_doit (filed reading) (text_doit reading.names source.now body))) result }
 {
-    let Progress { names, mut draft } = reading;
-    let source = Text::from_slice(alloc, source)?;
-    draft.add_doit(DoIt { source, body })?;
-    Ok(Progress { names, draft })
+    let doit = doit_of(alloc, source, body)?;
+    reading.draft.add_doit(doit)?;
+    Ok(reading)
 }
 
 /// Makes what a chunk outside a run of methods says.
@@ -152,15 +158,14 @@ fn take_body(
     kernel: bool,
     source: &[u8],
     body: Sequence,
-    reading: Progress,
+    mut reading: Progress,
 ) -> Result<Progress, Stop>
     requires sound { IsSoundSoFar reading }
     requires known { SequenceNames (IsNumberIn reading.names) (sequence_of body) }
     ensures { Answers (λ r. r ≡ form_taken kernel (filed reading) (text_doit reading.names source.now body) (form_of Second kernel (map_sequence (name_at reading.names) (sequence_of body)))) result }
 {
-    let Progress { mut names, draft } = reading;
-    let said = said_in(alloc, kernel, &body, &mut names)?;
-    take_said(alloc, kernel, source, body, said, Progress { names, draft })
+    let said = said_in(alloc, kernel, &body, &mut reading.names)?;
+    take_said(alloc, kernel, source, body, said, reading)
 }
 
 /// Takes a chunk outside a run of methods whose source spells a do-it, by what it says or by the do-it that it replaces.
@@ -189,16 +194,15 @@ fn take_doit(
     alloc: Global,
     kernel: bool,
     source: &[u8],
-    reading: Progress,
+    mut reading: Progress,
 ) -> Result<Progress, Stop>
     requires sound { IsSoundSoFar reading }
     requires outside { run_in reading.draft ≡ None }
     requires some { 0 < length source.now }
     ensures { Answers (TakesSource kernel (filed reading) source.now) result }
 {
-    let Progress { mut names, draft } = reading;
-    match parse_doit(alloc, source, &mut names) {
-        Ok(body) => take_spelled(alloc, kernel, source, body, Progress { names, draft }),
+    match parse_doit(alloc, source, &mut reading.names) {
+        Ok(body) => take_spelled(alloc, kernel, source, body, reading),
         Err(fault) => Err(stop_of(fault)),
     }
 }
@@ -209,7 +213,7 @@ fn put_method(
     kernel: bool,
     source: &[u8],
     tree: Method,
-    reading: Progress,
+    mut reading: Progress,
 ) -> Result<Progress, Stop>
     requires sound { IsSoundSoFar reading }
     requires known { MethodNames (IsNumberIn reading.names) (method_of tree) }
@@ -217,13 +221,10 @@ fn put_method(
 {
     methods_by_numbers();
     places_by_numbers();
-    let Progress { names, mut draft } = reading;
-    names_differ(&names);
+    names_differ(&reading.names);
     let source = Text::from_slice(alloc, source)?;
-    match draft.add_method(alloc, kernel, source, tree)? {
-        None => Ok(Progress { names, draft }),
-        Some(cause) => Err(Stop::Refused(cause)),
-    }
+    let refused = reading.draft.add_method(alloc, kernel, source, tree)?;
+    told(reading, refused)
 }
 
 /// Takes a chunk of a run of methods, by its source.
@@ -231,29 +232,27 @@ fn take_method(
     alloc: Global,
     kernel: bool,
     source: &[u8],
-    reading: Progress,
+    mut reading: Progress,
 ) -> Result<Progress, Stop>
     requires sound { IsSoundSoFar reading }
     requires inside { IsSome (run_in reading.draft) }
     requires some { 0 < length source.now }
     ensures { Answers (TakesSource kernel (filed reading) source.now) result }
 {
-    let Progress { mut names, draft } = reading;
-    match parse_method(alloc, source, kernel, &mut names) {
-        Ok(tree) => put_method(alloc, kernel, source, tree, Progress { names, draft }),
+    match parse_method(alloc, source, kernel, &mut reading.names) {
+        Ok(tree) => put_method(alloc, kernel, source, tree, reading),
         Err(fault) => Err(stop_of(fault)),
     }
 }
 
 /// Takes a blank chunk, which ends a run of methods.
-fn take_blank(reading: Progress) -> Progress
+fn take_blank(mut reading: Progress) -> Progress
     requires { IsSoundSoFar reading }
     ensures sound { IsSoundSoFar result }
     ensures blank { filed result ≡ record (filed reading) { run = None } }
 {
-    let Progress { names, mut draft } = reading;
-    draft.end_run();
-    Progress { names, draft }
+    reading.draft.end_run();
+    reading
 }
 
 /// Takes a chunk by its source.

@@ -1,8 +1,11 @@
-use Rattle.std.proofs.Common.{Result, Ok, ap, ◌∙◌}
-use Rattle.st_tree.specs.View.{sequence_of}
+use Rattle.std.proofs.Common.{ℕ, Result, Ok, ap, sym, subst, ◌∙◌}
+use Rattle.rb_base.specs.Names.{name_at}
+use Rattle.image_model.specs.Image.{DoItOf, map_doit}
+use Rattle.image_model.specs.ImageNames.{DoItNames}
+use Rattle.class_table.specs.View.{doit_of}
 use Rattle.file_model.specs.Causes.{Cause}
-use Rattle.file_model.specs.Filing.{Text, Filing, with_doit}
-use Rattle.file_reading.specs.Filed.{filed, text_doit}
+use Rattle.file_model.specs.Filing.{Filing, with_doit}
+use Rattle.file_reading.specs.Filed.{filed, IsNumberIn}
 use Rattle.file_reading.proofs.Taking.{was_added}
 use Rattle.file_reading.proofs.take.add_doit.Goals as goal
 
@@ -10,7 +13,8 @@ pub returns : goal.returns
 returns c =
     let names = c.args.reading.names in
     let later = c.add_doit.new.self in
-    let added = was_added names c.args.reading.draft c.requires.sound (record { source = c.in_ok-source.source; body = sequence_of c.args.body }) later c.requires.known
+    let known = subst (DoItNames (IsNumberIn names)) (sym c.in_ok-doit.ensures) c.requires.known in
+    let added = was_added names c.args.reading.draft c.requires.sound (doit_of c.in_ok-doit.doit) later known
     c.in_ok-add_doit.ensures.image c.in_ok-add_doit.ensures.run c.in_ok-add_doit.ensures.head c.in_ok-add_doit.ensures.places c.in_ok-add_doit.ensures.whole in
-    let sourced : Text → Result Filing Cause = λ (s : Text). Ok (with_doit (filed c.args.reading) (text_doit names s c.args.body)) in
-    (added.0, added.1 ∙ ap sourced c.in_ok-source.ensures)
+    let made : DoItOf ℕ → Result Filing Cause = λ (d : DoItOf ℕ). Ok (with_doit (filed c.args.reading) (map_doit (name_at names) d)) in
+    (added.0, added.1 ∙ ap made c.in_ok-doit.ensures)

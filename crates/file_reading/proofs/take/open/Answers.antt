@@ -1,28 +1,36 @@
-use Rattle.std.proofs.Common.{map, Some}
+use Rattle.std.proofs.Common.{◌≡◌, false, map, Some, sym, ap, ◌∙◌}
+use Rattle.std.specs.Prelude.{is_some}
 use Rattle.rb_base.specs.Names.{text_eq, name_at}
 use Rattle.image_model.specs.Image.{map_class}
+use Rattle.file_model.specs.Causes.{unless}
 use Rattle.file_model.specs.Changes.{map_run}
 use Rattle.file_model.specs.Refusals.{run_refusals}
 use Rattle.file_model.specs.Places.{opened_at}
 use Rattle.file_model.specs.Filing.{goes_on}
-use Rattle.placed_draft.specs.Placed.{image_of}
-use Rattle.file_reading.specs.Filed.{image_so_far, places_so_far}
-use Rattle.file_reading.proofs.Taking.{was_opened, was_not_opened}
+use Rattle.image_draft.specs.Early as early
+use Rattle.placed_draft.specs.Placed.{image_of, places_of, IsWhole}
+use Rattle.file_reading.specs.Filed.{image_so_far, places_so_far, run_in, is_at_head}
+use Rattle.file_reading.proofs.Taking.{with_draft, at_none, told, was_opened, was_not_opened}
 use Rattle.file_reading.proofs.take.open.Goals as goal
 
-pub returns-in-None : goal.returns-in-None
-returns-in-None c =
+pub returns : goal.returns
+returns c =
     let names = c.args.reading.names in
     let old = c.args.reading.draft in
-    was_opened names old c.requires.sound c.args.run c.args.place c.open.new.self (run_refusals text_eq (map (map_class (name_at names)) (image_of old).classes) (map_run (name_at names) c.args.run)) c.requires.known
-    (c.methods_by_numbers.ensures.run names c.args.run (image_of old) c.names_differ.ensures c.requires.sound.image c.requires.known)
-    c.in-None.ensures.cause c.in-None.ensures.image c.in-None.ensures.run c.in-None.ensures.head c.in-None.ensures.places c.in-None.ensures.whole
-
-pub returns-in-Some : goal.returns-in-Some
-returns-in-Some c =
-    let names = c.args.reading.names in
-    let old = c.args.reading.draft in
-    was_not_opened names old c.requires.sound c.args.run (run_refusals text_eq (map (map_class (name_at names)) (image_of old).classes) (map_run (name_at names) c.args.run))
-    (goes_on (opened_at c.args.place (places_so_far c.args.reading)) (Some (map_run (name_at names) c.args.run)) (image_so_far c.args.reading)) c.in-Some.cause
-    (c.methods_by_numbers.ensures.run names c.args.run (image_of old) c.names_differ.ensures c.requires.sound.image c.requires.known)
-    c.in-Some.ensures.cause c.in-Some.ensures.some
+    let later = c.open-refused.new.self in
+    let run = c.args.run in
+    let refused = c.open-refused.result in
+    let conditions = run_refusals text_eq (map (map_class (name_at names)) (image_of old).classes) (map_run (name_at names) run) in
+    let last = goes_on (opened_at c.args.place (places_so_far c.args.reading)) (Some (map_run (name_at names) run)) (image_so_far c.args.reading) in
+    let same = c.methods_by_numbers.ensures.run names run (image_of old) c.names_differ.ensures c.requires.sound.image c.requires.known in
+    told (λ r. r ≡ unless conditions last) (with_draft names later) refused c.told.result
+    (λ none. was_opened names old c.requires.sound run c.args.place later conditions c.requires.known same
+    (sym (ap early.told none) ∙ c.open-refused.ensures.cause)
+    (at_none (image_of later ≡ image_of old) refused none c.open-refused.ensures.image)
+    (at_none (run_in later ≡ Some run) refused none c.open-refused.ensures.run)
+    (at_none (is_at_head later ≡ false) refused none c.open-refused.ensures.head)
+    (at_none (places_of later ≡ opened_at c.args.place (places_of old)) refused none c.open-refused.ensures.places)
+    (at_none (IsWhole later) refused none c.open-refused.ensures.whole))
+    (λ cause is. was_not_opened names old c.requires.sound run conditions last cause same
+    (sym (ap early.told is) ∙ c.open-refused.ensures.cause) (sym (ap is_some is) ∙ c.open-refused.ensures.some))
+    c.told.ensures
