@@ -59,7 +59,7 @@ const SCRIPTS: &[(&str, u8, &str)] = &[
     ("renameClass Account Ledger\n", 0, LEDGER),
     ("renameClass Account Ledger", 0, LEDGER),
     (
-        "renameClass Nobody Ledger\n",
+        "renameClass Nobody Ledger",
         1,
         "refused 1 C2 IsUserClass Nobody\n",
     ),
@@ -84,7 +84,7 @@ const SCRIPTS: &[(&str, u8, &str)] = &[
         "refused 1 C3 GoodName Smalltalk\n",
     ),
     (
-        "renameClass Account Account\n",
+        "renameClass Account Account",
         1,
         "refused 1 C4 NameUnused Account\n",
     ),
@@ -178,6 +178,27 @@ fn blank_script_is(
 fn a_script_has_a_limit(rt: HostRuntime) -> Result<(), Fail> {
     blank_script_is(&rt, rt.alloc(), 1048576, 11, b"unbuilt\n")?;
     blank_script_is(&rt, rt.alloc(), 1048577, 8, b"too large S\n")?;
+    Ok(())
+}
+
+/// Compares the answer to a file-out of so many blanks.
+fn blank_image_is(
+    rt: &impl Abort,
+    alloc: Global,
+    count: usize,
+    status: u8,
+    sent: &[u8],
+) -> Result<(), Memory> {
+    let mut image = Vec::new(alloc);
+    image.resize(count, b' ')?;
+    let mut shelf = files_of(alloc, image.as_slice(), b"renameClass A B")?;
+    answers(rt, alloc, &["apply", "I", "S"], &mut shelf, status, sent)
+}
+
+#[test]
+fn a_file_out_has_a_limit(rt: HostRuntime) -> Result<(), Fail> {
+    blank_image_is(&rt, rt.alloc(), 4194304, 11, b"unbuilt\n")?;
+    blank_image_is(&rt, rt.alloc(), 4194305, 8, b"too large I\n")?;
     Ok(())
 }
 
