@@ -1,9 +1,19 @@
 #!/bin/sh
 # Makes large file-outs in a folder of its own and times `format` of the built program on each (./build makes it). It is no test:
-# it prints, for each input, its bytes, the status, the seconds of processor time and the greatest memory in megabytes.
+# it prints the machine, and then, for each input, its bytes, the status, the seconds of processor time and the greatest memory
+# in megabytes.
 set -eu
 . "$(dirname "$0")/program.sh"
 most=4194304
+# With the twenty classes of the kernel these are as many as there may be.
+classes=9980
+
+awk -F ': *' '
+    /^model name/ { model = $2 }
+    /^processor/ { processors++ }
+    /^MemTotal/ { memory = $2 }
+    END { printf "%s, %d processors, %d MB of memory\n", model == "" ? "unknown processor" : model, processors, memory / 1024 }
+' /proc/cpuinfo /proc/meminfo
 
 # A class with methods of ordinary code, over and over, up to 4 MB.
 awk -v most="$most" 'BEGIN {
@@ -17,6 +27,8 @@ awk -v most="$most" 'BEGIN {
 }' > "$folder/ordinary.st"
 awk -v most="$most" 'BEGIN { for (n = 0; n < most; n++) printf " " }' > "$folder/blanks.st"
 awk -v most="$most" 'BEGIN { for (n = 0; n < most; n++) printf "!" }' > "$folder/marks.st"
+# Blank chunks, and nothing else.
+awk -v most="$most" 'BEGIN { for (n = 0; n < most; n += 2) printf "! " }' > "$folder/chunks.st"
 awk -v most="$most" 'BEGIN { printf "\""; for (n = 0; n < most - 6; n++) printf "c"; printf "\" 3!\n" }' > "$folder/comment.st"
 awk -v most="$most" 'BEGIN {
     printf "Object subclass: #A instanceVariableNames: '"''"' classVariableNames: '"''"' poolDictionaries: '"''"' category: '"''"'!\n!A methodsFor: '"''"'!\ngo\n"
@@ -28,31 +40,38 @@ awk 'BEGIN {
     for (n = 0; n < 100000; n++) printf "m%d ^%d!\n", n, n
     printf " !\n"
 }' > "$folder/methods.st"
+# As many methods of 42 bytes on the average, which fill 4 MB.
+awk 'BEGIN {
+    printf "Object subclass: #A instanceVariableNames: '"''"' classVariableNames: '"''"' poolDictionaries: '"''"' category: '"''"'!\n!A methodsFor: '"''"'!\n"
+    for (n = 0; n < 100000; n++) printf "m%d\n\t^self foo: %d bar: #(1 22 3)!\n\n", n, n
+    printf " !\n"
+}' > "$folder/tiny.st"
 # Classes that are defined twice. The first word is how they are defined for the first time, the second one how they are
-# defined again: in chains of 100, below Object, in pairs, as one chain in which each is below the one before it, or below the
-# one behind it, or pairs below the ones behind them; the third word is what is new the second time, or `one` where each class
-# that is not the lower one of a pair has a variable of one name at first, or `once` where each was a superclass before that.
+# defined again: in chains of 100 (the last one has those that are left), below Object, in pairs, as one chain in which each is
+# below the one before it, or below the one behind it, or pairs below the ones behind them; the third word is what is new the
+# second time, or `one` where each class that is not the lower one of a pair has a variable of one name at first, or `once`
+# where each was a superclass before that.
 classes() {
-    awk -v first="$1" -v second="$2" -v fresh="$3" '
+    awk -v first="$1" -v second="$2" -v fresh="$3" -v classes="$classes" '
     function above(shape, n) {
         if (shape == "chains") return n % 100 == 0 ? "Object" : "C" (n - 1)
         if (shape == "chain") return n == 0 ? "Object" : "C" (n - 1)
         if (shape == "pairs") return n % 2 == 0 ? "Object" : "C" (n - 1)
-        if (shape == "pairs-behind") return n == 9898 ? "Object" : "C" (n + 3)
-        if (shape == "behind") return n == 9899 ? "Object" : "C" (n + 1)
+        if (shape == "pairs-behind") return n == classes - 2 ? "Object" : "C" (n + 3)
+        if (shape == "behind") return n == classes - 1 ? "Object" : "C" (n + 1)
         return "Object"
     }
     function defines(shape, n, variable, more) {
         printf "%s subclass: #C%d instanceVariableNames: '"'%s'"' classVariableNames: '"''"' poolDictionaries: '"''"' category: '"''"'%s!\n", above(shape, n), n, variable, more
     }
     BEGIN {
-        if (fresh == "once") for (n = 0; n < 9900; n++) defines("chain", n, "", "")
-        for (n = 0; n < 9900; n++)
+        if (fresh == "once") for (n = 0; n < classes; n++) defines("chain", n, "", "")
+        for (n = 0; n < classes; n++)
             defines(first, n, fresh == "variable" || fresh == "variables" ? "v" n : fresh == "once" || fresh == "one" && (first != "pairs" || n % 2 == 0) ? "v" : "", "")
-        if (second == "behind") for (n = 9899; n >= 0; n--) defines(second, n, "", "")
-        else if (second == "pairs-behind") for (n = 9898; n >= 0; n -= 2) defines(second, n, "", "")
-        else if (second != "none") for (n = 0; n < 9900; n++)
-            defines(second, n, fresh == "variable" ? "w" n : "", fresh == "place" ? " at: " (9900 - n) : fresh == "mixed" && n % 2 ? " at: 1" : "")
+        if (second == "behind") for (n = classes - 1; n >= 0; n--) defines(second, n, "", "")
+        else if (second == "pairs-behind") for (n = classes - 2; n >= 0; n -= 2) defines(second, n, "", "")
+        else if (second != "none") for (n = 0; n < classes; n++)
+            defines(second, n, fresh == "variable" ? "w" n : "", fresh == "place" ? " at: " (classes - n) : fresh == "mixed" && n % 2 ? " at: 1" : "")
     }'
 }
 classes chains chains none > "$folder/same.st"
@@ -72,7 +91,7 @@ awk 'BEGIN {
     for (n = 80000; n > 0; n--) printf "!A methodsFor: '"''"' at: %d!m%d ^1! !\n", n, n
 }' > "$folder/places.st"
 
-for name in ordinary blanks marks comment method methods same lower variable deep deeper chain behind worst once pairs placed mixed places; do
+for name in ordinary blanks marks chunks comment method methods tiny same lower variable deep deeper chain behind worst once pairs placed mixed places; do
     file=$folder/$name.st
     status=0
     /usr/bin/env time -f '%U %S %M' -o "$folder/times" "$program" format "$file" > "$folder/out" || status=$?
