@@ -3,3 +3,4 @@ pub mod Doubling
 pub mod Outside
 pub mod OutputInMemory
 pub mod FilesInMemory
+pub mod Bytes

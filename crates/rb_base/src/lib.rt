@@ -6,6 +6,7 @@ mod memory_shelf;
 mod memory_sink;
 mod names;
 mod shelf;
+mod short;
 mod sink;
 mod steps;
 mod text;

@@ -1,7 +1,9 @@
 // Names by number, lists of them, texts and places in texts.
 ghost use Rattle.std.specs.Prelude.{◌≡◌, ◌∷◌, ◌++◌, [], length, IfOk, OnOk, OnErr, IsTrue, ◌↔◌};
+ghost use Rattle.rb_base.specs.Bytes.{bytes_of};
 
 use crate::memory::Memory;
+use crate::short::{ROOM, Short};
 use std::alloc::Global;
 use std::marker::Model;
 
@@ -47,10 +49,18 @@ pub struct Span {
     pub to: usize,
 }
 
-/// A text that owns its bytes. Contracts see the list of the bytes.
+/// A text that owns its bytes. Contracts see the list of the bytes. A text of at most 14 bytes takes no memory.
 #[derive(Drop)]
 pub struct Text {
-    bytes: Vec<u8>,
+    alloc: Global,
+    bytes: Bytes,
+}
+
+/// Where the bytes of a text stand: in the text itself, or in memory of their own. A text that became long stays long.
+#[derive(Drop)]
+enum Bytes {
+    Short(Short),
+    Long(Box<Vec<u8>>),
 }
 
 impl Model for Text {
@@ -58,48 +68,71 @@ impl Model for Text {
 
     ghost Value = { List ℕ };
 
-    ghost view = { λ a. a.bytes.items };
+    ghost use Rattle.rb_base.specs.Bytes.{bytes_of};
+
+    ghost view = { λ a. bytes_of a.bytes };
+}
+
+/// The first bytes and behind them the second ones, in the text itself where they fit.
+fn joined(alloc: Global, first: &[u8], second: &[u8]) -> Result<Bytes, Memory>
+    ensures { IfOk result (λ bytes. bytes_of bytes ≡ first.now ++ second.now) }
+{
+    if first.len() <= ROOM && second.len() <= ROOM - first.len() {
+        return Ok(Bytes::Short(Short::joined(first, second)));
+    }
+    let mut bytes = Vec::new(alloc);
+    bytes.reserve(first.len().saturating_add(second.len()))?;
+    bytes.extend_from_slice(first)?;
+    bytes.extend_from_slice(second)?;
+    Ok(Bytes::Long(Box::new(alloc, bytes)?))
 }
 
 impl Text {
     /// The empty text, which takes no memory.
+    #[inline]
     pub fn new(alloc: Global) -> Text
         ensures { result ≡ [] }
     {
         Text {
-            bytes: Vec::new(alloc),
+            alloc,
+            bytes: Bytes::Short(Short::empty()),
         }
     }
 
     /// A copy of the bytes.
+    #[inline]
     pub fn from_slice(alloc: Global, bytes: &[u8]) -> Result<Text, Memory>
         ensures { IfOk result (λ text. text ≡ bytes.now) }
     {
-        Ok(Text {
-            bytes: Vec::from_slice(alloc, bytes)?,
-        })
+        let bytes = if bytes.len() <= ROOM {
+            Bytes::Short(Short::of(bytes))
+        } else {
+            Bytes::Long(Box::new(alloc, Vec::from_slice(alloc, bytes)?)?)
+        };
+        Ok(Text { alloc, bytes })
     }
 
-    /// The text of these bytes, which are not copied.
-    pub fn from_vec(bytes: Vec<u8>) -> Text
-        ensures { result ≡ bytes.items }
+    /// The text of these bytes, which are copied only where there are at most 14.
+    pub fn from_vec(alloc: Global, bytes: Vec<u8>) -> Result<Text, Memory>
+        ensures { IfOk result (λ text. text ≡ bytes.items) }
     {
-        Text { bytes }
-    }
-
-    /// The bytes, which are not copied.
-    pub fn into_vec(self) -> Vec<u8>
-        ensures { result.items ≡ self }
-    {
-        let Text { bytes } = self;
-        bytes
+        let bytes = if bytes.len() <= ROOM {
+            Bytes::Short(Short::of(bytes.as_slice()))
+        } else {
+            Bytes::Long(Box::new(alloc, bytes)?)
+        };
+        Ok(Text { alloc, bytes })
     }
 
     /// The bytes.
+    #[inline]
     pub fn as_slice(&self) -> &[u8]
         ensures { result.now ≡ self.now }
     {
-        self.bytes.as_slice()
+        match &self.bytes {
+            Bytes::Short(bytes) => bytes.as_slice(),
+            Bytes::Long(bytes) => bytes.as_slice(),
+        }
     }
 
     /// Appends the bytes.
@@ -107,7 +140,13 @@ impl Text {
         ensures ok { OnOk result (self.new ≡ self.old ++ bytes.now) }
         ensures err { OnErr result (self.new ≡ self.old) }
     {
-        self.bytes.extend_from_slice(bytes)?;
+        match &mut self.bytes {
+            Bytes::Short(short) => {
+                let grown = joined(self.alloc, short.as_slice(), bytes)?;
+                self.bytes = grown;
+            }
+            Bytes::Long(long) => long.extend_from_slice(bytes)?,
+        }
         Ok(())
     }
 
@@ -122,7 +161,7 @@ impl Text {
     pub fn same(&self, other: &Text) -> bool
         ensures { IsTrue result ↔ (self.now ≡ other.now) }
     {
-        self.bytes == other.bytes
+        self.as_slice() == other.as_slice()
     }
 }
 
