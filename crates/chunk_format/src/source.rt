@@ -56,7 +56,7 @@ fn fill_room(room: &mut Text, alloc: Global, chunk: &Chunk<'_>) -> Result<(), Me
         return Ok(());
     }
     let source = halve_marks(alloc, without_blanks(chunk.body))?;
-    *room = Text::from_vec(source);
+    *room = Text::from_vec(alloc, source)?;
     Ok(())
 }
 
