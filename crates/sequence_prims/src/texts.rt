@@ -72,7 +72,7 @@ fn quoted(alloc: Global, bytes: &[u8]) -> Result<SharedText, Memory>
     text.push(b'\'')?;
     append_doubled(&mut text, bytes)?;
     text.push(b'\'')?;
-    SharedText::new(alloc, Text::from_vec(text))
+    SharedText::new(alloc, Text::from_vec(alloc, text)?)
 }
 
 /// `#` and the bytes of a symbol.

@@ -27,7 +27,7 @@ fn singled(alloc: Global, bytes: &[u8]) -> Result<Text, Memory>
         }
         odd = *byte == QUOTE && !odd;
     }
-    Ok(Text::from_vec(kept))
+    Text::from_vec(alloc, kept)
 }
 
 /// The bytes between the first and the last one.
