@@ -13,6 +13,7 @@ use file_reading::read_image;
 use image_file::write_image;
 use rb_base::{Memory, Shelf, Text};
 use std::alloc::Global;
+use std::mem::forget;
 
 /// The answer to the text.
 fn format_text(alloc: Global, text: &[u8], out: &mut Text) -> Result<Status, Memory>
@@ -24,6 +25,8 @@ fn format_text(alloc: Global, text: &[u8], out: &mut Text) -> Result<Status, Mem
             let mut image = image;
             format_image(alloc, &mut image)?;
             write_image(alloc, &image, out)?;
+            // The program ends behind this answer, so the image is not taken apart piece by piece.
+            forget(image);
             Ok(Status::Done)
         }
         Err(ImageFault::Refused { chunk, at, cause }) => {

@@ -37,7 +37,7 @@ pub struct Stacks {
 const NODES: usize = 16;
 
 impl Stacks {
-    /// No part waits. The statements get no room, since those at the end are kept with the tree.
+    /// No part waits. The statements get room for one, since those at the end are kept with the tree, and many a text has one.
     pub fn with_room(alloc: Global) -> Result<Stacks, Memory>
         ensures { IfOk result (λ stacks. held stacks ≡ nothing) }
     {
@@ -45,7 +45,7 @@ impl Stacks {
             nodes: Vec::with_capacity(alloc, NODES)?,
             literals: Vec::new(alloc),
             messages: Vec::new(alloc),
-            statements: Vec::new(alloc),
+            statements: Vec::with_capacity(alloc, 1)?,
             targets: Vec::new(alloc),
             scopes: Vec::new(alloc),
         })

@@ -110,18 +110,18 @@ module _ {names later : List Text} (g : Grows names later) where
 module _ (p : Progress) (later : List Text) (g : Grows p.names later) (sound : IsSoundSoFar p) where
   pub filed-grown : filed (record p { names = later }) ≡ filed p
   filed-grown = λ i. record {
-    image = image-grown g (image_of p.draft) sound.image i;
-    run = run-grown g (run_in p.draft) sound.run i;
-    at_head = is_at_head p.draft;
-    places = places-grown g (places_of p.draft) sound.places i;
+    image = image-grown g (image_of p.draft.value) sound.image i;
+    run = run-grown g (run_in p.draft.value) sound.run i;
+    at_head = is_at_head p.draft.value;
+    places = places-grown g (places_of p.draft.value) sound.places i;
   }
 
   pub IsSoundSoFar-grown : IsSoundSoFar (record p { names = later })
   IsSoundSoFar-grown = record {
     whole = sound.whole;
-    image = ImageNames-implies (IsNumberIn p.names) (IsNumberIn later) (number-grown g) (image_of p.draft) sound.image;
+    image = ImageNames-implies (IsNumberIn p.names) (IsNumberIn later) (number-grown g) (image_of p.draft.value) sound.image;
     run = λ run e. number-grown g run.class (sound.run run e);
-    places = place_numbers-grown g (places_of p.draft) sound.places;
+    places = place_numbers-grown g (places_of p.draft.value) sound.places;
   }
 
 -- a text that was put into a table

@@ -1,4 +1,5 @@
 -- What becomes of what was read where a chunk is taken.
+use Rattle.std.specs.Global.{Box}
 use Rattle.std.proofs.Common.{◌≡◌, ℕ, zero, suc, ◌+◌, Bool, true, false, List, [], ◌∷◌, ◌++◌, map, Option, Some, None, Result, Ok, Err, option_map, refl, sym, ap, subst, ◌∙◌, true≢false}
 use Rattle.std.specs.Prelude.{is_some, nat_eq, slice_set, IfNone, if◌then◌else◌}
 use Rattle.std.specs.List.{AllByRecursion}
@@ -39,7 +40,7 @@ told P new None a kept refused is = subst (Answers P) (sym is) (kept refl)
 told P new (Some k) a kept refused is = subst (Answers P) (sym is) (refused k refl)
 
 -- what is read with a draft and a table of names
-abbrev pub with_draft : List Text → PlacedDraft → Progress
+abbrev pub with_draft : List Text → Box PlacedDraft → Progress
 with_draft names d = record { names = names; draft = d }
 
 -- no run is none of a class
@@ -72,10 +73,10 @@ all-set P (y ∷ ys) (suc n) x all p = (all.0, all-set P ys n x all.1 p)
 
 module _ (names : List Text) where
   -- a change over numbers was made, and reading goes on in a run or outside
-  pub went_on : (n : Result (ImageOf ℕ) Cause) (t : Result (ImageOf Text) Cause) (run : Option (RunOf ℕ)) (places : PlacesOf ℕ) (stated : PlacesOf Text) (later : PlacedDraft)
+  pub went_on : (n : Result (ImageOf ℕ) Cause) (t : Result (ImageOf Text) Cause) (run : Option (RunOf ℕ)) (places : PlacesOf ℕ) (stated : PlacesOf Text) (later : Box PlacedDraft)
       → t ≡ result_map_both (map_image (name_at names)) (λ e. e) n → IfOk n (ImageNames (IsNumberIn names)) → ForSome run (λ r. IsNumberIn names r.class)
       → stated ≡ map_places (name_at names) places → PlacesNames (IsNumberIn names) places
-      → n ≡ Ok (image_of later) → run_in later ≡ run → is_at_head later ≡ false → places_of later ≡ places → IsWhole later
+      → n ≡ Ok (image_of later.value) → run_in later.value ≡ run → is_at_head later.value ≡ false → places_of later.value ≡ places → IsWhole later.value
       → Answers (λ r. r ≡ result_map_both (goes_on stated (option_map (map_run (name_at names)) run)) (λ e. e) t) (Ok (with_draft names later))
   went_on n t run places stated later same known there same_places known_places made runs head left whole = (sound, ap Ok first ∙ second ∙ third)
     where
@@ -90,15 +91,15 @@ module _ (names : List Text) where
         places = subst (PlacesNames (IsNumberIn names)) (sym left) known_places;
       }
 
-      first : filed (with_draft names later) ≡ goes_on stated (option_map (map_run f) run) (map_image f (image_of later))
+      first : filed (with_draft names later) ≡ goes_on stated (option_map (map_run f) run) (map_image f (image_of later.value))
       first = λ i. record {
-        image = map_image f (image_of later);
+        image = map_image f (image_of later.value);
         run = option_map (map_run f) (runs i);
         at_head = head i;
         places = (ap (map_places f) left ∙ sym same_places) i;
       }
 
-      second : ◌≡◌ {A = Result Filing Cause} (Ok (goes_on stated (option_map (map_run f) run) (map_image f (image_of later))))
+      second : ◌≡◌ {A = Result Filing Cause} (Ok (goes_on stated (option_map (map_run f) run) (map_image f (image_of later.value))))
           (result_map_both (goes_on stated (option_map (map_run f) run)) (λ (e : Cause). e) (result_map_both (map_image f) (λ (e : Cause). e) n))
       second = ap (λ (o : Result (ImageOf ℕ) Cause). result_map_both (goes_on stated (option_map (map_run f) run)) (λ (e : Cause). e) (result_map_both (map_image f) (λ (e : Cause). e) o)) (sym made)
 
@@ -117,38 +118,38 @@ module _ (names : List Text) where
         ∙ ap (result_map_both (goes_on stated run) (λ (e : Cause). e)) (sym same),
   )
 
-  module _ (old : PlacedDraft) (sound : IsSoundSoFar (with_draft names old)) where
+  module _ (old : Box PlacedDraft) (sound : IsSoundSoFar (with_draft names old)) where
     -- classes or methods were changed, and places are stated or forgotten with them
-    pub was_changed : (kernel : Bool) (change : ChangeOf ℕ) (cause : Option ImageCause) (later : PlacedDraft)
-        → changed text_eq kernel (map_change (name_at names) change) (image_so_far (with_draft names old)) ≡ result_map_both (map_image (name_at names)) (λ e. e) (changed nat_eq kernel change (image_of old))
-        → IfOk (changed nat_eq kernel change (image_of old)) (ImageNames (IsNumberIn names))
-        → places_after text_eq (map_change (name_at names) change) (places_so_far (with_draft names old)) ≡ map_places (name_at names) (places_after nat_eq change (places_of old))
-        → PlacesNames (IsNumberIn names) (places_after nat_eq change (places_of old))
-        → cause ≡ None → Makes cause (changed nat_eq kernel change (image_of old)) (image_of later)
-        → IfNone cause (run_in later ≡ None) → IfNone cause (is_at_head later ≡ false) → IfNone cause (places_of later ≡ places_after nat_eq change (places_of old)) → IfNone cause (IsWhole later)
+    pub was_changed : (kernel : Bool) (change : ChangeOf ℕ) (cause : Option ImageCause) (later : Box PlacedDraft)
+        → changed text_eq kernel (map_change (name_at names) change) (image_so_far (with_draft names old)) ≡ result_map_both (map_image (name_at names)) (λ e. e) (changed nat_eq kernel change (image_of old.value))
+        → IfOk (changed nat_eq kernel change (image_of old.value)) (ImageNames (IsNumberIn names))
+        → places_after text_eq (map_change (name_at names) change) (places_so_far (with_draft names old)) ≡ map_places (name_at names) (places_after nat_eq change (places_of old.value))
+        → PlacesNames (IsNumberIn names) (places_after nat_eq change (places_of old.value))
+        → cause ≡ None → Makes cause (changed nat_eq kernel change (image_of old.value)) (image_of later.value)
+        → IfNone cause (run_in later.value ≡ None) → IfNone cause (is_at_head later.value ≡ false) → IfNone cause (places_of later.value ≡ places_after nat_eq change (places_of old.value)) → IfNone cause (IsWhole later.value)
         → Answers (λ r. r ≡ change_taken kernel (filed (with_draft names old)) (map_change (name_at names) change)) (Ok (with_draft names later))
     was_changed kernel change cause later same known same_places known_places none made runs head left whole =
-        went_on (changed nat_eq kernel change (image_of old)) (changed text_eq kernel (map_change (name_at names) change) (image_so_far (with_draft names old))) None (places_after nat_eq change (places_of old)) (places_after text_eq (map_change (name_at names) change) (places_so_far (with_draft names old))) later
+        went_on (changed nat_eq kernel change (image_of old.value)) (changed text_eq kernel (map_change (name_at names) change) (image_so_far (with_draft names old))) None (places_after nat_eq change (places_of old.value)) (places_after text_eq (map_change (name_at names) change) (places_so_far (with_draft names old))) later
         same known (no_run (λ (r : RunOf ℕ). IsNumberIn names r.class)) same_places known_places
-        (subst (λ (o : Option ImageCause). Makes o (changed nat_eq kernel change (image_of old)) (image_of later)) none made)
-        (at_none (run_in later ≡ None) cause none runs)
-        (at_none (is_at_head later ≡ false) cause none head)
-        (at_none (places_of later ≡ places_after nat_eq change (places_of old)) cause none left)
-        (at_none (IsWhole later) cause none whole)
+        (subst (λ (o : Option ImageCause). Makes o (changed nat_eq kernel change (image_of old.value)) (image_of later.value)) none made)
+        (at_none (run_in later.value ≡ None) cause none runs)
+        (at_none (is_at_head later.value ≡ false) cause none head)
+        (at_none (places_of later.value ≡ places_after nat_eq change (places_of old.value)) cause none left)
+        (at_none (IsWhole later.value) cause none whole)
 
     -- they were not
-    pub was_not_changed : (kernel : Bool) (change : ChangeOf ℕ) (o : Option ImageCause) (cause : ImageCause) (later : PlacedDraft)
-        → changed text_eq kernel (map_change (name_at names) change) (image_so_far (with_draft names old)) ≡ result_map_both (map_image (name_at names)) (λ e. e) (changed nat_eq kernel change (image_of old))
-        → o ≡ Some cause → Makes o (changed nat_eq kernel change (image_of old)) (image_of later)
+    pub was_not_changed : (kernel : Bool) (change : ChangeOf ℕ) (o : Option ImageCause) (cause : ImageCause) (later : Box PlacedDraft)
+        → changed text_eq kernel (map_change (name_at names) change) (image_so_far (with_draft names old)) ≡ result_map_both (map_image (name_at names)) (λ e. e) (changed nat_eq kernel change (image_of old.value))
+        → o ≡ Some cause → Makes o (changed nat_eq kernel change (image_of old.value)) (image_of later.value)
         → Answers (λ r. r ≡ change_taken kernel (filed (with_draft names old)) (map_change (name_at names) change)) (Err (stop.Refused cause))
     was_not_changed kernel change o cause later same is made =
-        was_refused (changed nat_eq kernel change (image_of old)) (changed text_eq kernel (map_change (name_at names) change) (image_so_far (with_draft names old))) None (places_after text_eq (map_change (name_at names) change) (places_so_far (with_draft names old))) cause (image_of later)
-        same (subst (λ (x : Option ImageCause). Makes x (changed nat_eq kernel change (image_of old)) (image_of later)) is made)
+        was_refused (changed nat_eq kernel change (image_of old.value)) (changed text_eq kernel (map_change (name_at names) change) (image_so_far (with_draft names old))) None (places_after text_eq (map_change (name_at names) change) (places_so_far (with_draft names old))) cause (image_of later.value)
+        same (subst (λ (x : Option ImageCause). Makes x (changed nat_eq kernel change (image_of old.value)) (image_of later.value)) is made)
 
     -- a run of methods was begun
-    pub was_opened : (run : RunOf ℕ) (place : Option ℕ) (later : PlacedDraft) (conditions : List Condition) → IsNumberIn names run.class
-        → conditions ≡ run_refusals nat_eq (image_of old).classes run → None ≡ first_cause (run_refusals nat_eq (image_of old).classes run)
-        → image_of later ≡ image_of old → run_in later ≡ Some run → is_at_head later ≡ false → places_of later ≡ opened_at place (places_of old) → IsWhole later
+    pub was_opened : (run : RunOf ℕ) (place : Option ℕ) (later : Box PlacedDraft) (conditions : List Condition) → IsNumberIn names run.class
+        → conditions ≡ run_refusals nat_eq (image_of old.value).classes run → None ≡ first_cause (run_refusals nat_eq (image_of old.value).classes run)
+        → image_of later.value ≡ image_of old.value → run_in later.value ≡ Some run → is_at_head later.value ≡ false → places_of later.value ≡ opened_at place (places_of old.value) → IsWhole later.value
         → Answers (λ r. r ≡ unless conditions (goes_on (opened_at place (places_so_far (with_draft names old))) (Some (map_run (name_at names) run)) (image_so_far (with_draft names old)))) (Ok (with_draft names later))
     was_opened run place later conditions known same none image runs head left whole = (opened, result)
       where
@@ -178,7 +179,7 @@ module _ (names : List Text) where
         result = ap Ok is_last ∙ ap (λ (o : Option Cause). option_map_or Err o (Ok last)) (none ∙ sym (ap first_cause same))
 
     -- another text begins
-    pub was_begun : (later : PlacedDraft) → image_of later ≡ image_of old → run_in later ≡ None → is_at_head later ≡ true → places_of later ≡ no_places → IsWhole later
+    pub was_begun : (later : Box PlacedDraft) → image_of later.value ≡ image_of old.value → run_in later.value ≡ None → is_at_head later.value ≡ true → places_of later.value ≡ no_places → IsWhole later.value
         → IsSoundSoFar (with_draft names later) × (filed (with_draft names later) ≡ begun (image_so_far (with_draft names old)))
     was_begun later image runs head left whole = (
       record {
@@ -196,7 +197,7 @@ module _ (names : List Text) where
     )
 
     -- a run of methods ends
-    pub was_ended : (later : PlacedDraft) → image_of later ≡ image_of old → run_in later ≡ None → is_at_head later ≡ is_at_head old → places_of later ≡ places_of old → IsWhole later
+    pub was_ended : (later : Box PlacedDraft) → image_of later.value ≡ image_of old.value → run_in later.value ≡ None → is_at_head later.value ≡ is_at_head old.value → places_of later.value ≡ places_of old.value → IsWhole later.value
         → IsSoundSoFar (with_draft names later) × (filed (with_draft names later) ≡ record (filed (with_draft names old)) { run = None })
     was_ended later image runs head left whole = (
       record {
@@ -214,18 +215,18 @@ module _ (names : List Text) where
     )
 
     -- a run of methods is refused
-    pub was_not_opened : (run : RunOf ℕ) (conditions : List Condition) (f : Filing) (cause : ImageCause) → conditions ≡ run_refusals nat_eq (image_of old).classes run
-        → cause_of cause ≡ first_cause (run_refusals nat_eq (image_of old).classes run) → true ≡ is_some (first_cause (run_refusals nat_eq (image_of old).classes run))
+    pub was_not_opened : (run : RunOf ℕ) (conditions : List Condition) (f : Filing) (cause : ImageCause) → conditions ≡ run_refusals nat_eq (image_of old.value).classes run
+        → cause_of cause ≡ first_cause (run_refusals nat_eq (image_of old.value).classes run) → true ≡ is_some (first_cause (run_refusals nat_eq (image_of old.value).classes run))
         → Answers (λ r. r ≡ unless conditions f) (Err (stop.Refused cause))
-    was_not_opened run conditions f cause same tells some = by (first_cause (run_refusals nat_eq (image_of old).classes run)) refl
+    was_not_opened run conditions f cause same tells some = by (first_cause (run_refusals nat_eq (image_of old.value).classes run)) refl
       where
-        by : (o : Option Cause) → first_cause (run_refusals nat_eq (image_of old).classes run) ≡ o → Answers (λ r. r ≡ unless conditions f) (Err (stop.Refused cause))
+        by : (o : Option Cause) → first_cause (run_refusals nat_eq (image_of old.value).classes run) ≡ o → Answers (λ r. r ≡ unless conditions f) (Err (stop.Refused cause))
         by None e = absurd (true≢false (some ∙ ap is_some e))
         by (Some k) e = (k, tells ∙ e, ap (λ (o : Option Cause). option_map_or Err o (Ok f)) (sym e ∙ sym (ap first_cause same)))
 
     -- methods and classes were put at their places
-    pub was_settled : (later : PlacedDraft) (made : ImageOf Text) → made ≡ map_image (name_at names) (placed nat_eq (places_of old) (image_of old)) → ImageNames (IsNumberIn names) (placed nat_eq (places_of old) (image_of old))
-        → image_of later ≡ placed nat_eq (places_of old) (image_of old) → run_in later ≡ None → is_at_head later ≡ false → places_of later ≡ no_places → IsWhole later
+    pub was_settled : (later : Box PlacedDraft) (made : ImageOf Text) → made ≡ map_image (name_at names) (placed nat_eq (places_of old.value) (image_of old.value)) → ImageNames (IsNumberIn names) (placed nat_eq (places_of old.value) (image_of old.value))
+        → image_of later.value ≡ placed nat_eq (places_of old.value) (image_of old.value) → run_in later.value ≡ None → is_at_head later.value ≡ false → places_of later.value ≡ no_places → IsWhole later.value
         → Answers (λ r. r ≡ Ok (goes_on no_places None made)) (Ok (with_draft names later))
     was_settled later made same known image runs head left whole = (settled, ap Ok result)
       where
@@ -249,9 +250,9 @@ module _ (names : List Text) where
         }
 
     -- a do-it was put at the end
-    pub was_added : (d : DoItOf ℕ) (later : PlacedDraft) → DoItNames (IsNumberIn names) d
-        → image_of later ≡ record (plus (image_of old) d) { heads = if is_at_head old then (image_of old).heads + 1 else (image_of old).heads }
-        → run_in later ≡ run_in old → is_at_head later ≡ is_at_head old → places_of later ≡ places_of old → IsWhole later
+    pub was_added : (d : DoItOf ℕ) (later : Box PlacedDraft) → DoItNames (IsNumberIn names) d
+        → image_of later.value ≡ record (plus (image_of old.value) d) { heads = if is_at_head old.value then (image_of old.value).heads + 1 else (image_of old.value).heads }
+        → run_in later.value ≡ run_in old.value → is_at_head later.value ≡ is_at_head old.value → places_of later.value ≡ places_of old.value → IsWhole later.value
         → Answers (λ r. r ≡ Ok (with_doit (filed (with_draft names old)) (map_doit (name_at names) d))) (Ok (with_draft names later))
     was_added d later known image runs head left whole = (added, ap Ok result)
       where
@@ -264,25 +265,25 @@ module _ (names : List Text) where
           image = subst (ImageNames (IsNumberIn names)) (sym image) (record {
             classes = sound.image.classes;
             methods = sound.image.methods;
-            doits = all-last (DoItNames (IsNumberIn names)) (image_of old).doits d sound.image.doits known;
+            doits = all-last (DoItNames (IsNumberIn names)) (image_of old.value).doits d sound.image.doits known;
           });
           run = λ r e. sound.run r (sym runs ∙ e);
           places = subst (PlacesNames (IsNumberIn names)) (sym left) sound.places;
         }
 
-        named : image_so_far (with_draft names later) ≡ record (plus (image_so_far (with_draft names old)) (map_doit f d)) { heads = if is_at_head old then (image_of old).heads + 1 else (image_of old).heads }
+        named : image_so_far (with_draft names later) ≡ record (plus (image_so_far (with_draft names old)) (map_doit f d)) { heads = if is_at_head old.value then (image_of old.value).heads + 1 else (image_of old.value).heads }
         named = ap (map_image f) image ∙ (λ i. record (image_so_far (with_draft names old)) {
-          doits = map-last (map_doit f) (image_of old).doits d i;
-          heads = if is_at_head old then (image_of old).heads + 1 else (image_of old).heads;
+          doits = map-last (map_doit f) (image_of old.value).doits d i;
+          heads = if is_at_head old.value then (image_of old.value).heads + 1 else (image_of old.value).heads;
         })
 
         result : filed (with_draft names later) ≡ with_doit (filed (with_draft names old)) (map_doit f d)
         result = λ i. record { image = named i; run = option_map (map_run f) (runs i); at_head = head i; places = map_places f (left i) }
 
     -- a do-it was put in the place of another
-    pub was_replaced : (n : ℕ) (d : DoItOf ℕ) (later : PlacedDraft) → DoItNames (IsNumberIn names) d
-        → image_of later ≡ record (image_of old) { doits = slice_set (image_of old).doits n d }
-        → run_in later ≡ None → is_at_head later ≡ false → places_of later ≡ opened_at None (places_of old) → IsWhole later
+    pub was_replaced : (n : ℕ) (d : DoItOf ℕ) (later : Box PlacedDraft) → DoItNames (IsNumberIn names) d
+        → image_of later.value ≡ record (image_of old.value) { doits = slice_set (image_of old.value).doits n d }
+        → run_in later.value ≡ None → is_at_head later.value ≡ false → places_of later.value ≡ opened_at None (places_of old.value) → IsWhole later.value
         → IsSoundSoFar (with_draft names later)
         × (filed (with_draft names later) ≡ goes_on (opened_at None (places_so_far (with_draft names old))) None (record (image_so_far (with_draft names old)) { doits = slice_set (image_so_far (with_draft names old)).doits n (map_doit (name_at names) d) }))
     was_replaced n d later known image runs head left whole = (replaced, result)
@@ -296,14 +297,14 @@ module _ (names : List Text) where
           image = subst (ImageNames (IsNumberIn names)) (sym image) (record {
             classes = sound.image.classes;
             methods = sound.image.methods;
-            doits = all-set (DoItNames (IsNumberIn names)) (image_of old).doits n d sound.image.doits known;
+            doits = all-set (DoItNames (IsNumberIn names)) (image_of old.value).doits n d sound.image.doits known;
           });
           run = subst (λ (o : Option (RunOf ℕ)). ForSome o (λ r. IsNumberIn names r.class)) (sym runs) (no_run (λ (r : RunOf ℕ). IsNumberIn names r.class));
           places = subst (PlacesNames (IsNumberIn names)) (sym left) (record { classes = sound.places.classes; methods = sound.places.methods });
         }
 
         named : image_so_far (with_draft names later) ≡ record (image_so_far (with_draft names old)) { doits = slice_set (image_so_far (with_draft names old)).doits n (map_doit f d) }
-        named = ap (map_image f) image ∙ (λ i. record (image_so_far (with_draft names old)) { doits = map-set (map_doit f) (image_of old).doits n d i })
+        named = ap (map_image f) image ∙ (λ i. record (image_so_far (with_draft names old)) { doits = map-set (map_doit f) (image_of old.value).doits n d i })
 
         result : filed (with_draft names later) ≡ goes_on (opened_at None (places_so_far (with_draft names old))) None (record (image_so_far (with_draft names old)) { doits = slice_set (image_so_far (with_draft names old)).doits n (map_doit f d) })
         result = λ i. record { image = named i; run = option_map (map_run f) (runs i); at_head = head i; places = map_places f (left i) }

@@ -27,18 +27,18 @@ is_at_head d = d.draft.at_head
 
 -- the image so far, over the texts of names
 abbrev pub image_so_far : Progress → ImageOf Text
-image_so_far p = map_image (name_at p.names) (image_of p.draft)
+image_so_far p = map_image (name_at p.names) (image_of p.draft.value)
 
 -- the places that were stated so far, over the texts of names
 abbrev pub places_so_far : Progress → PlacesOf Text
-places_so_far p = map_places (name_at p.names) (places_of p.draft)
+places_so_far p = map_places (name_at p.names) (places_of p.draft.value)
 
 -- how far the file-out was read, over the texts of names
 abbrev pub filed : Progress → Filing
 filed p = record {
   image = image_so_far p;
-  run = option_map (map_run (name_at p.names)) (run_in p.draft);
-  at_head = is_at_head p.draft;
+  run = option_map (map_run (name_at p.names)) (run_in p.draft.value);
+  at_head = is_at_head p.draft.value;
   places = places_so_far p;
 }
 
@@ -56,10 +56,10 @@ IsNumberIn names n = n < length names
 
 -- the draft with stated places is whole, and each number in it has a text
 pub record IsSoundSoFar (p : Progress) : Type 0 where
-  pub whole : IsWhole p.draft
-  pub image : ImageNames (IsNumberIn p.names) (image_of p.draft)
-  pub run : ForSome (run_in p.draft) (λ run. IsNumberIn p.names run.class)
-  pub places : PlacesNames (IsNumberIn p.names) (places_of p.draft)
+  pub whole : IsWhole p.draft.value
+  pub image : ImageNames (IsNumberIn p.names) (image_of p.draft.value)
+  pub run : ForSome (run_in p.draft.value) (λ run. IsNumberIn p.names run.class)
+  pub places : PlacesNames (IsNumberIn p.names) (places_of p.draft.value)
 
 -- the draft is whole, and each number in it has a text
 pub record IsSound (r : Reading) : Type 0 where

@@ -16,19 +16,19 @@ use crate::words::names_differ;
 use chunk_format::{Chunk, chunks};
 use file_faults::{ImageFault, no_end, refused};
 use placed_draft::PlacedDraft;
-use rb_base::Names;
+use rb_base::{Memory, Names};
 use st_kernel::prelude;
 use std::alloc::Global;
 
 /// Nothing is read yet.
-fn nothing(alloc: Global) -> Progress
-    ensures image { image_so_far result ≡ no_image }
-    ensures sound { IsSoundSoFar result }
+fn nothing(alloc: Global) -> Result<Progress, Memory>
+    ensures image { IfOk result (λ reading. image_so_far reading ≡ no_image) }
+    ensures sound { IfOk result IsSoundSoFar }
 {
-    Progress {
+    Ok(Progress {
         names: Names::new(alloc),
-        draft: PlacedDraft::new(alloc),
-    }
+        draft: Box::new(alloc, PlacedDraft::new(alloc))?,
+    })
 }
 
 /// Begins another text behind what was read.
@@ -95,7 +95,8 @@ pub fn read_draft(alloc: Global, text: &[u8]) -> Result<Reading, ImageFault>
     ensures image { IfOk result (λ reading. IsImageOf Second prelude_text text.now (text_image reading)) }
     ensures refused { IfErr result (IsRefused prelude_text text.now) }
 {
-    let kernel = match read_text(alloc, true, prelude(), nothing(alloc)) {
+    let start = nothing(alloc)?;
+    let kernel = match read_text(alloc, true, prelude(), start) {
         Ok(kernel) => kernel,
         Err(_) => return Err(ImageFault::Memory),
     };

@@ -23,7 +23,7 @@ pub struct Reading {
 /// How far a file-out was read, and the names to which its numbers belong.
 pub(crate) struct Progress {
     pub(crate) names: Names,
-    pub(crate) draft: PlacedDraft,
+    pub(crate) draft: Box<PlacedDraft>,
 }
 
 /// It is written out and not derived: a function that gives up what was read calls this one, and goes over no field of the
@@ -44,7 +44,7 @@ impl Progress {
         places_by_numbers();
         let Progress { names, draft } = self;
         names_differ(&names);
-        let draft = draft.finish(alloc)?;
+        let draft = Box::into_inner(draft).finish(alloc)?;
         Ok(Reading { names, draft })
     }
 }

@@ -63,7 +63,7 @@ fn replaced_number(
     reading: &Progress,
 ) -> Option<usize>
     ensures positive { IfSome result (λ k. 1 ≤ k) }
-    ensures there { IfSome result (λ k. k ≤ length (image_of reading.now.draft).doits) }
+    ensures there { IfSome result (λ k. k ≤ length (image_of reading.now.draft.value).doits) }
     ensures stated { IfSome result (λ k. numerals.place_in replacement.now.numeral.now ≡ Some k) }
     ensures accepted { IfSome result (λ k. first_cause (replacement_refusals Second kernel (image_so_far reading.now) (replacement_text replacement.now) (map_sequence (name_at reading.now.names) (sequence_of body.now))) ≡ None) }
     ensures refused { IfNone result (first_cause (replacement_refusals Second kernel (image_so_far reading.now) (replacement_text replacement.now) (map_sequence (name_at reading.now.names) (sequence_of body.now))) ≡ Some UnknownDefinition) }
@@ -86,7 +86,7 @@ fn replace_at(
     requires sound { IsSoundSoFar reading }
     requires known { SequenceNames (IsNumberIn reading.names) (sequence_of body) }
     requires first { 1 ≤ number }
-    requires within { number ≤ length (image_of reading.draft).doits }
+    requires within { number ≤ length (image_of reading.draft.value).doits }
     ensures { Answers (λ r. r ≡ Ok (goes_on (opened_at None (places_so_far reading)) None (record (image_so_far reading) { doits = slice_set (image_so_far reading).doits (number - 1) (text_doit reading.names source.now body) }))) result }
 {
     let doit = doit_of(alloc, source, body)?;

@@ -177,7 +177,7 @@ fn take_spelled(
     reading: Progress,
 ) -> Result<Progress, Stop>
     requires sound { IsSoundSoFar reading }
-    requires outside { run_in reading.draft ≡ None }
+    requires outside { run_in reading.draft.value ≡ None }
     requires some { 0 < length source.now }
     requires known { SequenceNames (IsNumberIn reading.names) (sequence_of body) }
     requires spelled { SpellsDoIt Second source.now (map_sequence (name_at reading.names) (sequence_of body)) }
@@ -197,7 +197,7 @@ fn take_doit(
     mut reading: Progress,
 ) -> Result<Progress, Stop>
     requires sound { IsSoundSoFar reading }
-    requires outside { run_in reading.draft ≡ None }
+    requires outside { run_in reading.draft.value ≡ None }
     requires some { 0 < length source.now }
     ensures { Answers (TakesSource kernel (filed reading) source.now) result }
 {
@@ -217,7 +217,7 @@ fn put_method(
 ) -> Result<Progress, Stop>
     requires sound { IsSoundSoFar reading }
     requires known { MethodNames (IsNumberIn reading.names) (method_of tree) }
-    ensures { (run : RunOf ℕ) → run_in reading.draft ≡ Some run → Answers (λ r. r ≡ result_map_both (goes_on (places_behind (name_at reading.names run.class) run.meta (name_at reading.names (method_of tree).selector) (places_so_far reading)) (Some (map_run (name_at reading.names) run))) (λ e. e) (method_added text_eq kernel (map_run (name_at reading.names) run) source.now (map_method (name_at reading.names) (method_of tree)) (image_so_far reading))) result }
+    ensures { (run : RunOf ℕ) → run_in reading.draft.value ≡ Some run → Answers (λ r. r ≡ result_map_both (goes_on (places_behind (name_at reading.names run.class) run.meta (name_at reading.names (method_of tree).selector) (places_so_far reading)) (Some (map_run (name_at reading.names) run))) (λ e. e) (method_added text_eq kernel (map_run (name_at reading.names) run) source.now (map_method (name_at reading.names) (method_of tree)) (image_so_far reading))) result }
 {
     methods_by_numbers();
     places_by_numbers();
@@ -235,7 +235,7 @@ fn take_method(
     mut reading: Progress,
 ) -> Result<Progress, Stop>
     requires sound { IsSoundSoFar reading }
-    requires inside { IsSome (run_in reading.draft) }
+    requires inside { IsSome (run_in reading.draft.value) }
     requires some { 0 < length source.now }
     ensures { Answers (TakesSource kernel (filed reading) source.now) result }
 {

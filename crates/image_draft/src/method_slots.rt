@@ -290,7 +290,7 @@ impl MethodSlots {
     pub fn into_items(self, alloc: Global) -> Result<Vec<MethodDraft>, Memory>
         ensures { IfOk result (λ items. items.items ≡ those_there self.slots.items) }
     {
-        let mut items = Vec::new(alloc);
+        let mut items = Vec::with_capacity(alloc, self.count)?;
         for slot in self.slots {
             if let Some(method) = slot {
                 items.push(method)?;

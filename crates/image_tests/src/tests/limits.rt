@@ -54,3 +54,28 @@ fn an_image_has_10_000_classes_at_most(rt: HostRuntime) -> Result<(), Fail> {
     formats(&rt, rt.alloc(), more.as_slice(), 3, refusal)?;
     Ok(())
 }
+
+/// A file-out of a class with so many methods, at least one, in canonical text.
+fn methods(alloc: Global, count: usize) -> Result<Vec<u8>, Memory> {
+    let mut image = classes(alloc, 1)?;
+    image.extend_from_slice(b"!C0 methodsFor: 'm'!\nm0\n\t^1!")?;
+    for number in 1..count {
+        let digits = format!(in alloc; "{number}")?;
+        image.extend_from_slice(b"\n\nm")?;
+        image.extend_from_slice(digits.as_bytes())?;
+        image.extend_from_slice(b"\n\t^1!")?;
+    }
+    image.extend_from_slice(b" !\n\n")?;
+    Ok(image)
+}
+
+/// With the 167 methods of the kernel these are as many as there may be.
+#[test]
+fn an_image_has_200_000_methods_at_most(rt: HostRuntime) -> Result<(), Fail> {
+    let most = methods(rt.alloc(), 199833)?;
+    formats(&rt, rt.alloc(), most.as_slice(), 0, most.as_slice())?;
+    let more = methods(rt.alloc(), 199834)?;
+    let refusal = b"image chunk 199837 at 0 TooMany\n";
+    formats(&rt, rt.alloc(), more.as_slice(), 3, refusal)?;
+    Ok(())
+}

@@ -16,10 +16,10 @@ returns-in-Err-clause-refused c = WantsMemory
 pub returns-in_err-progress-clause-refused : goal.returns-in_err-progress-clause-refused
 returns-in_err-progress-clause-refused c =
     let k = filed c.in-Ok.kernel in
-    let reads = subst (λ (t : Text). ReadsText Second true (image_so_far c.nothing.result) t (Ok k)) c.prelude.ensures c.in-Ok.ensures.read in
+    let reads = subst (λ (t : Text). ReadsText Second true (image_so_far c.in_ok-start.start) t (Ok k)) c.prelude.ensures c.in-Ok.ensures.read in
     let r = err_from_is_err_and c.from_residual.result c.from_residual.ensures.1 in
     rw (r.1, r.2)
-    (image_refused prelude_text c.args.text.now k (subst (λ (i : ImageOf Text). ReadsText Second true i prelude_text (Ok k)) c.nothing.ensures.image reads) c.in_err-progress.field-0.0 c.in_err-progress.ensures.refused)
+    (image_refused prelude_text c.args.text.now k (subst (λ (i : ImageOf Text). ReadsText Second true i prelude_text (Ok k)) c.in_ok-start.ensures.image reads) c.in_err-progress.field-0.0 c.in_err-progress.ensures.refused)
 
 pub returns-in_err-reading-clause-refused : goal.returns-in_err-reading-clause-refused
 returns-in_err-reading-clause-refused c =
@@ -29,10 +29,10 @@ returns-in_err-reading-clause-refused c =
 pub returns-clause-image : goal.returns-clause-image
 returns-clause-image c =
     let k = filed c.in-Ok.kernel in
-    let reads = subst (λ (t : Text). ReadsText Second true (image_so_far c.nothing.result) t (Ok k)) c.prelude.ensures c.in-Ok.ensures.read in
+    let reads = subst (λ (t : Text). ReadsText Second true (image_so_far c.in_ok-start.start) t (Ok k)) c.prelude.ensures c.in-Ok.ensures.read in
     record {
       kernel = k.image;
-      is_kernel = is_kernel prelude_text c.args.text.now k (subst (λ (i : ImageOf Text). ReadsText Second true i prelude_text (Ok k)) c.nothing.ensures.image reads);
+      is_kernel = is_kernel prelude_text c.args.text.now k (subst (λ (i : ImageOf Text). ReadsText Second true i prelude_text (Ok k)) c.in_ok-start.ensures.image reads);
       end = filed c.in_ok-progress.progress;
       reads = c.in_ok-progress.ensures.read;
       image = c.in_ok-reading.ensures.image;

@@ -12,7 +12,7 @@ use Rattle.file_reading.proofs.take.add_doit.Goals as goal
 pub returns : goal.returns
 returns c =
     let names = c.args.reading.names in
-    let later = c.add_doit.new.self in
+    let later = record c.args.reading.draft { value = c.add_doit.new.self } in
     let known = subst (DoItNames (IsNumberIn names)) (sym c.in_ok-doit.ensures) c.requires.known in
     let added = was_added names c.args.reading.draft c.requires.sound (doit_of c.in_ok-doit.doit) later known
     c.in_ok-add_doit.ensures.image c.in_ok-add_doit.ensures.run c.in_ok-add_doit.ensures.head c.in_ok-add_doit.ensures.places c.in_ok-add_doit.ensures.whole in

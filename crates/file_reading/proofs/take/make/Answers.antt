@@ -12,15 +12,15 @@ pub returns : goal.returns
 returns c =
     let names = c.args.reading.names in
     let old = c.args.reading.draft in
-    let later = c.change.new.self in
+    let later = record c.args.reading.draft { value = c.change.new.self } in
     let change = change_of c.args.change in
     let differ = c.names_differ.ensures in
-    let same = c.changes_by_numbers.ensures.same names c.args.kernel change (image_of old) differ c.requires.sound.image c.requires.known in
+    let same = c.changes_by_numbers.ensures.same names c.args.kernel change (image_of old.value) differ c.requires.sound.image c.requires.known in
     told (λ r. r ≡ change_taken c.args.kernel (filed c.args.reading) (map_change (name_at names) change)) (with_draft names later) c.in_ok-refused.refused c.told.result
     (λ none. was_changed names old c.requires.sound c.args.kernel change c.in_ok-refused.refused later same
-    (c.changes_by_numbers.ensures.known names c.args.kernel change (image_of old) differ c.requires.sound.image c.requires.known)
-    (c.places_by_numbers.ensures.after names change (places_of old) differ c.requires.sound.places c.requires.known)
-    (c.places_by_numbers.ensures.known_after names change (places_of old) differ c.requires.sound.places c.requires.known)
+    (c.changes_by_numbers.ensures.known names c.args.kernel change (image_of old.value) differ c.requires.sound.image c.requires.known)
+    (c.places_by_numbers.ensures.after names change (places_of old.value) differ c.requires.sound.places c.requires.known)
+    (c.places_by_numbers.ensures.known_after names change (places_of old.value) differ c.requires.sound.places c.requires.known)
     none c.in_ok-refused.ensures.made c.in_ok-refused.ensures.run c.in_ok-refused.ensures.head c.in_ok-refused.ensures.places c.in_ok-refused.ensures.whole)
     (λ cause is. was_not_changed names old c.requires.sound c.args.kernel change c.in_ok-refused.refused cause later same is c.in_ok-refused.ensures.made)
     c.told.ensures

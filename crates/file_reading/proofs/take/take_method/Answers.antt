@@ -17,13 +17,13 @@ put_method-requires-clause-sound c = IsSoundSoFar-grown c.args.reading c.parse_m
 pub returns-in-Ok : goal.returns-in-Ok
 returns-in-Ok c =
     let names = c.parse_method.new.names in
-    let run = some_of (run_in c.args.reading.draft) c.requires.inside in
+    let run = some_of (run_in c.args.reading.draft.value) c.requires.inside in
     method_taken c.args.kernel (filed c.args.reading) c.args.source.now c.requires.some (map_run (name_at names) run.0) (map_method (name_at names) (method_of c.in-Ok.tree)) (filed (with_draft names c.args.reading.draft)) (places_behind (name_at names run.0.class) run.0.meta (name_at names (method_of c.in-Ok.tree).selector) (places_so_far (with_draft names c.args.reading.draft))) c.put_method.result
     (ap (option_map (map_run (name_at names))) run.1) c.in-Ok.ensures.tree (filed-grown c.args.reading names c.in-Ok.ensures.grows c.requires.sound) refl (c.put_method.ensures run.0 run.1)
 
 pub returns-in-Err : goal.returns-in-Err
 returns-in-Err c =
-    let run = some_of (run_in c.args.reading.draft) c.requires.inside in
+    let run = some_of (run_in c.args.reading.draft.value) c.requires.inside in
     fault_taken c.args.kernel (filed c.args.reading) c.args.source.now c.requires.some (Method c.args.kernel) c.in-Err.fault c.stop_of.result
     (method_fault c.args.kernel (filed c.args.reading) c.args.source.now c.requires.some (map_run (name_at c.args.reading.names) run.0) (ap (option_map (map_run (name_at c.args.reading.names))) run.1))
     c.stop_of.ensures.told c.stop_of.ensures.memory c.in-Err.ensures.fault

@@ -12,7 +12,7 @@ returns-clause-sound c =
     let names = c.args.self.names in
     let draft = c.args.self.draft in
     let known = subst (ImageNames (IsNumberIn names)) (sym c.in_ok-draft.ensures.image)
-    (c.places_by_numbers.ensures.known_settled names (places_of draft) (image_of draft) c.names_differ.ensures c.requires.image) in
+    (c.places_by_numbers.ensures.known_settled names (places_of draft.value) (image_of draft.value) c.names_differ.ensures c.requires.image) in
     record { whole = c.in_ok-draft.ensures.whole; image = known; run = run_known names c.in_ok-draft.draft c.in_ok-draft.ensures.whole known }
 
 pub returns-clause-image : goal.returns-clause-image
@@ -20,4 +20,4 @@ returns-clause-image c =
     let names = c.args.self.names in
     let draft = c.args.self.draft in
     ap (map_image (name_at names)) c.in_ok-draft.ensures.image
-    ∙ sym (c.places_by_numbers.ensures.settled names (places_of draft) (image_of draft) c.names_differ.ensures c.requires.places c.requires.image)
+    ∙ sym (c.places_by_numbers.ensures.settled names (places_of draft.value) (image_of draft.value) c.names_differ.ensures c.requires.places c.requires.image)
