@@ -6,8 +6,8 @@ use Rattle.image_queries.specs.Parts.{IsDoItText}
 use Rattle.image_queries.proofs.Texts.{text_more, texts_end}
 use Rattle.image_queries.proofs.uses.doit_lines.Goals as goal
 
-pub loop-number-preserved : goal.loop-number-preserved
-loop-number-preserved g c =
+pub loop-number-preserved-in_ok-push_slice : goal.loop-number-preserved-in_ok-push_slice
+loop-number-preserved-in_ok-push_slice g c =
     let items = c.args.image.now.doits in
     let within : c.loop-number.number < length items = omega (arith, c.loop-number-test.true, c.doits.ensures) in
     let held = there items c.loop-number.number within in
