@@ -35,7 +35,7 @@ mutual
   assigns s (Var f e n) rest = refl
   assigns s (Literal f e l) rest = ap (first_fixed_in s) (last_of (literal_events l) (event.Literal f e) rest) ∙ assigns_literal s l (event.Literal f e ∷ rest)
   assigns s (Send f e r m xs) rest =
-      let last = event.Send f e m (count_trees xs) in
+      let last = event.Send f e (count_trees xs) m in
       ap (first_fixed_in s) (last_of_two (tree_events r) (trees_events xs) last rest) ∙
       assigns s r (trees_events xs ++ last ∷ rest) ∙
       ap (option_or (fixed_in s.now r)) (assigns_trees s xs (last ∷ rest)) ∙

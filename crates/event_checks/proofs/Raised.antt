@@ -172,7 +172,7 @@ mutual
   raises o hs (Var f e n) rest = refl
   raises o hs (Literal f e l) rest = ap (first_tall_in o hs) (last_of (literal_events l) (event.Literal f e) rest) ∙ raises_literal o hs l (event.Literal f e ∷ rest)
   raises o hs (Send f e r s xs) rest =
-      let last = event.Send f e s (count_trees xs) in
+      let last = event.Send f e (count_trees xs) s in
       let h = cut (height (plain_tree r)) in
       let g = max (height (plain_tree r)) (trees_height (plain_trees xs)) in
       ap (first_tall_in o hs) (last_of_two (tree_events r) (trees_events xs) last rest) ∙

@@ -76,7 +76,7 @@ mutual
   repeats (Var f e n) rest = refl
   repeats (Literal f e l) rest = ap first_duplicate_in (last_of (literal_events l) (event.Literal f e) rest) ∙ repeats_literal l (event.Literal f e ∷ rest)
   repeats (Send f e r s xs) rest =
-      let last = event.Send f e s (count_trees xs) in
+      let last = event.Send f e (count_trees xs) s in
       ap first_duplicate_in (last_of_two (tree_events r) (trees_events xs) last rest) ∙
       repeats r (trees_events xs ++ last ∷ rest) ∙
       ap (option_or (duplicate_in r)) (repeats_trees xs (last ∷ rest)) ∙

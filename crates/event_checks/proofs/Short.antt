@@ -55,7 +55,7 @@ behind_low (event.Array n) hs = raised_low (length hs - n) 1 hs
 behind_low (event.Bytes n) hs = flat_low (length hs - n) hs
 behind_low (event.Literal f e) hs = omega arith
 behind_low (event.Var f e n) hs = one_low hs
-behind_low (event.Send f e s n) hs = raised_low (length hs - n - 1) 1 hs
+behind_low (event.Send f e n s) hs = raised_low (length hs - n - 1) 1 hs
 behind_low (event.Message s n) hs = omega (arith, raised_low (length hs - n) 0 hs)
 behind_low (event.Cascade f e n) hs = raised_low (length hs - n - 1) 1 hs
 behind_low (event.Target f n) hs = omega arith
@@ -145,7 +145,7 @@ mutual
   passes inside (Var f e n) = λ left rest. refl
   passes inside (Literal f e l) = passes_both inside (literal_events l) (event.Literal f e ∷ []) (passes_literal inside l) (λ left rest. refl)
   passes inside (Send f e r s xs) =
-      passes_both inside (tree_events r ++ trees_events xs) (event.Send f e s (count_trees xs) ∷ [])
+      passes_both inside (tree_events r ++ trees_events xs) (event.Send f e (count_trees xs) s ∷ [])
       (passes_both inside (tree_events r) (trees_events xs) (passes inside r) (passes_trees inside xs)) (λ left rest. refl)
   passes inside (Cascade f e r ms) =
       passes_both inside (tree_events r ++ messages_events ms) (event.Cascade f e (count_messages ms) ∷ [])

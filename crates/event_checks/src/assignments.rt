@@ -19,7 +19,7 @@ fn fixed_at(scopes: &Scopes, event: &Event) -> Option<usize>
     match event {
         Event::Target { from, name } => {
             if is_pseudo(name.as_slice()) || scopes.is_fixed(name.as_slice()) {
-                Some(*from)
+                Some(*from as usize)
             } else {
                 None
             }

@@ -32,7 +32,7 @@ fn repeat_among(names: &mut Names, declarations: &[Declaration]) -> Result<Optio
 {
     for declaration in declarations {
         if is_repeat(names, declaration.name.as_slice())? {
-            return Ok(Some(declaration.from));
+            return Ok(Some(declaration.from as usize));
         }
     }
     Ok(None)
@@ -64,7 +64,7 @@ fn repeat_behind(first: &[Declaration], second: &[Declaration]) -> Option<usize>
 {
     for (index, declaration) in second.iter().enumerate() {
         if have_name(first, &second[..index], declaration.name.as_slice()) {
-            return Some(declaration.from);
+            return Some(declaration.from as usize);
         }
     }
     None

@@ -91,13 +91,13 @@ fn build(heights: &mut Vec<u8>, event: &Event) -> Result<(), Memory>
         | Event::Char { .. }
         | Event::Word { .. }
         | Event::Var { .. } => put_one(heights),
-        Event::Bytes { items } => flatten(heights, *items),
-        Event::Array { items } | Event::Brace { items, .. } => raise_last(heights, *items),
-        Event::Block { statements, .. } => raise_last(heights, *statements),
+        Event::Bytes { items } => flatten(heights, *items as usize),
+        Event::Array { items } | Event::Brace { items, .. } => raise_last(heights, *items as usize),
+        Event::Block { statements, .. } => raise_last(heights, *statements as usize),
         Event::Assign { .. } | Event::Return { .. } => raise_last(heights, 1),
-        Event::Send { arguments, .. } => raise_with_receiver(heights, *arguments),
-        Event::Cascade { messages, .. } => raise_with_receiver(heights, *messages),
-        Event::Message { arguments, .. } => join_last(heights, *arguments),
+        Event::Send { arguments, .. } => raise_with_receiver(heights, *arguments as usize),
+        Event::Cascade { messages, .. } => raise_with_receiver(heights, *messages as usize),
+        Event::Message { arguments, .. } => join_last(heights, *arguments as usize),
         Event::Literal { .. }
         | Event::Target { .. }
         | Event::Enter { .. }
@@ -124,7 +124,7 @@ fn tall_at(depth: usize, heights: &[u8], event: &Event) -> Option<usize>
         Event::Statement { from, .. } => {
             let last = heights.len().saturating_sub(1);
             if depth == 0 && greatest(&heights[last..]) > MOST_LEVELS {
-                Some(*from)
+                Some(*from as usize)
             } else {
                 None
             }

@@ -73,7 +73,7 @@ mutual
   back-tree (Var f e n) os ps = refl
   back-tree (Literal f e l) os ps = back-append (literal_events l) (event.Literal f e ∷ []) (state os ps) ∙ back-literal l _
   back-tree (Send f e r s xs) os ps =
-      back-append (tree_events r ++ trees_events xs) (event.Send f e s (count_trees xs) ∷ []) (state os ps)
+      back-append (tree_events r ++ trees_events xs) (event.Send f e (count_trees xs) s ∷ []) (state os ps)
       ∙ back-append (tree_events r) (trees_events xs) _
       ∙ ap (back (tree_events r)) (from_none (trees_events xs) (count_trees xs) (opened f e false ps) os ps ∙ back-trees xs 0 (opened f e false ps) os ps)
       ∙ back-tree r (opened f e false ps ∷ os) _

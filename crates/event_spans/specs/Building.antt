@@ -24,7 +24,7 @@ one_less (suc n) = Some n
 abbrev pub heading_of : Event → Option Heading
 heading_of (event.Literal f e) = Some (record { from = f; to = e; block = false; more = None })
 heading_of (event.Var f e n) = Some (record { from = f; to = e; block = false; more = None })
-heading_of (event.Send f e s k) = Some (record { from = f; to = e; block = false; more = Some k })
+heading_of (event.Send f e k s) = Some (record { from = f; to = e; block = false; more = Some k })
 heading_of (event.Cascade f e k) = Some (record { from = f; to = e; block = false; more = Some 0 })
 heading_of (event.Assign f e) = Some (record { from = f; to = e; block = false; more = Some 0 })
 heading_of (event.Return f e) = Some (record { from = f; to = e; block = false; more = Some 0 })

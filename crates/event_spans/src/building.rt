@@ -11,11 +11,11 @@ use std::collections::VecDeque;
 /// A node whose event is read.
 #[derive(Clone, Copy)]
 struct Heading {
-    from: usize,
-    to: usize,
+    from: u32,
+    to: u32,
     block: bool,
     /// How many nodes stand right below it besides one; `None` where there is none at all.
-    more: Option<usize>,
+    more: Option<u32>,
 }
 
 /// A node of which not all nodes below it are read.
@@ -94,17 +94,17 @@ fn begin(
 {
     if let Some(more) = heading.more {
         waiting.push_front(Open {
-            from: heading.from,
-            to: heading.to,
+            from: heading.from as usize,
+            to: heading.to as usize,
             block: heading.block,
-            more,
+            more: more as usize,
             behind: places.len(),
         })?;
         return Ok(());
     }
     places.push(Place {
-        from: heading.from,
-        to: heading.to,
+        from: heading.from as usize,
+        to: heading.to as usize,
         depth: waiting.len(),
         below: 0,
         block: heading.block,
@@ -132,7 +132,7 @@ fn read_back(
     ensures { IfOk result (λ _. step event.now (state waiting.old.items (reverse places.old.items)) ≡ state waiting.new.items (reverse places.new.items)) }
 {
     if let Event::Message { arguments, .. } = event {
-        return widen(waiting, *arguments);
+        return widen(waiting, *arguments as usize);
     }
     match heading_of(event) {
         Some(heading) => begin(waiting, places, heading),

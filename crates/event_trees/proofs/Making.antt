@@ -52,7 +52,7 @@ module _ {names : List Text} {before after : StacksOf ℕ} where
     named = λ final g. ap (map_stacks (slice_get final)) p ∙ map-node (slice_get final) before (var n) ∙ ap (λ o. with_node (map_stacks (slice_get final) before) (var o)) (text_stays n t g e);
   }
 
-  pub builds_send : (from to : ℕ) (t : Text) (k n : ℕ) → slice_get names n ≡ Some t → after ≡ with_send before n k → Builds names before after (event.Send from to t k)
+  pub builds_send : (from to : ℕ) (t : Text) (k n : ℕ) → slice_get names n ≡ Some t → after ≡ with_send before n k → Builds names before after (event.Send from to k t)
   builds_send from to t k n e p = record {
     named = λ final g. ap (map_stacks (slice_get final)) p ∙ map-send (slice_get final) before n k ∙ ap (λ o. with_send (map_stacks (slice_get final) before) o k) (text_stays n t g e);
   }

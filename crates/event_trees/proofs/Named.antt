@@ -50,7 +50,7 @@ module _ (p : Text → Bool) where
     in_tree (Var f e n) h = (h, tt)
     in_tree (Literal f e l) h = in_both (literal_events l) (event.Literal f e ∷ []) (in_literal l h) tt
     in_tree (Send f e r n xs) h =
-        in_both (tree_events r ++ trees_events xs) (event.Send f e n (count_trees xs) ∷ []) (in_both (tree_events r) (trees_events xs) (in_tree r h.0) (in_trees xs h.2)) (h.1, tt)
+        in_both (tree_events r ++ trees_events xs) (event.Send f e (count_trees xs) n ∷ []) (in_both (tree_events r) (trees_events xs) (in_tree r h.0) (in_trees xs h.2)) (h.1, tt)
     in_tree (Cascade f e r ms) h =
         in_both (tree_events r ++ messages_events ms) (event.Cascade f e (count_messages ms) ∷ []) (in_both (tree_events r) (messages_events ms) (in_tree r h.0) (in_messages ms h.1)) tt
     in_tree (Assign f e n t) h = (h.0, in_both (tree_events t) (event.Assign f e ∷ []) (in_tree t h.1) tt)

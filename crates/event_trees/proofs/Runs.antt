@@ -210,7 +210,7 @@ module _ {N : Type 0} (g : Text → N) where
     tree_run (Literal f e l) s = behind s (with_literal s (map_literal g l)) (literal_events l) (event.Literal f e ∷ []) (literal_run l s) ∙ operand_made s (map_literal g l)
     tree_run (Send f e r n xs) s =
         let first = with_node s (map_names g (plain_tree r)) in
-        behind s (with_nodes first (tree_list xs)) (tree_events r ++ trees_events xs) (event.Send f e n (count_trees xs) ∷ []) (behind s first (tree_events r) (trees_events xs) (tree_run r s) ∙ trees_run xs first) ∙
+        behind s (with_nodes first (tree_list xs)) (tree_events r ++ trees_events xs) (event.Send f e (count_trees xs) n ∷ []) (behind s first (tree_events r) (trees_events xs) (tree_run r s) ∙ trees_run xs first) ∙
         send_made s (map_names g (plain_tree r)) (g n) xs
     tree_run (Cascade f e r ms) s =
         let first = with_node s (map_names g (plain_tree r)) in

@@ -139,7 +139,7 @@ step g s (event.Array n) = with_array array s n
 step g s (event.Bytes n) = with_array bytes s n
 step g s (event.Literal f e) = with_operand s
 step g s (event.Var f e n) = with_node s (var (g n))
-step g s (event.Send f e n k) = with_send s (g n) k
+step g s (event.Send f e k n) = with_send s (g n) k
 step g s (event.Message n k) = with_message s (g n) k
 step g s (event.Cascade f e k) = with_cascade s k
 step g s (event.Target f n) = with_target s (g n)
@@ -159,7 +159,7 @@ steps g s (e ∷ es) = steps g (step g s e) es
 abbrev pub event_names : Event → List Text
 event_names (event.Word n) = n ∷ []
 event_names (event.Var f e n) = n ∷ []
-event_names (event.Send f e n k) = n ∷ []
+event_names (event.Send f e k n) = n ∷ []
 event_names (event.Message n k) = n ∷ []
 event_names (event.Target f n) = n ∷ []
 event_names (event.Enter ps ds) = declared_by (λ n. n) ps ++ declared_by (λ n. n) ds

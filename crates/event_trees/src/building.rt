@@ -47,20 +47,20 @@ pub fn build(
         Event::Symbol { text } => stacks.literal(LiteralKind::Symbol { text }),
         Event::Char { byte } => stacks.literal(LiteralKind::Char { byte }),
         Event::Word { name } => stacks.word(number_of(names, &name)?),
-        Event::Array { items } => stacks.array(items),
-        Event::Bytes { items } => stacks.bytes(items),
+        Event::Array { items } => stacks.array(items as usize),
+        Event::Bytes { items } => stacks.bytes(items as usize),
         Event::Literal { .. } => stacks.operand(),
         Event::Var { name, .. } => stacks.variable(number_of(names, &name)?),
         Event::Send {
             selector,
             arguments,
             ..
-        } => stacks.send(alloc, number_of(names, &selector)?, arguments),
+        } => stacks.send(alloc, number_of(names, &selector)?, arguments as usize),
         Event::Message {
             selector,
             arguments,
-        } => stacks.message(number_of(names, &selector)?, arguments),
-        Event::Cascade { messages, .. } => stacks.cascade(alloc, messages),
+        } => stacks.message(number_of(names, &selector)?, arguments as usize),
+        Event::Cascade { messages, .. } => stacks.cascade(alloc, messages as usize),
         Event::Target { name, .. } => stacks.target(number_of(names, &name)?),
         Event::Assign { .. } => stacks.value(alloc),
         Event::Enter {
@@ -71,8 +71,8 @@ pub fn build(
             statements,
             tail,
             ..
-        } => stacks.block(alloc, statements, tail),
-        Event::Brace { items, .. } => stacks.brace(items),
+        } => stacks.block(alloc, statements as usize, tail.into_comments()),
+        Event::Brace { items, .. } => stacks.brace(items as usize),
         Event::Return { .. } => stacks.returned(alloc),
         Event::Statement { comments, .. } => stacks.statement(comments),
     }

@@ -55,7 +55,7 @@ abbrev mutual
   pub tree_events : SpannedTree → List Event
   tree_events (Var f e n) = event.Var f e n ∷ []
   tree_events (Literal f e l) = literal_events l ++ event.Literal f e ∷ []
-  tree_events (Send f e r s xs) = tree_events r ++ trees_events xs ++ event.Send f e s (count_trees xs) ∷ []
+  tree_events (Send f e r s xs) = tree_events r ++ trees_events xs ++ event.Send f e (count_trees xs) s ∷ []
   tree_events (Cascade f e r ms) = tree_events r ++ messages_events ms ++ event.Cascade f e (count_messages ms) ∷ []
   tree_events (Assign f e n t) = event.Target f n ∷ tree_events t ++ event.Assign f e ∷ []
   tree_events (Block f e ps ds ss c) = event.Enter (declarations ps) (declarations ds) ∷ statements_events ss ++ event.Block f e (count_statements ss) c ∷ []

@@ -1,7 +1,9 @@
 // What is found in a text.
 
+use crate::boxed::BoxedComments;
 use rb_base::Text;
 use st_tree::Comments;
+use std::alloc::Global;
 use std::marker::Model;
 
 /// A name that is declared: an argument, a parameter or a temporary.
@@ -9,13 +11,15 @@ use std::marker::Model;
 pub struct Declaration {
     pub name: Text,
     /// Where the name begins, in bytes from the text's start.
-    pub from: usize,
+    pub from: u32,
 }
 
 /// Declared names in order. Contracts see a list.
 #[derive(Drop)]
 pub struct Declarations {
-    pub(crate) items: Vec<Declaration>,
+    pub(crate) alloc: Global,
+    /// None where nothing is declared, as in most blocks.
+    pub(crate) items: Option<Box<Vec<Declaration>>>,
 }
 
 /// A step of the building of a tree. Most come behind the parts of what they speak of, so a list of them builds its
@@ -45,50 +49,50 @@ pub enum Event {
     },
     /// An array of the last literals, as many as `items`.
     Array {
-        items: usize,
+        items: u32,
     },
     /// A byte array of the last literals, as many as `items`.
     Bytes {
-        items: usize,
+        items: u32,
     },
     /// The last literal is an operand.
     Literal {
-        from: usize,
-        to: usize,
+        from: u32,
+        to: u32,
     },
     /// A variable.
     Var {
-        from: usize,
-        to: usize,
+        from: u32,
+        to: u32,
         name: Text,
     },
     /// A message of the last operands, as many as `arguments`, to the one before them.
     Send {
-        from: usize,
-        to: usize,
+        from: u32,
+        to: u32,
+        arguments: u32,
         selector: Text,
-        arguments: usize,
     },
     /// A message of a cascade, with the last operands, as many as `arguments`.
     Message {
         selector: Text,
-        arguments: usize,
+        arguments: u32,
     },
     /// The last messages, as many as `messages`, to the operand before them.
     Cascade {
-        from: usize,
-        to: usize,
-        messages: usize,
+        from: u32,
+        to: u32,
+        messages: u32,
     },
     /// The variable of an assignment, whose value follows.
     Target {
-        from: usize,
+        from: u32,
         name: Text,
     },
     /// The last operand is the value of the last variable of an assignment that has none yet.
     Assign {
-        from: usize,
-        to: usize,
+        from: u32,
+        to: u32,
     },
     /// What a block declares, whose statements follow.
     Enter {
@@ -97,25 +101,25 @@ pub enum Event {
     },
     /// A block of the last statements, as many as `statements`, and of the last declarations that have no block yet.
     Block {
-        from: usize,
-        to: usize,
-        statements: usize,
-        tail: Comments,
+        from: u32,
+        to: u32,
+        statements: u32,
+        tail: BoxedComments,
     },
     /// An array of the last operands, as many as `items`.
     Brace {
-        from: usize,
-        to: usize,
-        items: usize,
+        from: u32,
+        to: u32,
+        items: u32,
     },
     /// The last operand is returned.
     Return {
-        from: usize,
-        to: usize,
+        from: u32,
+        to: u32,
     },
     /// The last node is a statement. Its first token begins at `from`, an opening parenthesis too.
     Statement {
-        from: usize,
+        from: u32,
         comments: Comments,
     },
 }
@@ -151,10 +155,11 @@ pub struct MethodEvents {
 impl Model for Declarations {
     ghost use Rattle.std.specs.Prelude.{List};
     ghost use Rattle.parse_events.specs.declared.event.Declaration.{Declaration};
+    ghost use Rattle.parse_events.specs.Boxed.{items_of};
 
     ghost Value = { List Declaration };
 
-    ghost view = { λ a. a.items.items };
+    ghost view = { λ a. items_of a.items };
 }
 
 impl Model for Events {

@@ -2,7 +2,9 @@
 //! that a text of any depth can be read and judged before a tree is built.
 #![tactic(auto)]
 
+mod boxed;
 mod event;
 mod lists;
 
+pub use boxed::BoxedComments;
 pub use event::{Declaration, Declarations, Event, Events, MethodEvents, SequenceEvents};

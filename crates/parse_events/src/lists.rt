@@ -10,24 +10,28 @@ impl Declarations {
     pub fn new(alloc: Global) -> Declarations
         ensures { result ≡ [] }
     {
-        Declarations {
-            items: Vec::new(alloc),
-        }
+        Declarations { alloc, items: None }
     }
 
     /// The declarations.
     pub fn as_slice(&self) -> &[Declaration]
         ensures { result.now ≡ self.now }
     {
-        self.items.as_slice()
+        match &self.items {
+            Some(items) => items.as_slice(),
+            None => &[],
+        }
     }
 
     /// The declarations, which are not copied.
     pub fn into_vec(self) -> Vec<Declaration>
         ensures { result.items ≡ self }
     {
-        let Declarations { items } = self;
-        items
+        let Declarations { alloc, items } = self;
+        match items {
+            Some(items) => Box::into_inner(items),
+            None => Vec::new(alloc),
+        }
     }
 
     /// Appends a declaration; on want of memory it is dropped.
@@ -35,7 +39,14 @@ impl Declarations {
         ensures ok { OnOk result (self.new ≡ self.old ++ item ∷ []) }
         ensures err { OnErr result (self.new ≡ self.old) }
     {
-        self.items.push(item)?;
+        match &mut self.items {
+            Some(items) => items.push(item)?,
+            None => {
+                let mut items = Vec::new(self.alloc);
+                items.push(item)?;
+                self.items = Some(Box::new(self.alloc, items)?);
+            }
+        }
         Ok(())
     }
 }

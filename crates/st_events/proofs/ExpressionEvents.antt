@@ -55,7 +55,7 @@ abbrev statements_part : Enclosure → ℕ → Part
 statements_part w n = part.Sequence (sequence.Statements w n)
 
 -- one more message
-sent_events : (f e : ℕ) (r : Chain) (s : Text) (xs : SpannedTrees) → tree_events (whole (sent f e r s xs)) ≡ tree_events (whole r) ++ trees_events xs ++ event.Send f e s (count_trees xs) ∷ []
+sent_events : (f e : ℕ) (r : Chain) (s : Text) (xs : SpannedTrees) → tree_events (whole (sent f e r s xs)) ≡ tree_events (whole r) ++ trees_events xs ++ event.Send f e (count_trees xs) s ∷ []
 sent_events f e (Waiting g h n) s xs = refl
 sent_events f e (Alone t) s xs = refl
 sent_events f e (Told g h r t ys) s xs = refl
@@ -65,9 +65,9 @@ zero : (n : ℕ) → 0 + n ≡ n
 zero n = omega arith
 
 -- one more unary message
-unary_events : (es : List Event) (f e : ℕ) (r : Chain) (n : Text) → es ++ tree_events (whole r) ++ event.Send f e n 0 ∷ [] ≡ es ++ tree_events (whole (sent f e r n NoTrees))
+unary_events : (es : List Event) (f e : ℕ) (r : Chain) (n : Text) → es ++ tree_events (whole r) ++ event.Send f e 0 n ∷ [] ≡ es ++ tree_events (whole (sent f e r n NoTrees))
 unary_events es f e r n =
-    append_assoc es (tree_events (whole r)) (event.Send f e n 0 ∷ []) ∙ ap (λ x. es ++ (x ++ event.Send f e n 0 ∷ [])) (sym (append-nil (tree_events (whole r)))) ∙
+    append_assoc es (tree_events (whole r)) (event.Send f e 0 n ∷ []) ∙ ap (λ x. es ++ (x ++ event.Send f e 0 n ∷ [])) (sym (append-nil (tree_events (whole r)))) ∙
     ap (λ x. es ++ x) (sym (sent_events f e r n NoTrees))
 
 -- the events of a cascade joined
@@ -264,10 +264,10 @@ expression_whole : {i j : Input} {t : SpannedTree} → Expression Longest i t j 
 expression_whole {i} d ss es h = takes_one whole_part ss es h i (kind_of i) refl (real_operand (kind_of i) (starts_Expression d)) refl
 
 -- a message with one argument
-one_argument : (es : List Event) (f e : ℕ) (r : Chain) (s : Text) (x : SpannedTree) → es ++ tree_events (whole r) ++ tree_events x ++ event.Send f e s 1 ∷ [] ≡ es ++ tree_events (whole (sent f e r s (one_tree x)))
+one_argument : (es : List Event) (f e : ℕ) (r : Chain) (s : Text) (x : SpannedTree) → es ++ tree_events (whole r) ++ tree_events x ++ event.Send f e 1 s ∷ [] ≡ es ++ tree_events (whole (sent f e r s (one_tree x)))
 one_argument es f e r s x =
-    joined_events es (tree_events (whole r)) (tree_events x) (event.Send f e s 1 ∷ []) ∙
-    ap (λ y. es ++ (tree_events (whole r) ++ y ++ event.Send f e s 1 ∷ [])) (sym (append-nil (tree_events x))) ∙ ap (λ y. es ++ y) (sym (sent_events f e r s (one_tree x)))
+    joined_events es (tree_events (whole r)) (tree_events x) (event.Send f e 1 s ∷ []) ∙
+    ap (λ y. es ++ (tree_events (whole r) ++ y ++ event.Send f e 1 s ∷ [])) (sym (append-nil (tree_events x))) ∙ ap (λ y. es ++ y) (sym (sent_events f e r s (one_tree x)))
 
 -- an expression where one may stand
 whole_of : {i j : Input} {t : SpannedTree} → Expression Longest i t j → (ss : List Part) (es : List Event) (h : Head) →
@@ -364,18 +364,18 @@ mutual
 
   -- the arguments of a message's keywords, behind the first keyword, to which others were joined
   law_Parts : {i j : Input} {s : Text} {xs : SpannedTrees} (d : Parts Longest i s xs j) (g : Option ℕ) (p : Text) (n : ℕ) (ss : List Part) (es : List Event) (h : Head) →
-      go (part.Expression expression.KeywordArgument ∷ part.Message (message.BehindKeyword g (p ++ (first_of_parts d).1) (n + 1)) ∷ ss) es h (next i) ≡
+      go (part.Expression expression.KeywordArgument ∷ part.Message (message.BehindKeyword g (n + 1) (p ++ (first_of_parts d).1)) ∷ ss) es h (next i) ≡
       go ss (es ++ (trees_events xs ++ message_event g j.last (p ++ s) (n + count_trees xs) ∷ [])) h j
   law_Parts {i} {j} (LastPart {c} {k} {x} e a none) g p n ss es h =
-      law_KeywordArgument a (part.Message (message.BehindKeyword g (p ++ k) (n + 1)) ∷ ss) es h ∙
-      passes_one (part.Message (message.BehindKeyword g (p ++ k) (n + 1))) ss (es ++ tree_events x) h j (not_keyword (kind_of j) none) ∙
+      law_KeywordArgument a (part.Message (message.BehindKeyword g (n + 1) (p ++ k)) ∷ ss) es h ∙
+      passes_one (part.Message (message.BehindKeyword g (n + 1) (p ++ k))) ss (es ++ tree_events x) h j (not_keyword (kind_of j) none) ∙
       (let b : n + 1 ≡ n + suc 0 = omega arith in
       let l = append_assoc es (tree_events x) (message_event g j.last (p ++ k) (n + 1) ∷ []) ∙ ap (λ y. es ++ (y ++ message_event g j.last (p ++ k) (n + 1) ∷ [])) (sym (append-nil (tree_events x))) in
       ap (λ y. go ss y h j) l ∙ ap (λ y. go ss (es ++ (trees_events (one_tree x) ++ message_event g j.last (p ++ k) y ∷ [])) h j) b)
   law_Parts {i} {j} (FurtherPart {m} {c} {k} {s} {x} {xs} e a d) g p n ss es h =
       let f = first_of_parts d in
-      law_KeywordArgument a (part.Message (message.BehindKeyword g (p ++ k) (n + 1)) ∷ ss) es h ∙
-      takes_one (part.Message (message.BehindKeyword g (p ++ k) (n + 1))) ss (es ++ tree_events x) h m (Keyword f.0 f.1) f.2 tt refl ∙
+      law_KeywordArgument a (part.Message (message.BehindKeyword g (n + 1) (p ++ k)) ∷ ss) es h ∙
+      takes_one (part.Message (message.BehindKeyword g (n + 1) (p ++ k))) ss (es ++ tree_events x) h m (Keyword f.0 f.1) f.2 tt refl ∙
       law_Parts d g (p ++ k) (n + 1) ss (es ++ tree_events x) h ∙
       (let a = append_assoc p k s in
       let b : n + 1 + count_trees xs ≡ n + suc (count_trees xs) = omega arith in
@@ -389,9 +389,9 @@ mutual
   law_Keywords {f} {i} {j} {r} (OneKeywords {s} {xs} d) ss es h =
       let k = first_of_parts d in
       let rs = es ++ tree_events (whole r) in
-      let e = event.Send f j.last s (count_trees xs) in
+      let e = event.Send f j.last (count_trees xs) s in
       takes_one (all f) ss rs h i (Keyword k.0 k.1) k.2 tt refl ∙ law_Parts d (Some f) [] 0 (all f ∷ ss) rs h ∙
-      ap (λ y. go (all f ∷ ss) (rs ++ (trees_events xs ++ event.Send f j.last s y ∷ [])) h j) (zero (count_trees xs)) ∙
+      ap (λ y. go (all f ∷ ss) (rs ++ (trees_events xs ++ event.Send f j.last y s ∷ [])) h j) (zero (count_trees xs)) ∙
       ap (λ y. go (all f ∷ ss) y h j) (append_assoc es (tree_events (whole r)) (trees_events xs ++ e ∷ []) ∙
       ap (λ y. es ++ y) (sym (append_assoc (tree_events (whole r)) (trees_events xs) (e ∷ [])) ∙ sym (sent_events f j.last r s xs)))
   law_Keywords (NoKeywords g) ss es h = refl
@@ -405,7 +405,7 @@ mutual
       let n = count_trees xs in
       takes_one (all f) ss (es ++ tree_events (Send g e r s xs)) h i Semicolon semi tt refl ∙
       ap (λ y. go (part.Message message.InCascade ∷ part.Message (message.BehindCascade f 2) ∷ ss) y h (next i))
-      (ap recast (sym (append_assoc es (tree_events r ++ trees_events xs) (event.Send g e s n ∷ []))) ∙ recast_last before (event.Send g e s n)) ∙
+      (ap recast (sym (append_assoc es (tree_events r ++ trees_events xs) (event.Send g e n s ∷ []))) ∙ recast_last before (event.Send g e n s)) ∙
       sym (takes_one (part.Message (message.BehindCascade f 1)) ss (before ++ event.Message s n ∷ []) h i Semicolon semi tt refl) ∙
       law_Messages d f 1 ss (before ++ event.Message s n ∷ []) h ∙
       (let b : 1 + count_messages ms ≡ suc (count_messages ms) = omega arith in

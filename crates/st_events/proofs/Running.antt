@@ -56,7 +56,7 @@ passed_stack : (p : Part) (r : Reader) → (passed p r).stack ≡ r.stack
 passed_stack (part.Expression (expression.BehindName f e n)) r = refl
 passed_stack (part.Expression (expression.BehindValue f)) r = refl
 passed_stack (part.Message (message.BehindArgument g s)) r = refl
-passed_stack (part.Message (message.BehindKeyword g s n)) r = refl
+passed_stack (part.Message (message.BehindKeyword g n s)) r = refl
 passed_stack (part.Message (message.BehindCascade f n)) r = refl
 passed_stack (part.Literal (literal.BehindKeyword s)) r = refl
 passed_stack (part.Literal (literal.BehindOperand f)) r = refl

@@ -50,7 +50,7 @@ stated f r = cleared (emitted (event.Statement f r.held) r)
 
 -- a send becomes a message of a cascade
 abbrev pub message_of : Event → Event
-message_of (event.Send f e s n) = event.Message s n
+message_of (event.Send f e n s) = event.Message s n
 message_of x = x
 
 -- the last event, a send, becomes the first message of a cascade
@@ -61,7 +61,7 @@ recast (x ∷ y ∷ ys) = x ∷ recast (y ∷ ys)
 
 -- a message to a receiver that begins at a place, or one of a cascade
 abbrev pub message_event : Option ℕ → ℕ → Text → ℕ → Event
-message_event (Some f) e s n = event.Send f e s n
+message_event (Some f) e s n = event.Send f e n s
 message_event None e s n = event.Message s n
 
 -- one more declaration
@@ -96,15 +96,15 @@ begin_argument p k f e r = begin_operand k f (pushed p r)
 
 -- behind the first token of a message to a receiver from a place on, or of a cascade
 abbrev pub message_taken : ℕ → Terminal → ℕ → Reader → Reader
-message_taken f (Name c n) e r = pushed (part.Message (message.All f)) (emitted (event.Send f e n 0) r)
+message_taken f (Name c n) e r = pushed (part.Message (message.All f)) (emitted (event.Send f e 0 n) r)
 message_taken f (Binary c s) e r = pushed (part.Expression expression.BinaryArgument) (pushed (part.Message (message.BehindArgument (Some f) s)) (pushed (part.Message (message.All f)) r))
-message_taken f (Keyword c s) e r = pushed (part.Expression expression.KeywordArgument) (pushed (part.Message (message.BehindKeyword (Some f) s 1)) (pushed (part.Message (message.All f)) r))
+message_taken f (Keyword c s) e r = pushed (part.Expression expression.KeywordArgument) (pushed (part.Message (message.BehindKeyword (Some f) 1 s)) (pushed (part.Message (message.All f)) r))
 message_taken f Semicolon e r = pushed (part.Message message.InCascade) (pushed (part.Message (message.BehindCascade f 2)) (record r { events = recast r.events }))
 message_taken f k e r = r
 
 -- behind the first token of a unary or binary message, with the part that reads it
 abbrev pub operator_taken : Part → ℕ → Terminal → ℕ → Reader → Reader
-operator_taken p f (Name c n) e r = pushed p (emitted (event.Send f e n 0) r)
+operator_taken p f (Name c n) e r = pushed p (emitted (event.Send f e 0 n) r)
 operator_taken p f (Binary c s) e r = pushed (part.Expression expression.BinaryArgument) (pushed (part.Message (message.BehindArgument (Some f) s)) (pushed p r))
 operator_taken p f k e r = r
 
@@ -112,7 +112,7 @@ operator_taken p f k e r = r
 abbrev pub cascade_taken : Terminal → Reader → Reader
 cascade_taken (Name c n) r = emitted (event.Message n 0) r
 cascade_taken (Binary c s) r = pushed (part.Expression expression.BinaryArgument) (pushed (part.Message (message.BehindArgument None s)) r)
-cascade_taken (Keyword c s) r = pushed (part.Expression expression.KeywordArgument) (pushed (part.Message (message.BehindKeyword None s 1)) r)
+cascade_taken (Keyword c s) r = pushed (part.Expression expression.KeywordArgument) (pushed (part.Message (message.BehindKeyword None 1 s)) r)
 cascade_taken k r = r
 
 -- behind a token that a part of messages takes
@@ -120,7 +120,7 @@ abbrev pub messages_taken : MessagePart → Terminal → ℕ → Reader → Read
 messages_taken (message.All f) k e r = message_taken f k e r
 messages_taken (message.OfKeyword f) k e r = operator_taken (part.Message (message.OfKeyword f)) f k e r
 messages_taken (message.OfBinary f) k e r = operator_taken (part.Message (message.OfBinary f)) f k e r
-messages_taken (message.BehindKeyword g s n) (Keyword c k) e r = pushed (part.Expression expression.KeywordArgument) (pushed (part.Message (message.BehindKeyword g (s ++ k) (n + 1))) r)
+messages_taken (message.BehindKeyword g n s) (Keyword c k) e r = pushed (part.Expression expression.KeywordArgument) (pushed (part.Message (message.BehindKeyword g (n + 1) (s ++ k))) r)
 messages_taken message.InCascade k e r = cascade_taken k r
 messages_taken (message.BehindCascade f n) k e r = pushed (part.Message message.InCascade) (pushed (part.Message (message.BehindCascade f (n + 1))) r)
 messages_taken p k e r = r
@@ -232,7 +232,7 @@ takes (part.Message (message.All f)) k joined = is_message k
 takes (part.Message (message.OfKeyword f)) k joined = is_operator k
 takes (part.Message (message.OfBinary f)) k joined = is_name k
 takes (part.Message (message.BehindArgument g s)) k joined = false
-takes (part.Message (message.BehindKeyword g s n)) k joined = is_keyword k
+takes (part.Message (message.BehindKeyword g n s)) k joined = is_keyword k
 takes (part.Message message.InCascade) k joined = true
 takes (part.Message (message.BehindCascade f n)) k joined = is_semicolon k
 takes (part.Literal (literal.BehindKeyword s)) k joined = is_keyword k && joined
@@ -255,7 +255,7 @@ abbrev pub passed : Part → Reader → Reader
 passed (part.Expression (expression.BehindName f e n)) r = emitted (event.Var f e n) r
 passed (part.Expression (expression.BehindValue f)) r = emitted (event.Assign f r.last) r
 passed (part.Message (message.BehindArgument g s)) r = emitted (message_event g r.last s 1) r
-passed (part.Message (message.BehindKeyword g s n)) r = emitted (message_event g r.last s n) r
+passed (part.Message (message.BehindKeyword g n s)) r = emitted (message_event g r.last s n) r
 passed (part.Message (message.BehindCascade f n)) r = emitted (event.Cascade f r.last n) r
 passed (part.Literal (literal.BehindKeyword s)) r = emitted (event.Symbol s) r
 passed (part.Literal (literal.BehindOperand f)) r = emitted (event.Literal f r.last) r

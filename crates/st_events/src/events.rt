@@ -21,10 +21,10 @@ use st_tree::Comments;
 use std::alloc::Global;
 
 /// How many parts there is room for at once.
-const PARTS: usize = 32;
+const PARTS: usize = 16;
 
 /// Few texts have more events than one for each so many bytes.
-const BYTES_OF_EVENT: usize = 4;
+const BYTES_OF_EVENT: usize = 2;
 
 /// Nothing was found in a text's head.
 fn blank_head(alloc: Global) -> Head

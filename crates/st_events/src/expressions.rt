@@ -6,9 +6,9 @@ ghost use Rattle.st_events.specs.Tokens.{seen};
 use crate::part::{
     BlockPart, Enclosure, ExpressionPart, LiteralPart, MessagePart, Part, SequencePart,
 };
-use crate::reader::Reader;
+use crate::reader::{Reader, place};
 use crate::token::Token;
-use parse_events::Event;
+use parse_events::{BoxedComments, Event};
 use rb_base::{Memory, Text};
 use st_faults::Sort;
 use std::alloc::Global;
@@ -18,14 +18,14 @@ impl Reader {
     fn begin_operand(&mut self, alloc: Global, token: Token<'_>) -> Result<(), Memory>
         ensures { IfOk result (λ _. self.new ≡ begin_operand (seen token.entry) token.entry.from self.old) }
     {
-        let from = token.from;
+        let from = place(token.from)?;
         match token.sort {
             Sort::GroupStart => {
                 self.push(Part::Sequence(SequencePart::Mark))?;
                 self.push(Part::Expression(ExpressionPart::Whole))
             }
             Sort::BlockStart => {
-                let outer = self.take_held(alloc);
+                let outer = BoxedComments::new(alloc, self.take_held(alloc))?;
                 self.push(Part::Sequence(SequencePart::Statements {
                     enclosure: Enclosure::Block { from, outer },
                     count: 0,
@@ -44,13 +44,14 @@ impl Reader {
     pub fn begin_expression(&mut self, alloc: Global, token: Token<'_>) -> Result<(), Memory>
         ensures { IfOk result (λ _. self.new ≡ begin_expression (seen token.entry) token.entry.from token.entry.to self.old) }
     {
-        let from = token.from;
+        let from = place(token.from)?;
         match token.sort {
             Sort::Name | Sort::Super => {
+                let to = place(token.to)?;
                 let name = Text::from_slice(alloc, token.text)?;
                 self.push(Part::Expression(ExpressionPart::BehindName {
                     from,
-                    to: token.to,
+                    to,
                     name,
                 }))
             }
@@ -72,12 +73,10 @@ impl Reader {
     {
         match token.sort {
             Sort::Name | Sort::Super => {
+                let from = place(token.from)?;
+                let to = place(token.to)?;
                 let name = Text::from_slice(alloc, token.text)?;
-                self.emit(Event::Var {
-                    from: token.from,
-                    to: token.to,
-                    name,
-                })?;
+                self.emit(Event::Var { from, to, name })?;
                 self.push(Part::Message(part))
             }
             _ => {
@@ -91,8 +90,8 @@ impl Reader {
     fn take_behind_name(
         &mut self,
         alloc: Global,
-        from: usize,
-        to: usize,
+        from: u32,
+        to: u32,
         name: Text,
         token: Token<'_>,
     ) -> Result<(), Memory>
@@ -120,7 +119,7 @@ impl Reader {
     ) -> Result<(), Memory>
         ensures { IfOk result (λ _. self.new ≡ expression_taken part (seen token.entry) token.entry.from token.entry.to self.old) }
     {
-        let from = token.from;
+        let from = place(token.from)?;
         match part {
             ExpressionPart::Whole => self.begin_expression(alloc, token),
             ExpressionPart::BinaryArgument => self.begin_argument(

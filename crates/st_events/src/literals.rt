@@ -94,7 +94,7 @@ impl Reader {
     }
 
     /// An element of an array behind so many others, or the mark that closes it.
-    fn take_element(&mut self, alloc: Global, count: usize, token: Token<'_>) -> Result<(), Memory>
+    fn take_element(&mut self, alloc: Global, count: u32, token: Token<'_>) -> Result<(), Memory>
         ensures { IfOk result (λ _. self.new ≡ element_taken count (seen token.entry) self.old) }
     {
         match token.sort {
@@ -108,7 +108,7 @@ impl Reader {
     }
 
     /// A number of a byte array behind so many others, or the mark that closes it.
-    fn take_byte(&mut self, alloc: Global, count: usize, token: Token<'_>) -> Result<(), Memory>
+    fn take_byte(&mut self, alloc: Global, count: u32, token: Token<'_>) -> Result<(), Memory>
         ensures { IfOk result (λ _. self.new ≡ literal_taken (LiteralPart.Bytes count) (seen token.entry) self.old) }
     {
         match token.sort {

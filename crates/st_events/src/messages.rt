@@ -5,7 +5,7 @@ ghost use Rattle.st_events.specs.Steps.{emitted, pushed, message_event, recast, 
 ghost use Rattle.st_events.specs.Tokens.{seen};
 
 use crate::part::{ExpressionPart, MessagePart, Part};
-use crate::reader::{Reader, one_more};
+use crate::reader::{Reader, one_more, place};
 use crate::token::Token;
 use parse_events::{Event, Events};
 use rb_base::{Memory, Text};
@@ -13,15 +13,15 @@ use st_faults::Sort;
 use std::alloc::Global;
 
 /// The message of so many arguments to a receiver, or of a cascade where there is none.
-pub fn message_event(from: Option<usize>, to: usize, selector: Text, arguments: usize) -> Event
+pub fn message_event(from: Option<u32>, to: u32, selector: Text, arguments: u32) -> Event
     ensures { result ≡ message_event from to selector arguments }
 {
     match from {
         Some(from) => Event::Send {
             from,
             to,
-            selector,
             arguments,
+            selector,
         },
         None => Event::Message {
             selector,
@@ -63,17 +63,18 @@ impl Reader {
         &mut self,
         alloc: Global,
         part: MessagePart,
-        from: usize,
+        from: u32,
         token: Token<'_>,
     ) -> Result<(), Memory>
-        ensures { IfOk result (λ _. self.new ≡ pushed (Part.Message part) (emitted (event.Send from token.entry.to token.entry.text.now 0) self.old)) }
+        ensures { IfOk result (λ _. self.new ≡ pushed (Part.Message part) (emitted (event.Send from token.entry.to 0 token.entry.text.now) self.old)) }
     {
         let selector = Text::from_slice(alloc, token.text)?;
+        let to = place(token.to)?;
         self.emit(Event::Send {
             from,
-            to: token.to,
-            selector,
+            to,
             arguments: 0,
+            selector,
         })?;
         self.push(Part::Message(part))
     }
@@ -83,7 +84,7 @@ impl Reader {
         &mut self,
         alloc: Global,
         part: MessagePart,
-        from: usize,
+        from: u32,
         token: Token<'_>,
     ) -> Result<(), Memory>
         ensures { IfOk result (λ _. self.new ≡ pushed (Part.Expression ExpressionPart.BinaryArgument) (pushed (Part.Message (MessagePart.BehindArgument (Some from) token.entry.text.now)) (pushed (Part.Message part) self.old))) }
@@ -101,10 +102,10 @@ impl Reader {
     fn keywords(
         &mut self,
         alloc: Global,
-        from: Option<usize>,
+        from: Option<u32>,
         token: Token<'_>,
     ) -> Result<(), Memory>
-        ensures { IfOk result (λ _. self.new ≡ pushed (Part.Expression ExpressionPart.KeywordArgument) (pushed (Part.Message (MessagePart.BehindKeyword from token.entry.text.now 1)) self.old)) }
+        ensures { IfOk result (λ _. self.new ≡ pushed (Part.Expression ExpressionPart.KeywordArgument) (pushed (Part.Message (MessagePart.BehindKeyword from 1 token.entry.text.now)) self.old)) }
     {
         let selector = Text::from_slice(alloc, token.text)?;
         self.push(Part::Message(MessagePart::BehindKeyword {
@@ -119,7 +120,7 @@ impl Reader {
     pub fn take_message(
         &mut self,
         alloc: Global,
-        from: usize,
+        from: u32,
         token: Token<'_>,
     ) -> Result<(), Memory>
         ensures { IfOk result (λ _. self.new ≡ message_taken from (seen token.entry) token.entry.to self.old) }
@@ -149,7 +150,7 @@ impl Reader {
     fn take_of_keyword(
         &mut self,
         alloc: Global,
-        from: usize,
+        from: u32,
         token: Token<'_>,
     ) -> Result<(), Memory>
         ensures { IfOk result (λ _. self.new ≡ operator_taken (Part.Message (MessagePart.OfKeyword from)) from (seen token.entry) token.entry.to self.old) }
@@ -172,7 +173,7 @@ impl Reader {
     }
 
     /// A unary message in a binary message's argument that begins at a place.
-    fn take_of_binary(&mut self, alloc: Global, from: usize, token: Token<'_>) -> Result<(), Memory>
+    fn take_of_binary(&mut self, alloc: Global, from: u32, token: Token<'_>) -> Result<(), Memory>
         ensures { IfOk result (λ _. self.new ≡ operator_taken (Part.Message (MessagePart.OfBinary from)) from (seen token.entry) token.entry.to self.old) }
     {
         match token.sort {
@@ -220,12 +221,12 @@ impl Reader {
     /// A further keyword of a message.
     fn take_keyword(
         &mut self,
-        from: Option<usize>,
+        from: Option<u32>,
         selector: Text,
-        arguments: usize,
+        arguments: u32,
         token: Token<'_>,
     ) -> Result<(), Memory>
-        ensures { IfOk result (λ _. self.new ≡ messages_taken (MessagePart.BehindKeyword from selector arguments) (seen token.entry) token.entry.to self.old) }
+        ensures { IfOk result (λ _. self.new ≡ messages_taken (MessagePart.BehindKeyword from arguments selector) (seen token.entry) token.entry.to self.old) }
     {
         match token.sort {
             Sort::Keyword | Sort::PrimitiveKeyword => {
@@ -244,7 +245,7 @@ impl Reader {
     }
 
     /// A further semicolon of a cascade.
-    fn take_semicolon(&mut self, from: usize, messages: usize) -> Result<(), Memory>
+    fn take_semicolon(&mut self, from: u32, messages: u32) -> Result<(), Memory>
         ensures { IfOk result (λ _. self.new ≡ pushed (Part.Message MessagePart.InCascade) (pushed (Part.Message (MessagePart.BehindCascade from (messages + 1))) self.old)) }
     {
         let messages = one_more(messages)?;

@@ -1,8 +1,7 @@
 // What a reader awaits, in order.
 
-use parse_events::Declarations;
+use parse_events::{BoxedComments, Declarations};
 use rb_base::Text;
-use st_tree::Comments;
 
 /// What may come next in a text. Each part takes tokens, or is over at a token that it does not take.
 #[derive(Drop)]
@@ -31,9 +30,9 @@ pub enum ExpressionPart {
     /// The argument of a keyword.
     KeywordArgument,
     /// Behind the first name of an expression: a variable, or the target of an assignment.
-    BehindName { from: usize, to: usize, name: Text },
+    BehindName { from: u32, to: u32, name: Text },
     /// Behind the value of an assignment.
-    BehindValue { from: usize },
+    BehindValue { from: u32 },
 }
 
 /// Messages. `from` is where the receiver begins.
@@ -41,33 +40,33 @@ pub enum ExpressionPart {
 pub enum MessagePart {
     /// The messages of an expression, and its cascade.
     All {
-        from: usize,
+        from: u32,
     },
     /// The messages of a keyword's argument.
     OfKeyword {
-        from: usize,
+        from: u32,
     },
     /// The messages of a binary message's argument.
     OfBinary {
-        from: usize,
+        from: u32,
     },
     /// Behind the argument of a binary message, which stands in a cascade where there is no `from`.
     BehindArgument {
-        from: Option<usize>,
+        from: Option<u32>,
         selector: Text,
     },
     /// Behind an argument of a keyword message, which stands in a cascade where there is no `from`.
     BehindKeyword {
-        from: Option<usize>,
+        from: Option<u32>,
+        arguments: u32,
         selector: Text,
-        arguments: usize,
     },
     /// A message behind a semicolon.
     InCascade,
     /// Behind a message of a cascade, of so many messages up to there.
     BehindCascade {
-        from: usize,
-        messages: usize,
+        from: u32,
+        messages: u32,
     },
 }
 
@@ -77,13 +76,13 @@ pub enum LiteralPart {
     /// The numeral behind a sign.
     Numeral { sign: Text },
     /// The elements of an array, of which there were so many.
-    Elements { count: usize },
+    Elements { count: u32 },
     /// Behind a keyword among the elements of an array.
     BehindKeyword { symbol: Text },
     /// The numbers of a byte array, of which there were so many.
-    Bytes { count: usize },
+    Bytes { count: u32 },
     /// Behind a literal that is an operand and begins at `from`.
-    BehindOperand { from: usize },
+    BehindOperand { from: u32 },
 }
 
 /// What a block declares.
@@ -116,20 +115,20 @@ pub enum Enclosure {
     /// In no block.
     Text,
     /// In a block that begins at `from`. The comments before it wait until it is over.
-    Block { from: usize, outer: Comments },
+    Block { from: u32, outer: BoxedComments },
 }
 
 /// Statements, brace arrays and closing marks.
 #[derive(Drop)]
 pub enum SequencePart {
     /// Statements, of which so many began.
-    Statements { enclosure: Enclosure, count: usize },
+    Statements { enclosure: Enclosure, count: u32 },
     /// Behind a statement that begins at `from`.
-    BehindStatement { from: usize },
+    BehindStatement { from: u32 },
     /// Behind the value of a return that begins at `from`.
-    BehindReturn { from: usize },
+    BehindReturn { from: u32 },
     /// The expressions of a brace array that begins at `from`, of which so many began.
-    Items { from: usize, count: usize },
+    Items { from: u32, count: u32 },
     /// A mark that says nothing.
     Mark,
 }

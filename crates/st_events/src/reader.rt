@@ -68,10 +68,18 @@ pub struct Head {
 
 /// A number and one.
 #[inline]
-pub fn one_more(count: usize) -> Result<usize, Memory>
+pub fn one_more(count: u32) -> Result<u32, Memory>
     ensures { IfOk result (λ more. more ≡ count + 1) }
 {
     count.checked_add(1).ok_or(Memory)
+}
+
+/// A place in four bytes. A text of less than 4 GiB has no other.
+#[inline]
+pub fn place(at: usize) -> Result<u32, Memory>
+    ensures { IfOk result (λ p. p ≡ at) }
+{
+    u32::try_from(at).map_err(|_| Memory)
 }
 
 /// Appends the name of a token to declarations.
@@ -82,11 +90,9 @@ pub fn declare(
 ) -> Result<(), Memory>
     ensures { IfOk result (λ _. declarations.new ≡ declared declarations.old token.entry.text.now token.entry.from) }
 {
+    let from = place(token.from)?;
     let name = Text::from_slice(alloc, token.text)?;
-    declarations.push(Declaration {
-        name,
-        from: token.from,
-    })
+    declarations.push(Declaration { name, from })
 }
 
 /// A reader of a text.
@@ -99,7 +105,7 @@ pub struct Reader {
     /// The comments that belong to nothing yet.
     pub held: Comments,
     /// The place behind the last token, in bytes from the text's start.
-    pub last: usize,
+    pub last: u32,
     /// What was found outside of statements.
     pub head: Head,
 }
@@ -131,7 +137,7 @@ impl Reader {
     }
 
     /// A statement is over, and the comments that are held are its own.
-    pub fn state(&mut self, alloc: Global, from: usize) -> Result<(), Memory>
+    pub fn state(&mut self, alloc: Global, from: u32) -> Result<(), Memory>
         ensures { IfOk result (λ _. self.new ≡ stated from self.old) }
     {
         let comments = self.take_held(alloc);

@@ -8,7 +8,7 @@ ghost use Rattle.st_events.specs.Steps.{advanced, taken, passed, step};
 ghost use Rattle.st_events.specs.Tokens.{seen};
 
 use crate::part::Part;
-use crate::reader::Reader;
+use crate::reader::{Reader, place};
 use crate::takes::takes;
 use crate::token::Token;
 use rb_base::Memory;
@@ -71,7 +71,7 @@ impl Reader {
     {
         'parts: loop {
             let part = self.stack.pop().ok_or(Memory)?;
-            if takes(&part, sort, from == self.last) {
+            if takes(&part, sort, from == self.last as usize) {
                 return Ok(part);
             }
             self.pass(alloc, part)?;
@@ -84,12 +84,12 @@ impl Reader {
         ensures { IfOk result (λ _. self.new ≡ advanced notes to self.old) }
     {
         append(alloc, &mut self.held, notes)?;
-        self.last = to;
+        self.last = place(to)?;
         Ok(())
     }
 
     /// Reads a token with these comments before it.
-    #[inline]
+    #[inline(always)]
     pub fn read(&mut self, alloc: Global, token: Token<'_>, notes: Comments) -> Result<(), Memory>
         ensures { IfOk result (λ _. self.new ≡ step self.old.stack self.old (lex notes token.entry.from token.entry.to (seen token.entry))) }
     {

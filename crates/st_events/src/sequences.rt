@@ -4,9 +4,9 @@ ghost use Rattle.st_events.specs.Steps.{closed, begun, statement_taken, item_tak
 ghost use Rattle.st_events.specs.Tokens.{seen};
 
 use crate::part::{Enclosure, ExpressionPart, Part, SequencePart};
-use crate::reader::{Reader, one_more};
+use crate::reader::{Reader, one_more, place};
 use crate::token::Token;
-use parse_events::Event;
+use parse_events::{BoxedComments, Event};
 use rb_base::Memory;
 use st_faults::Sort;
 use std::alloc::Global;
@@ -18,8 +18,8 @@ impl Reader {
         &mut self,
         alloc: Global,
         enclosure: Enclosure,
-        statements: usize,
-        to: usize,
+        statements: u32,
+        to: u32,
     ) -> Result<(), Memory>
         ensures { IfOk result (λ _. self.new ≡ closed enclosure statements to self.old) }
     {
@@ -29,7 +29,8 @@ impl Reader {
                 Ok(())
             }
             Enclosure::Block { from, outer } => {
-                let tail = mem::replace(&mut self.held, outer);
+                let tail = mem::replace(&mut self.held, outer.into_comments());
+                let tail = BoxedComments::new(alloc, tail)?;
                 self.emit(Event::Block {
                     from,
                     to,
@@ -44,8 +45,8 @@ impl Reader {
     fn begin_statement(
         &mut self,
         enclosure: Enclosure,
-        count: usize,
-        from: usize,
+        count: u32,
+        from: u32,
     ) -> Result<(), Memory>
         ensures { IfOk result (λ _. self.new ≡ begun enclosure count from self.old) }
     {
@@ -59,12 +60,12 @@ impl Reader {
         &mut self,
         alloc: Global,
         enclosure: Enclosure,
-        count: usize,
+        count: u32,
         token: Token<'_>,
     ) -> Result<(), Memory>
         ensures { IfOk result (λ _. self.new ≡ statement_taken enclosure count (seen token.entry) token.entry.from token.entry.to self.old) }
     {
-        let from = token.from;
+        let from = place(token.from)?;
         match token.sort {
             Sort::Period => self.push(Part::Sequence(SequencePart::Statements {
                 enclosure,
@@ -75,9 +76,10 @@ impl Reader {
                 self.push(Part::Sequence(SequencePart::BehindReturn { from }))?;
                 self.push(Part::Expression(ExpressionPart::Whole))
             }
-            Sort::GroupEnd | Sort::BlockEnd | Sort::BraceEnd | Sort::TextEnd => self.close(
-                alloc, enclosure, count, token.to,
-            ),
+            Sort::GroupEnd | Sort::BlockEnd | Sort::BraceEnd | Sort::TextEnd => {
+                let to = place(token.to)?;
+                self.close(alloc, enclosure, count, to)
+            }
             _ => {
                 self.begin_statement(enclosure, count, from)?;
                 self.begin_expression(alloc, token)
@@ -89,21 +91,22 @@ impl Reader {
     fn take_item(
         &mut self,
         alloc: Global,
-        from: usize,
-        count: usize,
+        from: u32,
+        count: u32,
         token: Token<'_>,
     ) -> Result<(), Memory>
         ensures { IfOk result (λ _. self.new ≡ item_taken from count (seen token.entry) token.entry.from token.entry.to self.old) }
     {
         match token.sort {
             Sort::Period => self.push(Part::Sequence(SequencePart::Items { from, count })),
-            Sort::GroupEnd | Sort::BlockEnd | Sort::BraceEnd | Sort::TextEnd => self.emit(
-                Event::Brace {
+            Sort::GroupEnd | Sort::BlockEnd | Sort::BraceEnd | Sort::TextEnd => {
+                let to = place(token.to)?;
+                self.emit(Event::Brace {
                     from,
-                    to: token.to,
+                    to,
                     items: count,
-                },
-            ),
+                })
+            }
             _ => {
                 let count = one_more(count)?;
                 self.push(Part::Sequence(SequencePart::Items { from, count }))?;

@@ -43,7 +43,7 @@ pub returns-in_ok-number_of-in-Var-clause-built : goal.returns-in_ok-number_of-i
 returns-in_ok-number_of-in-Var-clause-built c = at_event c.variable.result c.args.event (event.Var c.in-Var.from c.in-Var.to c.in-Var.name) c.in-Var.is (builds_var c.in-Var.from c.in-Var.to c.in-Var.name c.in_ok-number_of-in-Var.field-0 c.in_ok-number_of-in-Var.ensures.number) c.variable.ensures
 
 pub returns-in_ok-number_of-in-Send-clause-built : goal.returns-in_ok-number_of-in-Send-clause-built
-returns-in_ok-number_of-in-Send-clause-built c = at_event c.send.result c.args.event (event.Send c.in-Send.from c.in-Send.to c.in-Send.selector c.in-Send.arguments) c.in-Send.is (builds_send c.in-Send.from c.in-Send.to c.in-Send.selector c.in-Send.arguments c.in_ok-number_of-in-Send.field-0 c.in_ok-number_of-in-Send.ensures.number) c.send.ensures
+returns-in_ok-number_of-in-Send-clause-built c = at_event c.send.result c.args.event (event.Send c.in-Send.from c.in-Send.to c.in-Send.arguments c.in-Send.selector) c.in-Send.is (builds_send c.in-Send.from c.in-Send.to c.in-Send.selector c.in-Send.arguments c.in_ok-number_of-in-Send.field-0 c.in_ok-number_of-in-Send.ensures.number) c.send.ensures
 
 pub returns-in_ok-number_of-in-Message-clause-built : goal.returns-in_ok-number_of-in-Message-clause-built
 returns-in_ok-number_of-in-Message-clause-built c = at_event c.message.result c.args.event (event.Message c.in-Message.selector c.in-Message.arguments) c.in-Message.is (builds_message c.in-Message.selector c.in-Message.arguments c.in_ok-number_of-in-Message.field-0 c.in_ok-number_of-in-Message.ensures.number) c.message.ensures
