@@ -1,13 +1,10 @@
 -- Tokens of any text that were read for their brackets and by the machine of the grammar at once.
 use Rattle.std.proofs.Common.{◌≡◌, ◌≢◌, ℕ, inl, inr, List, [], ◌∷◌, Some, None, refl, sym, ◌∙◌, ap, subst}
-use Rattle.token_model.specs.declared.kind.Dialect.TheVariants.{Second}
 use Rattle.tree_model.specs.Tree.{LiteralOf}
 use Rattle.grammar_model.specs.Terminal.{Text}
 use Rattle.grammar_model.specs.Input as input
 use Rattle.grammar_model.specs.Input.{lex}
-use Rattle.grammar_model.specs.Lexemes.{IsLexed}
 use Rattle.grammar_model.specs.Whole.{Form}
-use Rattle.grammar_model.specs.Checks.{first_deep}
 use Rattle.grammar_model.specs.Machine.{Stack, start, step, run}
 use Rattle.grammar_model.proofs.Stacks.{IsNil, IsGood, GoodIfSome}
 use Rattle.grammar_model.proofs.Steps.{good_step, EmptyIfSome, good_end}
@@ -21,20 +18,9 @@ use Rattle.st_faults.specs.Sorts.{terminal}
 use Rattle.st_faults.specs.Lexing.{IsLexedFrom, IsFirst}
 use Rattle.st_faults.specs.Depths.{deep_behind}
 use Rattle.st_faults.specs.Faults.{IsRead}
+use Rattle.st_faults.specs.Judging.{Whole, Together}
 use Rattle.st_faults.proofs.Scanning.{Leads}
 use Rattle.st_faults.proofs.Reading.{goes_behind, run_nil}
-
--- the tokens of the text: how deep their brackets are, and where they lead the machine
-pub record Whole (form : Form) (t : Text) (d : Depth) (ss : Stack) (ts : List input.Lexeme) : Type 0 where
-  pub tokens : List input.Lexeme
-  pub lexed : IsLexed Second t tokens
-  pub depth : first_deep 0 tokens ≡ deep_behind d ts
-  pub same : run (start form) tokens ≡ run ss ts
-
--- the tokens up to a place lead to a depth and to a stack
-pub record Together (form : Form) (t : Text) (at : ℕ) (d : Depth) (ss : Stack) : Type 0 where
-  pub whole : (ts : List input.Lexeme) → IsLexedFrom t at [] ts → Whole form t d ss ts
-  pub good : IsGood ss
 
 -- a token of the sort leads from one stack to another
 abbrev pub Moves : Lexeme → Stack → Stack → Type 0

@@ -1,7 +1,7 @@
 -- The forms of texts, as the program has them.
 use Rattle.grammar_model.specs.Whole as grammar
-use Rattle.st_faults.specs.declared.check.TextForm.{TextForm}
-use Rattle.st_faults.specs.declared.check.TextForm.TheVariants.{DoIt, Method}
+use Rattle.st_faults.specs.declared.form.TextForm.{TextForm}
+use Rattle.st_faults.specs.declared.form.TextForm.TheVariants.{DoIt, Method}
 
 -- the form of the grammar
 abbrev pub form_of : TextForm → grammar.Form

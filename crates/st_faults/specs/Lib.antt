@@ -7,3 +7,4 @@ pub mod Faults
 pub mod Depths
 pub mod Forms
 pub mod Words
+pub mod Judging

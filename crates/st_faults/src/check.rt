@@ -1,54 +1,24 @@
-ghost use Rattle.std.specs.Prelude.{◌≡◌, ◌≤◌, true, List, [], ◌∷◌, length, Some, IfOk, IfErr};
+ghost use Rattle.std.specs.Prelude.{◌≡◌, ◌≤◌, List, [], ◌∷◌, length, Some, IfOk, IfErr};
 ghost use Rattle.tree_model.specs.Tree.{Notes, LiteralOf};
 ghost use Rattle.grammar_model.specs.Terminal.{Text, Binary, Less};
 ghost use Rattle.grammar_model.specs.Input as input;
 ghost use Rattle.grammar_model.specs.Input.{lex, first_kind};
 ghost use Rattle.grammar_model.specs.Whole.{DoIt, Method};
-ghost use Rattle.grammar_model.specs.Machine.{start, wish, may_start, is_user, is_primitive, fault_at};
+ghost use Rattle.grammar_model.specs.Machine.{start, wish, may_start, is_primitive, fault_at};
 ghost use Rattle.st_faults.specs.Sorts.{terminal};
 ghost use Rattle.st_faults.specs.Lexing.{IsLexedFrom, IsBehind};
 ghost use Rattle.st_faults.specs.Stacks.{stack_of};
 ghost use Rattle.st_faults.specs.Forms.{form_of};
 ghost use Rattle.st_faults.specs.Faults.{fault_of, IsClean, IsRead, IsRefused};
 
-use crate::brackets::{Depth, depth_behind, is_too_deep, scan};
+use crate::brackets::scan;
 use crate::fault::ParseFault;
+use crate::form::{TextForm, is_user, start};
 use crate::lexeme::{Lexeme, next_lexeme};
-use crate::part::{ClosingPart, MethodPart, Part, SequencePart};
+use crate::part::Part;
 use crate::sort::Sort;
 use crate::stack::{may_start, read, wanted};
-use rb_base::Memory;
 use std::alloc::Global;
-
-/// What a text is to be.
-#[derive(Clone, Copy)]
-enum TextForm {
-    /// A do-it.
-    DoIt,
-    /// A method, of the kernel or not.
-    Method(bool),
-}
-
-/// The stack before a text.
-fn start(alloc: Global, form: TextForm) -> Result<Vec<Part>, Memory>
-    ensures { IfOk result (λ stack. stack_of stack.items ≡ start (form_of form)) }
-{
-    let first = match form {
-        TextForm::DoIt => Part::Sequence(SequencePart::Whole),
-        TextForm::Method(kernel) => Part::Method(MethodPart::Pattern(kernel)),
-    };
-    Ok(vec![in alloc; Part::Awaits(ClosingPart::Text), first]?)
-}
-
-/// Whether the text is a user's.
-fn is_user(form: TextForm) -> bool
-    ensures { result ≡ is_user (form_of form) }
-{
-    match form {
-        TextForm::DoIt => true,
-        TextForm::Method(kernel) => !kernel,
-    }
-}
 
 /// Whether the first token from a place of a clean text on is the keyword of primitives.
 fn has_primitive_keyword(text: &[u8], at: usize) -> bool
@@ -113,51 +83,14 @@ fn read_all(text: &[u8], form: TextForm, stack: &mut Vec<Part>) -> Result<(), Pa
     }
 }
 
-/// Reads the tokens of a text up to its end, or up to the first at which it has a fault, and tells whether it has none.
-fn is_read(text: &[u8], form: TextForm, stack: &mut Vec<Part>) -> Result<bool, Memory>
-    requires { stack_of stack.old.items ≡ start (form_of form) }
-    ensures { IfOk result (λ read. read ≡ true → IsRead (form_of form) text.now) }
-{
-    let mut place = 0;
-    let mut depth = Depth::Open(0);
-    'tokens: loop {
-        let Ok(lexeme) = next_lexeme(text, place) else {
-            return Ok(false);
-        };
-        depth = depth_behind(depth, lexeme);
-        if is_too_deep(depth) {
-            return Ok(false);
-        }
-        if !read(stack, lexeme.sort)? {
-            return Ok(false);
-        }
-        match lexeme.sort {
-            Sort::TextEnd => return Ok(true),
-            _ => place = lexeme.to,
-        }
-    }
-}
-
 /// Whether a text is of the form by the grammar, or its first fault: of its tokens and brackets, and then by the grammar.
-fn judge(alloc: Global, text: &[u8], form: TextForm) -> Result<(), ParseFault>
+fn check(alloc: Global, text: &[u8], form: TextForm) -> Result<(), ParseFault>
     ensures read { IfOk result (λ _. IsRead (form_of form) text.now) }
     ensures fault { IfErr result (IsRefused (form_of form) text.now) }
 {
     scan(text)?;
     let mut stack = start(alloc, form)?;
     read_all(text, form, &mut stack)
-}
-
-/// Whether a text is of the form by the grammar. A text without a fault is read once.
-fn check(alloc: Global, text: &[u8], form: TextForm) -> Result<(), ParseFault>
-    ensures read { IfOk result (λ _. IsRead (form_of form) text.now) }
-    ensures fault { IfErr result (IsRefused (form_of form) text.now) }
-{
-    let mut stack = start(alloc, form)?;
-    if is_read(text, form, &mut stack)? {
-        return Ok(());
-    }
-    judge(alloc, text, form)
 }
 
 /// Whether a text is a do-it by the grammar: it has no lexical fault, at most 400 open brackets, and no token that can

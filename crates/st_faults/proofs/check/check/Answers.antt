@@ -1,7 +1,7 @@
 use Rattle.std.proofs.lemmas.Result.{err_from_is_err_and}
 use Rattle.st_faults.specs.Forms.{form_of}
 use Rattle.st_faults.proofs.Scanning.{refused}
-use Rattle.st_faults.proofs.check.judge.Goals as goal
+use Rattle.st_faults.proofs.check.check.Goals as goal
 
 pub returns-in_err-scan-clause-fault : goal.returns-in_err-scan-clause-fault
 returns-in_err-scan-clause-fault c =

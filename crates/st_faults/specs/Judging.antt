@@ -1,0 +1,31 @@
+-- What is known of a text whose tokens were read up to a place and had no fault.
+use Rattle.std.specs.Prelude.{◌≡◌, ℕ, List, []}
+use Rattle.token_model.specs.declared.kind.Dialect.TheVariants.{Second}
+use Rattle.grammar_model.specs.Terminal.{Text}
+use Rattle.grammar_model.specs.Input.{Lexeme}
+use Rattle.grammar_model.specs.Lexemes.{IsLexed}
+use Rattle.grammar_model.specs.Whole.{Form}
+use Rattle.grammar_model.specs.Checks.{first_deep}
+use Rattle.grammar_model.specs.Machine.{Stack, start, run}
+use Rattle.grammar_model.proofs.Stacks.{IsGood}
+use Rattle.st_faults.specs.declared.brackets.Depth.{Depth}
+use Rattle.st_faults.specs.declared.judging.Judgement.{Judgement}
+use Rattle.st_faults.specs.Stacks.{stack_of}
+use Rattle.st_faults.specs.Lexing.{IsLexedFrom}
+use Rattle.st_faults.specs.Depths.{deep_behind}
+
+-- the tokens of the text, of which these are left: how deep their brackets are, and where they lead the machine
+pub record Whole (form : Form) (t : Text) (d : Depth) (ss : Stack) (ts : List Lexeme) : Type 0 where
+  pub tokens : List Lexeme
+  pub lexed : IsLexed Second t tokens
+  pub depth : first_deep 0 tokens ≡ deep_behind d ts
+  pub same : run (start form) tokens ≡ run ss ts
+
+-- the tokens up to a place lead to a depth and to a stack of the machine
+pub record Together (form : Form) (t : Text) (at : ℕ) (d : Depth) (ss : Stack) : Type 0 where
+  pub whole : (ts : List Lexeme) → IsLexedFrom t at [] ts → Whole form t d ss ts
+  pub good : IsGood ss
+
+-- the tokens up to a place were read, and have no fault
+abbrev pub IsReadTo : Form → Text → ℕ → Judgement → Type 0
+IsReadTo form t at j = Together form t at j.depth (stack_of j.stack.items)
