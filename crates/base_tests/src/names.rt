@@ -14,6 +14,33 @@ fn texts_are_copied(rt: HostRuntime) -> Result<(), Fail> {
 }
 
 #[test]
+fn short_and_long_texts_are_joined(rt: HostRuntime) -> Result<(), Fail> {
+    for (first, second, joined) in [
+        ("abcdefghijklmn", "", "abcdefghijklmn"),
+        ("abcdefghijklmno", "", "abcdefghijklmno"),
+        ("abcdefghij", "klmn", "abcdefghijklmn"),
+        ("abcdefghij", "klmno", "abcdefghijklmno"),
+        ("abcdefghijklmnopqrst", "u", "abcdefghijklmnopqrstu"),
+    ] {
+        let mut text = Text::from_slice(rt.alloc(), first.as_bytes())?;
+        text.push_slice(second.as_bytes())?;
+        assert!(rt; text.as_slice() == joined.as_bytes());
+        assert!(rt; text.try_copy(rt.alloc())?.same(&text));
+    }
+    Ok(())
+}
+
+#[test]
+fn vectors_become_short_and_long_texts(rt: HostRuntime) -> Result<(), Fail> {
+    for bytes in ["", "abcdefghijklmn", "abcdefghijklmno"] {
+        let vector = Vec::from_slice(rt.alloc(), bytes.as_bytes())?;
+        let text = Text::from_vec(rt.alloc(), vector)?;
+        assert!(rt; text.as_slice() == bytes.as_bytes());
+    }
+    Ok(())
+}
+
+#[test]
 fn lists_of_names_are_copied(rt: HostRuntime) -> Result<(), Fail> {
     let mut names = Ids::new(rt.alloc());
     names.push(NameId(7))?;
