@@ -1,13 +1,14 @@
 // The events of whole texts.
-ghost use Rattle.std.specs.Prelude.{◌≡◌, List, [], ◌∷◌, IfOk};
+ghost use Rattle.std.specs.Prelude.{◌≡◌, true, List, [], ◌∷◌, IfOk, IfSome};
 ghost use Rattle.token_model.specs.declared.kind.Dialect.TheVariants.{Second};
-ghost use Rattle.grammar_model.specs.Input.{Lexeme};
+ghost use Rattle.grammar_model.specs.Input as input;
 ghost use Rattle.grammar_model.specs.Spanned.{SpannedSequence, SpannedMethod};
 ghost use Rattle.grammar_model.specs.Ahead.{Longest};
-ghost use Rattle.grammar_model.specs.Whole.{DoIt, Method, IsDoIt, IsMethod};
+ghost use Rattle.grammar_model.specs.Whole.{Form, DoIt, Method, IsDoIt, IsMethod};
 ghost use Rattle.grammar_model.specs.Lexemes.{IsLexed};
 ghost use Rattle.parse_events.specs.Found.{sequence_events, method_events};
 ghost use Rattle.st_faults.specs.Faults.{IsRead};
+ghost use Rattle.st_faults.specs.Judging.{IsReadTo};
 ghost use Rattle.st_events.specs.Steps.{run};
 ghost use Rattle.st_events.specs.Starts.{doit_start, method_start, head_of, beginning_with, sequence_of, method_of};
 
@@ -16,7 +17,7 @@ use crate::reader::{Head, Reader, Stack};
 use crate::tokens::next_token;
 use parse_events::{Declarations, Events, MethodEvents, SequenceEvents};
 use rb_base::{Memory, Text};
-use st_faults::Sort;
+use st_faults::{Judgement, Lexeme, Sort};
 use st_tree::Comments;
 use std::alloc::Global;
 
@@ -77,17 +78,33 @@ fn method_reader(alloc: Global, text: &[u8]) -> Result<Reader, Memory>
     Ok(reader)
 }
 
-/// Reads all tokens of a text.
-fn read_all(alloc: Global, text: &[u8], reader: &mut Reader) -> Result<(), Memory>
-    ensures { IfOk result (λ _. (ts : List Lexeme) → IsLexed Second text.now ts → reader.new ≡ run reader.old ts) }
+/// Reads the tokens of a text up to its end, or up to the first at which it has a fault, and tells whether it has none.
+fn read_all(
+    alloc: Global,
+    text: &[u8],
+    judgement: &mut Judgement,
+    reader: &mut Reader,
+) -> Result<bool, Memory>
+    ensures read { IfOk result (λ read. read ≡ true → (form : Form) → IsReadTo form text.now 0 judgement.old → IsRead form text.now) }
+    ensures found { IfOk result (λ read. read ≡ true → (ts : List input.Lexeme) → IsLexed Second text.now ts → reader.new ≡ run reader.old ts) }
 {
     let mut place = 0;
     'tokens: loop {
         let mut notes = Comments::new(alloc);
-        let token = next_token(alloc, text, place, &mut notes)?;
+        let Some(token) = next_token(alloc, text, place, &mut notes)? else {
+            return Ok(false);
+        };
+        let lexeme = Lexeme {
+            sort: token.sort,
+            from: token.from,
+            to: token.to,
+        };
+        if !judgement.takes(lexeme)? {
+            return Ok(false);
+        }
         reader.read(alloc, token, notes)?;
         match token.sort {
-            Sort::TextEnd => return Ok(()),
+            Sort::TextEnd => return Ok(true),
             _ => place = token.to,
         }
     }
@@ -136,26 +153,36 @@ fn found_method(reader: Reader) -> MethodEvents
     }
 }
 
-/// What a do-it spells, in the order in which its tree is built. The text is one that `check_doit` of st_faults accepts.
-/// The memory that it takes from `alloc`, and its time, are linear in the text; where memory is wanting, it answers
-/// `Memory`.
-pub fn doit_events(alloc: Global, text: &[u8]) -> Result<SequenceEvents, Memory>
-    requires { IsRead DoIt text.now }
-    ensures { IfOk result (λ found. (ts : List Lexeme) (s : SpannedSequence) → IsLexed Second text.now ts → IsDoIt Longest ts s → found ≡ sequence_events s) }
+/// What a do-it spells, in the order in which its tree is built, or `None` where the text has a fault that `check_doit`
+/// of st_faults tells. The memory that it takes from `alloc`, and its time, are linear in the text; where memory is
+/// wanting, it answers `Memory`.
+pub fn doit_events(alloc: Global, text: &[u8]) -> Result<Option<SequenceEvents>, Memory>
+    ensures read { IfOk result (λ found. IfSome found (λ _. IsRead DoIt text.now)) }
+    ensures found { IfOk result (λ found. IfSome found (λ found. (ts : List input.Lexeme) (s : SpannedSequence) → IsLexed Second text.now ts → IsDoIt Longest ts s → found ≡ sequence_events s)) }
 {
+    let mut judgement = Judgement::of_doit(alloc)?;
     let mut reader = doit_reader(alloc, text)?;
-    read_all(alloc, text, &mut reader)?;
-    Ok(found_sequence(reader))
+    if !read_all(alloc, text, &mut judgement, &mut reader)? {
+        return Ok(None);
+    }
+    Ok(Some(found_sequence(reader)))
 }
 
-/// What a method spells, of the kernel or not, in the order in which its tree is built. The text is one that
-/// `check_method` of st_faults accepts. The memory that it takes from `alloc`, and its time, are linear in the text;
-/// where memory is wanting, it answers `Memory`.
-pub fn method_events(alloc: Global, text: &[u8], kernel: bool) -> Result<MethodEvents, Memory>
-    requires { IsRead (Method kernel) text.now }
-    ensures { IfOk result (λ found. (ts : List Lexeme) (m : SpannedMethod) → IsLexed Second text.now ts → IsMethod Longest kernel ts m → found ≡ method_events m) }
+/// What a method spells, of the kernel or not, in the order in which its tree is built, or `None` where the text has a
+/// fault that `check_method` of st_faults tells. The memory that it takes from `alloc`, and its time, are linear in the
+/// text; where memory is wanting, it answers `Memory`.
+pub fn method_events(
+    alloc: Global,
+    text: &[u8],
+    kernel: bool,
+) -> Result<Option<MethodEvents>, Memory>
+    ensures read { IfOk result (λ found. IfSome found (λ _. IsRead (Method kernel) text.now)) }
+    ensures found { IfOk result (λ found. IfSome found (λ found. (ts : List input.Lexeme) (m : SpannedMethod) → IsLexed Second text.now ts → IsMethod Longest kernel ts m → found ≡ method_events m)) }
 {
+    let mut judgement = Judgement::of_method(alloc, kernel)?;
     let mut reader = method_reader(alloc, text)?;
-    read_all(alloc, text, &mut reader)?;
-    Ok(found_method(reader))
+    if !read_all(alloc, text, &mut judgement, &mut reader)? {
+        return Ok(None);
+    }
+    Ok(Some(found_method(reader)))
 }

@@ -1,9 +1,9 @@
 // The tokens of a text, with the comments before them.
-ghost use Rattle.std.specs.Prelude.{◌≡◌, ◌≢◌, ◌≤◌, ◌<◌, List, length, IfOk};
+ghost use Rattle.std.specs.Prelude.{◌≡◌, ◌≢◌, ◌≤◌, ◌<◌, List, length, IfOk, IfSome};
 ghost use Rattle.grammar_model.specs.Input.{Lexeme};
 ghost use Rattle.st_faults.specs.declared.sort.Sort.TheVariants.{TextEnd};
-ghost use Rattle.st_faults.specs.Lexing.{IsLexedFrom};
-ghost use Rattle.st_events.specs.Tokens.{Begins};
+ghost use Rattle.st_faults.specs.Lexing.{IsLexedFrom, IsFirst};
+ghost use Rattle.st_events.specs.Tokens.{lexeme_of, Begins};
 
 use crate::token::Token;
 use rb_base::{Memory, Text};
@@ -12,33 +12,34 @@ use st_tree::Comments;
 use std::alloc::Global;
 
 /// The first token from a place on that is no comment, behind the comments before it, which are appended. The place is at
-/// most the text's length, in bytes. A text of the grammar has one there.
+/// most the text's length, in bytes. `None` tells of a lexical fault behind these comments.
 #[inline]
 pub fn next_token<'t>(
     alloc: Global,
     text: &'t [u8],
     at: usize,
     notes: &mut Comments,
-) -> Result<Token<'t>, Memory>
+) -> Result<Option<Token<'t>>, Memory>
     requires { at ≤ length text.now }
-    ensures begins { IfOk result (λ token. (ts : List Lexeme) → IsLexedFrom text.now at notes.old ts → Begins text.now token notes.new ts) }
-    ensures inside { IfOk result (λ token. token.to ≤ length text.now) }
-    ensures further { IfOk result (λ token. token.sort ≢ TextEnd → at < token.to) }
+    ensures first { IfOk result (λ token. IfSome token (λ token. IsFirst text.now at (lexeme_of token))) }
+    ensures begins { IfOk result (λ token. IfSome token (λ token. (ts : List Lexeme) → IsLexedFrom text.now at notes.old ts → Begins text.now token notes.new ts)) }
+    ensures inside { IfOk result (λ token. IfSome token (λ token. token.to ≤ length text.now)) }
+    ensures further { IfOk result (λ token. IfSome token (λ token. token.sort ≢ TextEnd → at < token.to)) }
 {
     let mut place = at;
     'comments: loop {
         let Ok(token) = st_lexer::next_token(text, place) else {
-            return Err(Memory);
+            return Ok(None);
         };
         let before_numeral = begins_digit(text, token.to);
         if let Some(sort) = sort_of(token.kind, token.text, before_numeral) {
-            return Ok(Token {
+            return Ok(Some(Token {
                 sort,
                 kind: token.kind,
                 from: token.from,
                 to: token.to,
                 text: token.text,
-            });
+            }));
         }
         notes.push(Text::from_slice(alloc, token.text)?)?;
         place = token.to;

@@ -17,8 +17,10 @@ pub fn read_doit(alloc: Global, text: &[u8]) -> Result<SequenceEvents, ParseFaul
     ensures found { IfOk result (IsDoItFound text.now) }
     ensures fault { IfErr result (IsRefused DoIt text.now) }
 {
-    check_doit(alloc, text)?;
-    let found = doit_events(alloc, text)?;
+    let Some(found) = doit_events(alloc, text)? else {
+        check_doit(alloc, text)?;
+        return Err(ParseFault::Memory);
+    };
     let arguments = Declarations::new(alloc);
     check_tree(alloc, &arguments, &found)?;
     Ok(found)
@@ -30,8 +32,10 @@ pub fn read_method(alloc: Global, text: &[u8], kernel: bool) -> Result<MethodEve
     ensures found { IfOk result (IsMethodFound kernel text.now) }
     ensures fault { IfErr result (IsRefused (Method kernel) text.now) }
 {
-    check_method(alloc, text, kernel)?;
-    let found = method_events(alloc, text, kernel)?;
+    let Some(found) = method_events(alloc, text, kernel)? else {
+        check_method(alloc, text, kernel)?;
+        return Err(ParseFault::Memory);
+    };
     check_tree(alloc, &found.arguments, &found.body)?;
     Ok(found)
 }

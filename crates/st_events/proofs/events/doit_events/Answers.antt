@@ -1,8 +1,13 @@
 use Rattle.std.proofs.Common.{◌∙◌, ap}
+use Rattle.grammar_model.specs.Whole.{DoIt}
 use Rattle.st_events.specs.Steps.{run}
 use Rattle.st_events.specs.Starts.{sequence_of}
 use Rattle.st_events.proofs.WholeEvents.{law_DoIt}
 use Rattle.st_events.proofs.events.doit_events.Goals as goal
 
-pub returns : goal.returns
-returns c = λ ts s lexed d. c.found_sequence.ensures ∙ ap sequence_of (c.in_ok-read_all.ensures ts lexed ∙ ap (λ r. run r ts) c.in_ok-reader.ensures) ∙ law_DoIt ts s d
+pub returns-clause-read : goal.returns-clause-read
+returns-clause-read c = c.in_ok-read_all.ensures.read c.if-not-branch.false DoIt (c.in_ok-judgement.ensures c.args.text.now)
+
+pub returns-clause-found : goal.returns-clause-found
+returns-clause-found c = λ ts s lexed d.
+    c.found_sequence.ensures ∙ ap sequence_of (c.in_ok-read_all.ensures.found c.if-not-branch.false ts lexed ∙ ap (λ r. run r ts) c.in_ok-reader.ensures) ∙ law_DoIt ts s d

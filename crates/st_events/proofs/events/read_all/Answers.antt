@@ -4,17 +4,27 @@ use Rattle.st_events.specs.Steps.{run}
 use Rattle.st_events.proofs.Left.{left_one, left_last}
 use Rattle.st_events.proofs.events.read_all.Goals as goal
 
-pub returns-in-TextEnd : goal.returns-in-TextEnd
-returns-in-TextEnd c = λ ts lexed.
+pub returns-in-TextEnd-clause-read : goal.returns-in-TextEnd-clause-read
+returns-in-TextEnd-clause-read c = λ _ form before.
+    let first = rw c.in-Some.is at c.in_ok-token.ensures.first in
+    c.in_ok-takes.ensures.end c.if-not-branch.false form c.args.text.now c.tokens.place (c.tokens.invariant.read form before) first c.in-TextEnd.is
+
+pub returns-in-TextEnd-clause-found : goal.returns-in-TextEnd-clause-found
+returns-in-TextEnd-clause-found c = λ _ ts lexed.
     let h = c.tokens.invariant.left ts lexed in
-    let b = c.in_ok-token.ensures.begins h.rest (subst (λ n. IsLexedFrom c.args.text.now c.tokens.place n h.rest) (sym c.new-notes.ensures) h.lexed) in
-    left_last c.args.text.now c.tokens.place c.in_ok-token.token c.next_token.new.notes c.tokens.reader c.read.new.self (run c.args.reader.now ts) h b c.in-TextEnd.is c.in_ok-read.ensures
+    let begins = rw c.in-Some.is at c.in_ok-token.ensures.begins in
+    let b = begins h.rest (subst (λ n. IsLexedFrom c.args.text.now c.tokens.place n h.rest) (sym c.new-notes.ensures) h.lexed) in
+    left_last c.args.text.now c.tokens.place c.in-Some.token c.next_token.new.notes c.tokens.reader c.read.new.self (run c.args.reader.now ts) h b c.in-TextEnd.is c.in_ok-read.ensures
 
 pub tokens-preserved : goal.tokens-preserved
 tokens-preserved c = record {
-  inside = c.in_ok-token.ensures.inside;
+  inside = rw c.in-Some.is at c.in_ok-token.ensures.inside;
+  read = λ form before.
+      let first = rw c.in-Some.is at c.in_ok-token.ensures.first in
+      c.in_ok-takes.ensures.further c.if-not-branch.false form c.args.text.now c.tokens.place (c.tokens.invariant.read form before) first c.in_default-sort.not-TextEnd;
   left = λ ts lexed.
       let h = c.tokens.invariant.left ts lexed in
-      let b = c.in_ok-token.ensures.begins h.rest (subst (λ n. IsLexedFrom c.args.text.now c.tokens.place n h.rest) (sym c.new-notes.ensures) h.lexed) in
-      left_one c.args.text.now c.tokens.place c.in_ok-token.token c.next_token.new.notes c.tokens.reader c.read.new.self (run c.args.reader.now ts) h b c.in_default.not-TextEnd c.in_ok-read.ensures;
+      let begins = rw c.in-Some.is at c.in_ok-token.ensures.begins in
+      let b = begins h.rest (subst (λ n. IsLexedFrom c.args.text.now c.tokens.place n h.rest) (sym c.new-notes.ensures) h.lexed) in
+      left_one c.args.text.now c.tokens.place c.in-Some.token c.next_token.new.notes c.tokens.reader c.read.new.self (run c.args.reader.now ts) h b c.in_default-sort.not-TextEnd c.in_ok-read.ensures;
 }

@@ -1,9 +1,17 @@
 use Rattle.std.proofs.Common.{[], ◌∷◌, ◌++◌, refl, sym, ◌∙◌, ap, subst, arith}
 use Rattle.st_faults.specs.Lexing.{IsLexedFrom}
 use Rattle.st_lexer.specs.Pieces.{piece}
-use Rattle.st_faults.proofs.Skipping.{end_has_sort, goes_further, comment_further}
+use Rattle.st_faults.proofs.Skipping.{skipped_none, skipped_one, first_is, end_has_sort, goes_further, comment_further}
 use Rattle.st_events.proofs.Splitting.{behind_comment, begins_token}
 use Rattle.st_events.proofs.tokens.next_token.Goals as goal
+
+pub comments-init : goal.comments-init
+comments-init c = record { order = omega arith; inside = c.requires; skipped = skipped_none c.args.text.now c.args.at; left = λ ts lexed. lexed }
+
+pub returns-in-Some-clause-first : goal.returns-in-Some-clause-first
+returns-in-Some-clause-first c =
+    first_is c.args.text.now c.args.at c.comments.place (piece c.in-Ok.token) c.in-Some.sort c.in-Ok.token.text.now _ _ c.begins_digit-before_numeral.result
+    c.comments.invariant.skipped c.in-Ok.ensures.token c.in-Ok.ensures.text c.begins_digit-before_numeral.ensures c.in-Some.ensures
 
 pub returns-in-Some-clause-begins : goal.returns-in-Some-clause-begins
 returns-in-Some-clause-begins c = λ ts lexed.
@@ -22,6 +30,7 @@ pub comments-preserved : goal.comments-preserved
 comments-preserved c = record {
   order = omega (arith, c.comments.invariant.order, comment_further c.args.text.now c.comments.place (piece c.in-Ok.token) c.in-Ok.token.text.now c.begins_digit-before_numeral.result c.in-Ok.ensures.token c.in_default-sort_of.ensures);
   inside = c.in-Ok.ensures.inside;
+  skipped = skipped_one c.args.text.now c.args.at c.comments.place (piece c.in-Ok.token) c.in-Ok.token.text.now c.begins_digit-before_numeral.result c.comments.invariant.skipped c.in-Ok.ensures.token c.in_default-sort_of.ensures;
   left = λ ts lexed.
       subst (λ notes. IsLexedFrom c.args.text.now c.in-Ok.token.to notes ts) (sym (c.in_ok-push.ensures.ok ∙ ap (λ x. c.comments.notes ++ x ∷ []) c.in_ok-from_slice.ensures)) (
       behind_comment c.args.text.now c.comments.place c.comments.notes ts (piece c.in-Ok.token) c.in-Ok.token.text.now c.begins_digit-before_numeral.result
