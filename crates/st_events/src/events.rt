@@ -138,7 +138,7 @@ fn found_method(reader: Reader) -> MethodEvents
 
 /// What a do-it spells, in the order in which its tree is built. The text is one that `check_doit` of st_faults accepts.
 /// The memory that it takes from `alloc`, and its time, are linear in the text; where memory is wanting, it answers
-/// `Memory`.
+/// `Memory`. So it does where the text has 4 GiB or more, since the places of events take four bytes.
 pub fn doit_events(alloc: Global, text: &[u8]) -> Result<SequenceEvents, Memory>
     requires { IsRead DoIt text.now }
     ensures { IfOk result (λ found. (ts : List Lexeme) (s : SpannedSequence) → IsLexed Second text.now ts → IsDoIt Longest ts s → found ≡ sequence_events s) }
@@ -150,7 +150,8 @@ pub fn doit_events(alloc: Global, text: &[u8]) -> Result<SequenceEvents, Memory>
 
 /// What a method spells, of the kernel or not, in the order in which its tree is built. The text is one that
 /// `check_method` of st_faults accepts. The memory that it takes from `alloc`, and its time, are linear in the text;
-/// where memory is wanting, it answers `Memory`.
+/// where memory is wanting, it answers `Memory`. So it does where the text has 4 GiB or more, since the places of events
+/// take four bytes.
 pub fn method_events(alloc: Global, text: &[u8], kernel: bool) -> Result<MethodEvents, Memory>
     requires { IsRead (Method kernel) text.now }
     ensures { IfOk result (λ found. (ts : List Lexeme) (m : SpannedMethod) → IsLexed Second text.now ts → IsMethod Longest kernel ts m → found ≡ method_events m) }
