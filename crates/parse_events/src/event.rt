@@ -10,7 +10,7 @@ use std::marker::Model;
 #[derive(Drop)]
 pub struct Declaration {
     pub name: Text,
-    /// Where the name begins, in bytes from the text's start.
+    /// Where the name begins, in bytes from the text's start, of which there are less than 2^32.
     pub from: u32,
 }
 
@@ -18,13 +18,14 @@ pub struct Declaration {
 #[derive(Drop)]
 pub struct Declarations {
     pub(crate) alloc: Global,
-    /// None where nothing is declared, as in most blocks.
+    /// None where nothing is declared, as in most blocks, so that an event that declares nothing is small.
     pub(crate) items: Option<Box<Vec<Declaration>>>,
 }
 
 /// A step of the building of a tree. Most come behind the parts of what they speak of, so a list of them builds its
 /// tree with a stack. A place is in bytes from the text's start: `from` is that of the first byte of a node, and `to`
-/// is the one behind its last byte. Parentheses round a node are no part of it.
+/// is the one behind its last byte. Parentheses round a node are no part of it. Places and counts take four bytes, so that
+/// only a text of less than 4 GiB has events.
 #[derive(Drop)]
 pub enum Event {
     /// A number, by its numeral.

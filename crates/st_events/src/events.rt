@@ -153,9 +153,10 @@ fn found_method(reader: Reader) -> MethodEvents
     }
 }
 
-/// What a do-it spells, in the order in which its tree is built, or `None` where the text has a fault that `check_doit`
-/// of st_faults tells. The memory that it takes from `alloc`, and its time, are linear in the text; where memory is
-/// wanting, it answers `Memory`.
+/// What a do-it spells, in the order in which its tree is built, or `None` where a fault was met; which one it is, and that
+/// there is one, `check_doit` of st_faults tells. The memory that it takes from `alloc`, and its time, are linear in the
+/// text; where memory is wanting, it answers `Memory`. So it does where the text has 4 GiB or more, since the places of
+/// events take four bytes.
 pub fn doit_events(alloc: Global, text: &[u8]) -> Result<Option<SequenceEvents>, Memory>
     ensures read { IfOk result (λ found. IfSome found (λ _. IsRead DoIt text.now)) }
     ensures found { IfOk result (λ found. IfSome found (λ found. (ts : List input.Lexeme) (s : SpannedSequence) → IsLexed Second text.now ts → IsDoIt Longest ts s → found ≡ sequence_events s)) }
@@ -168,9 +169,10 @@ pub fn doit_events(alloc: Global, text: &[u8]) -> Result<Option<SequenceEvents>,
     Ok(Some(found_sequence(reader)))
 }
 
-/// What a method spells, of the kernel or not, in the order in which its tree is built, or `None` where the text has a
-/// fault that `check_method` of st_faults tells. The memory that it takes from `alloc`, and its time, are linear in the
-/// text; where memory is wanting, it answers `Memory`.
+/// What a method spells, of the kernel or not, in the order in which its tree is built, or `None` where a fault was met;
+/// which one it is, and that there is one, `check_method` of st_faults tells. The memory that it takes from `alloc`, and
+/// its time, are linear in the text; where memory is wanting, it answers `Memory`. So it does where the text has 4 GiB or
+/// more, since the places of events take four bytes.
 pub fn method_events(
     alloc: Global,
     text: &[u8],

@@ -49,11 +49,7 @@ impl Reader {
             Sort::Name | Sort::Super => {
                 let to = place(token.to)?;
                 let name = Text::from_slice(alloc, token.text)?;
-                self.push(Part::Expression(ExpressionPart::BehindName {
-                    from,
-                    to,
-                    name,
-                }))
+                self.push(Part::Expression(ExpressionPart::BehindName { from, to, name }))
             }
             _ => {
                 self.push(Part::Message(MessagePart::All { from }))?;

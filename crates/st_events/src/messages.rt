@@ -99,12 +99,7 @@ impl Reader {
     }
 
     /// The keywords of a message, of which this is the first.
-    fn keywords(
-        &mut self,
-        alloc: Global,
-        from: Option<u32>,
-        token: Token<'_>,
-    ) -> Result<(), Memory>
+    fn keywords(&mut self, alloc: Global, from: Option<u32>, token: Token<'_>) -> Result<(), Memory>
         ensures { IfOk result (λ _. self.new ≡ pushed (Part.Expression ExpressionPart.KeywordArgument) (pushed (Part.Message (MessagePart.BehindKeyword from 1 token.entry.text.now)) self.old)) }
     {
         let selector = Text::from_slice(alloc, token.text)?;
@@ -117,12 +112,7 @@ impl Reader {
     }
 
     /// A message to the receiver from a place on, or its cascade.
-    pub fn take_message(
-        &mut self,
-        alloc: Global,
-        from: u32,
-        token: Token<'_>,
-    ) -> Result<(), Memory>
+    pub fn take_message(&mut self, alloc: Global, from: u32, token: Token<'_>) -> Result<(), Memory>
         ensures { IfOk result (λ _. self.new ≡ message_taken from (seen token.entry) token.entry.to self.old) }
     {
         match token.sort {
@@ -147,12 +137,7 @@ impl Reader {
     }
 
     /// A unary or binary message in a keyword's argument that begins at a place.
-    fn take_of_keyword(
-        &mut self,
-        alloc: Global,
-        from: u32,
-        token: Token<'_>,
-    ) -> Result<(), Memory>
+    fn take_of_keyword(&mut self, alloc: Global, from: u32, token: Token<'_>) -> Result<(), Memory>
         ensures { IfOk result (λ _. self.new ≡ operator_taken (Part.Message (MessagePart.OfKeyword from)) from (seen token.entry) token.entry.to self.old) }
     {
         match token.sort {

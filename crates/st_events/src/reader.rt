@@ -66,7 +66,7 @@ pub struct Head {
     pub tail: Comments,
 }
 
-/// A number and one.
+/// A number and one. `Memory` where that is 2^32.
 #[inline]
 pub fn one_more(count: u32) -> Result<u32, Memory>
     ensures { IfOk result (λ more. more ≡ count + 1) }
@@ -74,7 +74,7 @@ pub fn one_more(count: u32) -> Result<u32, Memory>
     count.checked_add(1).ok_or(Memory)
 }
 
-/// A place in four bytes. A text of less than 4 GiB has no other.
+/// A place of a text, in four bytes. `Memory` where it lies 4 GiB or more behind the text's start.
 #[inline]
 pub fn place(at: usize) -> Result<u32, Memory>
     ensures { IfOk result (λ p. p ≡ at) }

@@ -42,12 +42,7 @@ impl Reader {
     }
 
     /// The first token of a statement behind so many others.
-    fn begin_statement(
-        &mut self,
-        enclosure: Enclosure,
-        count: u32,
-        from: u32,
-    ) -> Result<(), Memory>
+    fn begin_statement(&mut self, enclosure: Enclosure, count: u32, from: u32) -> Result<(), Memory>
         ensures { IfOk result (λ _. self.new ≡ begun enclosure count from self.old) }
     {
         let count = one_more(count)?;

@@ -1,6 +1,10 @@
+use Rattle.std.specs.Prelude.{OnOk}
+use Rattle.std.proofs.Common.{◌≡◌, subst}
 use Rattle.std.proofs.lemmas.Result.{on_ok_weaker}
+use Rattle.tree_model.specs.Tree.{Notes}
 use Rattle.parse_events.specs.declared.event.Event.TheVariants as event
-use Rattle.event_trees.specs.Stacks.{event_names}
+use Rattle.event_trees.specs.Stacks.{event_names, with_block}
+use Rattle.event_trees.specs.Held.{held}
 use Rattle.event_trees.specs.Naming.{AllPass}
 use Rattle.event_trees.proofs.Known.{Adds-none}
 use Rattle.event_trees.proofs.Making.{at_event, builds_word, builds_array, builds_bytes, builds_operand, builds_var, builds_send, builds_message, builds_cascade, builds_target, builds_value, builds_block, builds_brace, builds_return, builds_statement}
@@ -64,7 +68,9 @@ pub returns-in-Assign-clause-adds : goal.returns-in-Assign-clause-adds
 returns-in-Assign-clause-adds c = on_ok_weaker c.value.result (λ _. Adds-none c.args.names.now (AllPass (event_names c.args.event))) c.value.ensures
 
 pub returns-in-Block-clause-built : goal.returns-in-Block-clause-built
-returns-in-Block-clause-built c = at_event c.block.result c.args.event (event.Block c.in-Block.from c.in-Block.to c.in-Block.statements c.in-Block.tail) c.in-Block.is (builds_block c.in-Block.from c.in-Block.to c.in-Block.statements c.in-Block.tail) c.block.ensures
+returns-in-Block-clause-built c =
+    at_event c.block.result c.args.event (event.Block c.in-Block.from c.in-Block.to c.in-Block.statements c.in-Block.tail) c.in-Block.is (builds_block c.in-Block.from c.in-Block.to c.in-Block.statements c.in-Block.tail)
+      (subst (λ (t : Notes). OnOk c.block.result (held c.block.new.self ≡ with_block (held c.args.stacks.now) c.in-Block.statements t)) c.into_comments.ensures c.block.ensures)
 
 pub returns-in-Block-clause-adds : goal.returns-in-Block-clause-adds
 returns-in-Block-clause-adds c = on_ok_weaker c.block.result (λ _. Adds-none c.args.names.now (AllPass (event_names c.args.event))) c.block.ensures
