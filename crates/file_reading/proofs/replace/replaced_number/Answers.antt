@@ -12,4 +12,4 @@ returns-in_err-number-clause-refused c =
     let reading = c.args.reading.now in
     let f = name_at reading.names in
     where_none c.from_residual.result (no_number c.args.kernel (image_so_far reading) (replacement_text c.args.replacement.now) (map_sequence f (sequence_of c.args.body.now))
-    (has_no_doit f (image_of reading.draft.value) c.args.replacement.now.numeral.now c.doit_count.result c.doit_count.ensures c.in_err-number.ensures.none))
+    (has_no_doit f (image_of reading.draft.value) c.args.replacement.now.numeral.now c.doit_count.result (rw c.deref.ensures at c.doit_count.ensures) c.in_err-number.ensures.none))

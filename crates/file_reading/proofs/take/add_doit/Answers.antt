@@ -15,6 +15,6 @@ returns c =
     let later = record c.args.reading.draft { value = c.add_doit.new.self } in
     let known = subst (DoItNames (IsNumberIn names)) (sym c.in_ok-doit.ensures) c.requires.known in
     let added = was_added names c.args.reading.draft c.requires.sound (doit_of c.in_ok-doit.doit) later known
-    c.in_ok-add_doit.ensures.image c.in_ok-add_doit.ensures.run c.in_ok-add_doit.ensures.head c.in_ok-add_doit.ensures.places c.in_ok-add_doit.ensures.whole in
+    (rw c.deref_mut.ensures.value at c.in_ok-add_doit.ensures.image) (rw c.deref_mut.ensures.value at c.in_ok-add_doit.ensures.run) (rw c.deref_mut.ensures.value at c.in_ok-add_doit.ensures.head) (rw c.deref_mut.ensures.value at c.in_ok-add_doit.ensures.places) c.in_ok-add_doit.ensures.whole in
     let made : DoItOf ℕ → Result Filing Cause = λ (d : DoItOf ℕ). Ok (with_doit (filed c.args.reading) (map_doit (name_at names) d)) in
     (added.0, added.1 ∙ ap made c.in_ok-doit.ensures)

@@ -20,6 +20,6 @@ returns c =
     (c.changes_by_numbers.ensures.known names c.args.kernel change (image_of old.value) differ c.requires.sound.image c.requires.known)
     (c.places_by_numbers.ensures.after names change (places_of old.value) differ c.requires.sound.places c.requires.known)
     (c.places_by_numbers.ensures.known_after names change (places_of old.value) differ c.requires.sound.places c.requires.known)
-    none c.in_ok-refused.ensures.made c.in_ok-refused.ensures.run c.in_ok-refused.ensures.head c.in_ok-refused.ensures.places c.in_ok-refused.ensures.whole)
-    (λ cause is. was_not_changed names old c.requires.sound c.args.kernel change c.in_ok-refused.refused cause later same is c.in_ok-refused.ensures.made)
+    none (rw c.deref_mut.ensures.value at c.in_ok-refused.ensures.made) c.in_ok-refused.ensures.run c.in_ok-refused.ensures.head (rw c.deref_mut.ensures.value at c.in_ok-refused.ensures.places) c.in_ok-refused.ensures.whole)
+    (λ cause is. was_not_changed names old c.requires.sound c.args.kernel change c.in_ok-refused.refused cause later same is (rw c.deref_mut.ensures.value at c.in_ok-refused.ensures.made))
     c.told.ensures

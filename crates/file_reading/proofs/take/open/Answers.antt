@@ -25,12 +25,12 @@ returns c =
     let same = c.methods_by_numbers.ensures.run names run (image_of old.value) c.names_differ.ensures c.requires.sound.image c.requires.known in
     told (λ r. r ≡ unless conditions last) (with_draft names later) refused c.told.result
     (λ none. was_opened names old c.requires.sound run c.args.place later conditions c.requires.known same
-    (sym (ap early.told none) ∙ c.open-refused.ensures.cause)
-    (at_none (image_of later.value ≡ image_of old.value) refused none c.open-refused.ensures.image)
+    (sym (ap early.told none) ∙ (rw c.deref_mut.ensures.value at c.open-refused.ensures.cause))
+    (at_none (image_of later.value ≡ image_of old.value) refused none (rw c.deref_mut.ensures.value at c.open-refused.ensures.image))
     (at_none (run_in later.value ≡ Some run) refused none c.open-refused.ensures.run)
     (at_none (is_at_head later.value ≡ false) refused none c.open-refused.ensures.head)
-    (at_none (places_of later.value ≡ opened_at c.args.place (places_of old.value)) refused none c.open-refused.ensures.places)
+    (at_none (places_of later.value ≡ opened_at c.args.place (places_of old.value)) refused none (rw c.deref_mut.ensures.value at c.open-refused.ensures.places))
     (at_none (IsWhole later.value) refused none c.open-refused.ensures.whole))
     (λ cause is. was_not_opened names old c.requires.sound run conditions last cause same
-    (sym (ap early.told is) ∙ c.open-refused.ensures.cause) (sym (ap is_some is) ∙ c.open-refused.ensures.some))
+    (sym (ap early.told is) ∙ (rw c.deref_mut.ensures.value at c.open-refused.ensures.cause)) (sym (ap is_some is) ∙ (rw c.deref_mut.ensures.value at c.open-refused.ensures.some)))
     c.told.ensures

@@ -12,4 +12,4 @@ returns c =
     was_settled names old c.requires (record c.args.reading.draft { value = c.settle.new.self }) (placed text_eq (places_so_far c.args.reading) (image_so_far c.args.reading))
     (c.places_by_numbers.ensures.settled names (places_of old.value) (image_of old.value) c.names_differ.ensures c.requires.places c.requires.image)
     (c.places_by_numbers.ensures.known_settled names (places_of old.value) (image_of old.value) c.names_differ.ensures c.requires.image)
-    c.in_ok-settle.ensures.image c.in_ok-settle.ensures.run c.in_ok-settle.ensures.head c.in_ok-settle.ensures.places c.in_ok-settle.ensures.whole
+    (rw c.deref_mut.ensures.value at c.in_ok-settle.ensures.image) c.in_ok-settle.ensures.run c.in_ok-settle.ensures.head c.in_ok-settle.ensures.places c.in_ok-settle.ensures.whole

@@ -11,7 +11,7 @@ pub returns-clause-sound : goal.returns-clause-sound
 returns-clause-sound c =
     let names = c.args.self.names in
     let draft = c.args.self.draft in
-    let known = subst (ImageNames (IsNumberIn names)) (sym c.in_ok-draft.ensures.image)
+    let known = subst (ImageNames (IsNumberIn names)) (sym (rw c.into_inner.ensures at c.in_ok-draft.ensures.image))
     (c.places_by_numbers.ensures.known_settled names (places_of draft.value) (image_of draft.value) c.names_differ.ensures c.requires.image) in
     record { whole = c.in_ok-draft.ensures.whole; image = known; run = run_known names c.in_ok-draft.draft c.in_ok-draft.ensures.whole known }
 
@@ -19,5 +19,5 @@ pub returns-clause-image : goal.returns-clause-image
 returns-clause-image c =
     let names = c.args.self.names in
     let draft = c.args.self.draft in
-    ap (map_image (name_at names)) c.in_ok-draft.ensures.image
+    ap (map_image (name_at names)) (rw c.into_inner.ensures at c.in_ok-draft.ensures.image)
     ∙ sym (c.places_by_numbers.ensures.settled names (places_of draft.value) (image_of draft.value) c.names_differ.ensures c.requires.places c.requires.image)
