@@ -1,4 +1,4 @@
--- Lists that stand behind one pointer, where there is one.
+-- Lists that stand behind a pointer, where there is one.
 use Rattle.std.specs.Prelude.{ℕ, List, [], Option, Some, None, Vec, Box}
 
 -- the items of a list

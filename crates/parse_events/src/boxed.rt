@@ -1,4 +1,4 @@
-// Comments in one pointer.
+// Comments behind a pointer.
 ghost use Rattle.std.specs.Prelude.{◌≡◌, [], IfOk};
 
 use rb_base::Memory;

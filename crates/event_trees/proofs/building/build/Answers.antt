@@ -70,7 +70,7 @@ returns-in-Assign-clause-adds c = on_ok_weaker c.value.result (λ _. Adds-none c
 pub returns-in-Block-clause-built : goal.returns-in-Block-clause-built
 returns-in-Block-clause-built c =
     at_event c.block.result c.args.event (event.Block c.in-Block.from c.in-Block.to c.in-Block.statements c.in-Block.tail) c.in-Block.is (builds_block c.in-Block.from c.in-Block.to c.in-Block.statements c.in-Block.tail)
-      (subst (λ (t : Notes). OnOk c.block.result (held c.block.new.self ≡ with_block (held c.args.stacks.now) c.in-Block.statements t)) c.into_comments.ensures c.block.ensures)
+    (subst (λ (t : Notes). OnOk c.block.result (held c.block.new.self ≡ with_block (held c.args.stacks.now) c.in-Block.statements t)) c.into_comments.ensures c.block.ensures)
 
 pub returns-in-Block-clause-adds : goal.returns-in-Block-clause-adds
 returns-in-Block-clause-adds c = on_ok_weaker c.block.result (λ _. Adds-none c.args.names.now (AllPass (event_names c.args.event))) c.block.ensures

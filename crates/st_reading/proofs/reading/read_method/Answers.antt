@@ -7,16 +7,18 @@ use Rattle.st_reading.proofs.reading.read_method.Goals as goal
 
 pub returns-in_err-check_tree-clause-fault : goal.returns-in_err-check_tree-clause-fault
 returns-in_err-check_tree-clause-fault c =
-    let r = c.in-Some.ensures.read in
-    let same = c.in-Some.ensures.found r.tokens r.grammar.0 r.lexed r.grammar.1 in
+    let r = rw c.in-Some.is at c.in_ok-found.ensures.read in
+    let all = rw c.in-Some.is at c.in_ok-found.ensures.found in
+    let same = all r.tokens r.grammar.0 r.lexed r.grammar.1 in
     let p = err_from_is_err_and c.from_residual-in_err-check_tree.result c.from_residual-in_err-check_tree.ensures.1 in
     rw (p.1, p.2) (method_refused c.args.kernel c.args.text.now r c.in_err-check_tree.field-0.0
     (c.in_err-check_tree.ensures.fault r.grammar.0.arguments r.grammar.0.body (ap (λ (f : MethodEvents). f.arguments) same) (ap (λ (f : MethodEvents). f.body) same)))
 
 pub returns-clause-found : goal.returns-clause-found
 returns-clause-found c =
-    let r = c.in-Some.ensures.read in
-    let same = c.in-Some.ensures.found r.tokens r.grammar.0 r.lexed r.grammar.1 in
+    let r = rw c.in-Some.is at c.in_ok-found.ensures.read in
+    let all = rw c.in-Some.is at c.in_ok-found.ensures.found in
+    let same = all r.tokens r.grammar.0 r.lexed r.grammar.1 in
     record {
       tree = r.grammar.0;
       spells = record {
