@@ -50,10 +50,17 @@ pub struct Span {
 }
 
 /// A text that owns its bytes. Contracts see the list of the bytes. A text of at most 14 bytes takes no memory.
-#[derive(Drop)]
 pub struct Text {
     alloc: Global,
     bytes: Bytes,
+}
+
+// Written out, so that for a proof the end of a text is one call, whether it is short or long.
+impl Drop for Text {
+    #[inline]
+    fn drop(self) {
+        let Text { alloc: _, bytes: _ } = self;
+    }
 }
 
 /// Where the bytes of a text stand: in the text itself, or in memory of their own. A text that became long stays long.
