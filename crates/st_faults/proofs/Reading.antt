@@ -56,7 +56,7 @@ goes_on : (t : Text) (l : Lexeme) (ss new : Stack) (ts : List input.Lexeme) (s :
 goes_on t l ss new ts s e = ap (run ss) s.whole ∙ goes_behind l ss new s.notes s.text s.literal s.rest e
 
 -- the tokens behind one that is not the end
-rest_behind : (t : Text) (l : Lexeme) (ts : List input.Lexeme) → l.sort ≢ TextEnd → IsBehind t l ts → IsLexedFrom t l.to [] ts
+pub rest_behind : (t : Text) (l : Lexeme) (ts : List input.Lexeme) → l.sort ≢ TextEnd → IsBehind t l ts → IsLexedFrom t l.to [] ts
 rest_behind t l ts other (inl end) = absurd (other end.0)
 rest_behind t l ts other (inr more) = more.1
 

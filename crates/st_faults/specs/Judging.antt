@@ -1,13 +1,12 @@
 -- What is known of a text whose tokens were read up to a place and had no fault.
-use Rattle.std.specs.Prelude.{◌≡◌, ℕ, List, []}
+use Rattle.std.specs.Prelude.{◌≡◌, ℕ, List, [], Some}
 use Rattle.token_model.specs.declared.kind.Dialect.TheVariants.{Second}
-use Rattle.grammar_model.specs.Terminal.{Text}
+use Rattle.grammar_model.specs.Terminal.{Text, Terminal}
 use Rattle.grammar_model.specs.Input.{Lexeme}
 use Rattle.grammar_model.specs.Lexemes.{IsLexed}
 use Rattle.grammar_model.specs.Whole.{Form}
 use Rattle.grammar_model.specs.Checks.{first_deep}
-use Rattle.grammar_model.specs.Machine.{Stack, start, run}
-use Rattle.grammar_model.proofs.Stacks.{IsGood}
+use Rattle.grammar_model.specs.Machine.{Stack, start, run, feeds}
 use Rattle.st_faults.specs.declared.brackets.Depth.{Depth}
 use Rattle.st_faults.specs.declared.judging.Judgement.{Judgement}
 use Rattle.st_faults.specs.Stacks.{stack_of}
@@ -21,10 +20,13 @@ pub record Whole (form : Form) (t : Text) (d : Depth) (ss : Stack) (ts : List Le
   pub depth : first_deep 0 tokens ≡ deep_behind d ts
   pub same : run (start form) tokens ≡ run ss ts
 
--- the tokens up to a place lead to a depth and to a stack of the machine
+-- The tokens up to a place lead to a depth and to a stack of the machine. Where the text has no lexical fault, there are
+-- tokens from the place on.
 pub record Together (form : Form) (t : Text) (at : ℕ) (d : Depth) (ss : Stack) : Type 0 where
   pub whole : (ts : List Lexeme) → IsLexedFrom t at [] ts → Whole form t d ss ts
-  pub good : IsGood ss
+  pub rest : (tokens : List Lexeme) → IsLexed Second t tokens → (ts : List Lexeme) × IsLexedFrom t at [] ts
+  pub before : List Terminal
+  pub reached : feeds (start form) before ≡ Some ss
 
 -- the tokens up to a place were read, and have no fault
 abbrev pub IsReadTo : Form → Text → ℕ → Judgement → Type 0

@@ -1,3 +1,4 @@
+// What a text is to be, and the stack before it.
 ghost use Rattle.std.specs.Prelude.{◌≡◌, IfOk};
 ghost use Rattle.grammar_model.specs.Machine.{start, is_user};
 ghost use Rattle.st_faults.specs.Stacks.{stack_of};
