@@ -1,5 +1,5 @@
 // The events of whole texts.
-ghost use Rattle.std.specs.Prelude.{◌≡◌, true, List, [], ◌∷◌, IfOk, IfSome};
+ghost use Rattle.std.specs.Prelude.{◌≡◌, true, false, List, [], ◌∷◌, IfOk, IfSome, IfNone};
 ghost use Rattle.token_model.specs.declared.kind.Dialect.TheVariants.{Second};
 ghost use Rattle.grammar_model.specs.Input as input;
 ghost use Rattle.grammar_model.specs.Spanned.{SpannedSequence, SpannedMethod};
@@ -87,6 +87,7 @@ fn read_all(
 ) -> Result<bool, Memory>
     ensures read { IfOk result (λ read. read ≡ true → (form : Form) → IsReadTo form text.now 0 judgement.old → IsRead form text.now) }
     ensures found { IfOk result (λ read. read ≡ true → (ts : List input.Lexeme) → IsLexed Second text.now ts → reader.new ≡ run reader.old ts) }
+    ensures fault { IfOk result (λ read. read ≡ false → (form : Form) → IsReadTo form text.now 0 judgement.old → ¬ IsRead form text.now) }
 {
     let mut place = 0;
     'tokens: loop {
@@ -153,13 +154,14 @@ fn found_method(reader: Reader) -> MethodEvents
     }
 }
 
-/// What a do-it spells, in the order in which its tree is built, or `None` where a fault was met; which one it is, and that
-/// there is one, `check_doit` of st_faults tells. The memory that it takes from `alloc`, and its time, are linear in the
-/// text; where memory is wanting, it answers `Memory`. So it does where the text has 4 GiB or more, since the places of
-/// events take four bytes.
+/// What a do-it spells, in the order in which its tree is built, or `None` where the text has a fault of its tokens, its
+/// brackets or the grammar, and only there; which one it is, `check_doit` of st_faults tells. The memory that it takes
+/// from `alloc`, and its time, are linear in the text; where memory is wanting, it answers `Memory`. So it does where a
+/// text of 4 GiB or more has no fault, since the places of events take four bytes.
 pub fn doit_events(alloc: Global, text: &[u8]) -> Result<Option<SequenceEvents>, Memory>
     ensures read { IfOk result (λ found. IfSome found (λ _. IsRead DoIt text.now)) }
     ensures found { IfOk result (λ found. IfSome found (λ found. (ts : List input.Lexeme) (s : SpannedSequence) → IsLexed Second text.now ts → IsDoIt Longest ts s → found ≡ sequence_events s)) }
+    ensures none { IfOk result (λ found. IfNone found (¬ IsRead DoIt text.now)) }
 {
     let mut judgement = Judgement::of_doit(alloc)?;
     let mut reader = doit_reader(alloc, text)?;
@@ -169,10 +171,9 @@ pub fn doit_events(alloc: Global, text: &[u8]) -> Result<Option<SequenceEvents>,
     Ok(Some(found_sequence(reader)))
 }
 
-/// What a method spells, of the kernel or not, in the order in which its tree is built, or `None` where a fault was met;
-/// which one it is, and that there is one, `check_method` of st_faults tells. The memory that it takes from `alloc`, and
-/// its time, are linear in the text; where memory is wanting, it answers `Memory`. So it does where the text has 4 GiB or
-/// more, since the places of events take four bytes.
+/// What a method spells, of the kernel or not, in the order in which its tree is built, or `None` where the text has a
+/// fault of its tokens, its brackets or the grammar, and only there; which one it is, `check_method` of st_faults tells.
+/// Memory, time and texts of 4 GiB or more are as for `doit_events`.
 pub fn method_events(
     alloc: Global,
     text: &[u8],
@@ -180,6 +181,7 @@ pub fn method_events(
 ) -> Result<Option<MethodEvents>, Memory>
     ensures read { IfOk result (λ found. IfSome found (λ _. IsRead (Method kernel) text.now)) }
     ensures found { IfOk result (λ found. IfSome found (λ found. (ts : List input.Lexeme) (m : SpannedMethod) → IsLexed Second text.now ts → IsMethod Longest kernel ts m → found ≡ method_events m)) }
+    ensures none { IfOk result (λ found. IfNone found (¬ IsRead (Method kernel) text.now)) }
 {
     let mut judgement = Judgement::of_method(alloc, kernel)?;
     let mut reader = method_reader(alloc, text)?;

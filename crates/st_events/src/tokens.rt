@@ -1,5 +1,5 @@
 // The tokens of a text, with the comments before them.
-ghost use Rattle.std.specs.Prelude.{◌≡◌, ◌≢◌, ◌≤◌, ◌<◌, List, length, IfOk, IfSome};
+ghost use Rattle.std.specs.Prelude.{◌≡◌, ◌≢◌, ◌≤◌, ◌<◌, List, [], length, IfOk, IfSome, IfNone};
 ghost use Rattle.grammar_model.specs.Input.{Lexeme};
 ghost use Rattle.st_faults.specs.declared.sort.Sort.TheVariants.{TextEnd};
 ghost use Rattle.st_faults.specs.Lexing.{IsLexedFrom, IsFirst};
@@ -12,7 +12,7 @@ use st_tree::Comments;
 use std::alloc::Global;
 
 /// The first token from a place on that is no comment, behind the comments before it, which are appended. The place is at
-/// most the text's length, in bytes. `None` tells of a lexical fault behind these comments.
+/// most the text's length, in bytes. `None` where the text has a lexical fault behind these comments.
 #[inline]
 pub fn next_token<'t>(
     alloc: Global,
@@ -25,6 +25,7 @@ pub fn next_token<'t>(
     ensures begins { IfOk result (λ token. IfSome token (λ token. (ts : List Lexeme) → IsLexedFrom text.now at notes.old ts → Begins text.now token notes.new ts)) }
     ensures inside { IfOk result (λ token. IfSome token (λ token. token.to ≤ length text.now)) }
     ensures further { IfOk result (λ token. IfSome token (λ token. token.sort ≢ TextEnd → at < token.to)) }
+    ensures fault { IfOk result (λ token. IfNone token ((ts : List Lexeme) → ¬ IsLexedFrom text.now at [] ts)) }
 {
     let mut place = at;
     'comments: loop {

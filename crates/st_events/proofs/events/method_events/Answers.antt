@@ -11,3 +11,6 @@ returns-clause-read c = c.in_ok-read_all.ensures.read c.if-not-branch.false (Met
 pub returns-clause-found : goal.returns-clause-found
 returns-clause-found c = λ ts m lexed d.
     c.found_method.ensures ∙ ap method_of (c.in_ok-read_all.ensures.found c.if-not-branch.false ts lexed ∙ ap (λ r. run r ts) c.in_ok-reader.ensures) ∙ law_Method c.args.kernel ts m d
+
+pub returns-then-not-branch-clause-none : goal.returns-then-not-branch-clause-none
+returns-then-not-branch-clause-none c = c.in_ok-read_all.ensures.fault c.if-not-branch.true (Method c.args.kernel) (c.in_ok-judgement.ensures c.args.text.now)

@@ -28,3 +28,14 @@ tokens-preserved c = record {
       let b = begins h.rest (subst (λ n. IsLexedFrom c.args.text.now c.tokens.place n h.rest) (sym c.new-notes.ensures) h.lexed) in
       left_one c.args.text.now c.tokens.place c.in-Some.token c.next_token.new.notes c.tokens.reader c.read.new.self (run c.args.reader.now ts) h b c.in_default-sort.not-TextEnd c.in_ok-read.ensures;
 }
+
+pub returns-in_default-clause-fault : goal.returns-in_default-clause-fault
+returns-in_default-clause-fault c = λ _ form before read.
+    let none = rw c.in_default.is at c.in_ok-token.ensures.fault in
+    let h = c.tokens.invariant.left read.tokens read.lexed in
+    none h.rest h.lexed
+
+pub returns-then-not-branch-clause-fault : goal.returns-then-not-branch-clause-fault
+returns-then-not-branch-clause-fault c = λ _ form before.
+    let first = rw c.in-Some.is at c.in_ok-token.ensures.first in
+    c.in_ok-takes.ensures.fault c.if-not-branch.true form c.args.text.now c.tokens.place (c.tokens.invariant.read form before) first

@@ -1,7 +1,8 @@
 use Rattle.std.proofs.Common.{[], ◌∷◌, ◌++◌, refl, sym, ◌∙◌, ap, subst, arith}
 use Rattle.st_faults.specs.Lexing.{IsLexedFrom}
 use Rattle.st_lexer.specs.Pieces.{piece}
-use Rattle.st_faults.proofs.Skipping.{skipped_none, skipped_one, first_is, end_has_sort, goes_further, comment_further}
+use Rattle.st_faults.proofs.Skipping.{skipped_none, skipped_one, skipped_fault, first_is, end_has_sort, goes_further, comment_further}
+use Rattle.st_faults.proofs.Passing.{no_fault}
 use Rattle.st_events.proofs.Splitting.{behind_comment, begins_token}
 use Rattle.st_events.proofs.tokens.next_token.Goals as goal
 
@@ -25,6 +26,10 @@ returns-in-Some-clause-further c = λ other.
       c.comments.invariant.order,
       goes_further c.args.text.now c.comments.place (piece c.in-Ok.token) c.in-Ok.ensures.token (λ end. other (end_has_sort c.in-Ok.token.kind c.in-Ok.token.text.now _ c.begins_digit-before_numeral.result c.in-Some.sort _ c.in-Some.ensures end)),
     )
+
+pub returns-in_default-clause-fault : goal.returns-in_default-clause-fault
+returns-in_default-clause-fault c = λ ts lexed.
+    no_fault c.args.text.now c.args.at [] ts c.in_default.field-0 lexed (skipped_fault c.args.text.now c.args.at c.comments.place c.in_default.field-0 c.comments.invariant.skipped c.in_default.ensures.fault)
 
 pub comments-preserved : goal.comments-preserved
 comments-preserved c = record {
