@@ -21,7 +21,8 @@ use std::alloc::Global;
 ///
 /// The text is refused with its first fault, as `ParseFault` tells, at an offset in bytes from the text's start; then
 /// `names` stays as it was. On want of memory some names of the tree may have been added. Nothing recurs, so a text of
-/// any depth is read or refused; the time and the memory that it takes from `alloc` are linear in the text.
+/// any depth is read or refused; the time and the memory that it takes from `alloc` are linear in the text. A text of
+/// 4 GiB or more that has no fault is answered with `Memory`, since places take four bytes.
 pub fn parse_doit(alloc: Global, text: &[u8], names: &mut Names) -> Result<Sequence, ParseFault>
     ensures tree { IfOk result (λ body. SpellsDoIt Second text.now (map_sequence (name_at names.new) (sequence_of body))) }
     ensures known { IfOk result (λ body. SequenceNames (λ n. n < length names.new) (sequence_of body)) }
@@ -38,7 +39,7 @@ pub fn parse_doit(alloc: Global, text: &[u8], names: &mut Names) -> Result<Seque
 /// The tree of a method of Smalltalk-80 (Goldberg and Robson 1983), with brace arrays, of the kernel, where a primitive
 /// may be its body, or of a user. Comments in the pattern and before the bar that opens the temporaries are the head; in
 /// a method without temporaries those of the first statement go to the end of the head, and where there is no statement
-/// the tail does. Names, other comments, faults, memory and time are as for `parse_doit`.
+/// the tail does. Names, other comments, faults, memory, time and texts of 4 GiB or more are as for `parse_doit`.
 pub fn parse_method(
     alloc: Global,
     text: &[u8],

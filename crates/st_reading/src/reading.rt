@@ -12,14 +12,15 @@ use std::alloc::Global;
 
 /// What is found in a do-it of Smalltalk-80 (Goldberg and Robson 1983), with brace arrays. The text is refused with its
 /// first fault, as `ParseFault` tells, at an offset in bytes from the text's start. Nothing recurs, and the time and the
-/// memory that it takes from `alloc` are linear in the text.
+/// memory that it takes from `alloc` are linear in the text. A text of 4 GiB or more that has no fault is answered with
+/// `Memory`, since places take four bytes.
 pub fn read_doit(alloc: Global, text: &[u8]) -> Result<SequenceEvents, ParseFault>
     ensures found { IfOk result (IsDoItFound text.now) }
     ensures fault { IfErr result (IsRefused DoIt text.now) }
 {
     let Some(found) = doit_events(alloc, text)? else {
         check_doit(alloc, text)?;
-        return Err(ParseFault::Memory);
+        unreachable!()
     };
     let arguments = Declarations::new(alloc);
     check_tree(alloc, &arguments, &found)?;
@@ -27,14 +28,14 @@ pub fn read_doit(alloc: Global, text: &[u8]) -> Result<SequenceEvents, ParseFaul
 }
 
 /// What is found in a method of Smalltalk-80, of the kernel, where a primitive may be its body, or of a user. Faults,
-/// time and memory are as for `read_doit`.
+/// time, memory and texts of 4 GiB or more are as for `read_doit`.
 pub fn read_method(alloc: Global, text: &[u8], kernel: bool) -> Result<MethodEvents, ParseFault>
     ensures found { IfOk result (IsMethodFound kernel text.now) }
     ensures fault { IfErr result (IsRefused (Method kernel) text.now) }
 {
     let Some(found) = method_events(alloc, text, kernel)? else {
         check_method(alloc, text, kernel)?;
-        return Err(ParseFault::Memory);
+        unreachable!()
     };
     check_tree(alloc, &found.arguments, &found.body)?;
     Ok(found)

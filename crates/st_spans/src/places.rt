@@ -35,7 +35,8 @@ fn doit_places(alloc: Global, text: &[u8]) -> Result<Places, ParseFault>
 
 /// Where the node of a user's method stands to which a path leads, in bytes from the text's start: from its first byte
 /// up to the place behind its last one. Parentheses round a node are no part of it. None exactly where the path leads to
-/// no node. The text is refused with its first fault, as `ParseFault` tells. The time is linear in the text.
+/// no node. The text is refused with its first fault, as `ParseFault` tells. A text of 4 GiB or more that has no
+/// fault is answered with `Memory`, since places take four bytes. The time is linear in the text.
 pub fn span_of(alloc: Global, text: &[u8], path: &Path) -> Result<Option<Span>, ParseFault>
     ensures span { IfOk result (λ span. OfMethod text.now (λ s. span ≡ option_map to_span (span_at s path.now))) }
     ensures fault { IfErr result (IsRefused (Method false) text.now) }
@@ -43,7 +44,7 @@ pub fn span_of(alloc: Global, text: &[u8], path: &Path) -> Result<Option<Span>, 
     Ok(method_places(alloc, text)?.span_at(path))
 }
 
-/// Where the node of a do-it stands to which a path leads, as `span_of` tells of a method.
+/// Where the node of a do-it stands to which a path leads, as `span_of` tells of a method, texts of 4 GiB or more too.
 pub fn span_of_doit(alloc: Global, text: &[u8], path: &Path) -> Result<Option<Span>, ParseFault>
     ensures span { IfOk result (λ span. OfDoIt text.now (λ s. span ≡ option_map to_span (span_at s path.now))) }
     ensures fault { IfErr result (IsRefused DoIt text.now) }
@@ -52,7 +53,8 @@ pub fn span_of_doit(alloc: Global, text: &[u8], path: &Path) -> Result<Option<Sp
 }
 
 /// All nodes of a user's method in preorder, each with the path that leads to it and where it stands, as `span_of` tells.
-/// The text is refused with its first fault. The time is linear in the text and in the length of all paths.
+/// The text is refused with its first fault, and one of 4 GiB or more is answered as by `span_of`. The time is linear in
+/// the text and in the length of all paths.
 pub fn spans(alloc: Global, text: &[u8]) -> Result<Spans, ParseFault>
     ensures spans { IfOk result (λ spans. OfMethod text.now (λ s. spans ≡ sequence_spans s)) }
     ensures fault { IfErr result (IsRefused (Method false) text.now) }
@@ -60,7 +62,7 @@ pub fn spans(alloc: Global, text: &[u8]) -> Result<Spans, ParseFault>
     Ok(method_places(alloc, text)?.spans(alloc)?)
 }
 
-/// All nodes of a do-it in preorder, as `spans` tells of a method.
+/// All nodes of a do-it in preorder, as `spans` tells of a method, texts of 4 GiB or more too.
 pub fn doit_spans(alloc: Global, text: &[u8]) -> Result<Spans, ParseFault>
     ensures spans { IfOk result (λ spans. OfDoIt text.now (λ s. spans ≡ sequence_spans s)) }
     ensures fault { IfErr result (IsRefused DoIt text.now) }
@@ -71,7 +73,7 @@ pub fn doit_spans(alloc: Global, text: &[u8]) -> Result<Spans, ParseFault>
 /// The part of a user's method that stands from one place up to another, in bytes from the text's start: a node, or,
 /// where no node stands there, two or more neighbouring statements from the first byte of the first node to the last
 /// byte of the last one. One whole statement is an expression. None exactly where neither stands there. The text is
-/// refused with its first fault. The time is linear in the text.
+/// refused with its first fault, and one of 4 GiB or more is answered as by `span_of`. The time is linear in the text.
 pub fn part_of_span(
     alloc: Global,
     text: &[u8],
@@ -85,7 +87,8 @@ pub fn part_of_span(
 }
 
 /// The text of the node of a user's method to which a path leads, which is not copied. None exactly where the path leads
-/// to no node. The text is refused with its first fault. The time is linear in the text.
+/// to no node. The text is refused with its first fault, and one of 4 GiB or more is answered as by `span_of`. The time
+/// is linear in the text.
 pub fn lend_part<'t>(
     alloc: Global,
     text: &'t [u8],
