@@ -1,15 +1,16 @@
 -- A list of which some items were taken, and what is known of the next one.
-use Rattle.std.proofs.Common.{◌≡◌, ◌⊎◌, ◌≢◌, inl, inr, ℕ, zero, suc, ◌<◌, Bool, true, false, cond, List, [], ◌∷◌, ◌++◌, length, take, get_or, map, find, is_some, Some, slice_get, refl, sym, ap, ◌∙◌, arith, true≢false}
+use Rattle.std.proofs.Common.{◌≡◌, ◌⊎◌, ◌≢◌, inl, inr, ℕ, zero, suc, ◌<◌, Bool, true, false, cond, List, [], ◌∷◌, ◌++◌, length, take, get_or, map, find, is_some, Option, Some, slice_get, refl, sym, ap, subst, ◌∙◌, arith, true≢false}
 use Rattle.std.specs.Prelude.{nat_eq}
 use Rattle.std.specs.List.{AllByRecursion}
 use Rattle.std.specs.Option.{ForSome}
 use Rattle.std.proofs.lemmas.Bool.Decides.{eqb_tells}
-use Rattle.image_model.specs.Image.{ClassOf}
+use Rattle.image_model.specs.Image.{ClassOf, EntryOf}
 use Rattle.image_model.specs.Valid.{SuperclassesStandBefore, HasClass, class_names}
 use Rattle.image_model.proofs.Ends.{contains-place}
 use Rattle.file_model.specs.Hierarchy.{has_class}
 use Rattle.image_draft.specs.declared.method_draft.MethodDraft.{MethodDraft}
 use Rattle.image_draft.specs.Entries.{entry_of}
+use Rattle.image_draft.specs.MethodSlots.{those_there}
 use Rattle.image_draft.specs.Names.{NamesDiffer}
 
 -- the items that were taken, the next one, and those that are left
@@ -30,6 +31,14 @@ all_next P (y ∷ ys) x rest all = all_next P ys x rest all.1
 pub all_next_mapped : {X Y : Type 0} (P : Y → Type 0) (f : X → Y) (xs : List X) (x : X) (rest : List X) → AllByRecursion P (map f (xs ++ x ∷ rest)) → P (f x)
 all_next_mapped P f [] x rest all = all.0
 all_next_mapped P f (y ∷ ys) x rest all = all_next_mapped P f ys x rest all.1
+
+-- what holds of all methods holds of that of the next slot, if it has one
+pub all_next_slot : (P : EntryOf ℕ → Type 0) (before : List (EntryOf ℕ)) (all slots rest : List (Option MethodDraft)) (slot : Option MethodDraft) (m : MethodDraft)
+    → before ++ map entry_of (those_there slots) ≡ map entry_of (those_there all) → slots ≡ slot ∷ rest → slot ≡ Some m → AllByRecursion P (map entry_of (those_there all)) → P (entry_of m)
+all_next_slot P before all slots rest slot m seen next is each =
+    let one : slots ≡ Some m ∷ rest = next ∙ ap (λ (o : Option MethodDraft). o ∷ rest) is in
+    let split = sym seen ∙ ap (λ (os : List (Option MethodDraft)). before ++ map entry_of (those_there os)) one in
+    all_next P before (entry_of m) (map entry_of (those_there rest)) (subst (AllByRecursion P) split each)
 
 -- a number is equal to itself
 nat_eq-refl : (k : ℕ) → nat_eq k k ≡ true

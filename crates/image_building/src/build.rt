@@ -44,7 +44,7 @@ pub fn image_from(alloc: Global, names: Names, draft: Draft) -> Result<Image, Me
     ensures image { IfOk result (λ image. number_image image ≡ image_of draft) }
     ensures orderly { IfOk result IsOrderly }
 {
-    let parts = draft.into_parts(alloc)?;
+    let parts = draft.into_parts()?;
     let mut image = image_with(alloc, names);
     let mut table = IndexMap::new(alloc);
     add_classes(&mut image, &mut table, parts.classes)?;

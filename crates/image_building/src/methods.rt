@@ -9,6 +9,7 @@ ghost use Rattle.image_model.specs.Valid.{HasClass};
 ghost use Rattle.class_table.specs.View.{number_image};
 ghost use Rattle.file_model.specs.Hierarchy.{has_class};
 ghost use Rattle.image_draft.specs.Entries.{entry_of};
+ghost use Rattle.image_draft.specs.MethodSlots.{those_there};
 ghost use Rattle.image_building.specs.Built.{IsBuilt};
 
 use class_table::{ClassId, Image, MethodRec};
@@ -51,22 +52,24 @@ fn add_method(
     }
 }
 
-/// Adds methods of classes that are there to an image that has none.
+/// Adds methods of classes that are there to an image that has none: those of the slots that are not empty, in order.
 pub fn add_methods(
     image: &mut Image,
     table: &IndexMap<usize, ClassId>,
-    methods: Vec<MethodDraft>,
+    methods: Vec<Option<MethodDraft>>,
 ) -> Result<(), Memory>
     requires built { IsBuilt table.now image.old }
     requires no_methods { image.old.method_order ≡ [] }
-    requires known { AllByRecursion (EntryNames (λ n. n < length image.old.names)) (map entry_of methods.items) }
-    requires classes_there { AllByRecursion (HasClass (number_image image.old).classes) (map entry_of methods.items) }
-    ensures methods { OnOk result ((number_image image.new).methods ≡ map entry_of methods.items) }
+    requires known { AllByRecursion (EntryNames (λ n. n < length image.old.names)) (map entry_of (those_there methods.items)) }
+    requires classes_there { AllByRecursion (HasClass (number_image image.old).classes) (map entry_of (those_there methods.items)) }
+    ensures methods { OnOk result ((number_image image.new).methods ≡ map entry_of (those_there methods.items)) }
     ensures rest { OnOk result (image.new ≡ record image.old { methods = image.new.methods; method_order = image.new.method_order }) }
     ensures built { OnOk result (IsBuilt table.now image.new) }
 {
-    for method in methods {
-        add_method(image, table, method)?;
+    for slot in methods {
+        if let Some(method) = slot {
+            add_method(image, table, method)?;
+        }
     }
     Ok(())
 }

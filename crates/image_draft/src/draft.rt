@@ -9,6 +9,7 @@ ghost use Rattle.file_model.specs.Refusals.{run_refusals, removal_refusals};
 ghost use Rattle.file_model.specs.Applied.{changed, method_added};
 ghost use Rattle.image_draft.specs.Early.{told};
 ghost use Rattle.image_draft.specs.Drafted.{image_of, change_of, Makes, IsWhole};
+ghost use Rattle.image_draft.specs.MethodSlots.{those_there};
 
 use crate::change::{Change, Run};
 use crate::class_draft::{ClassDraft, Definition};
@@ -38,8 +39,8 @@ pub struct Draft {
 pub struct DraftParts {
     /// The classes: no two have one name, and each superclass stands before its subclasses.
     pub classes: Vec<ClassDraft>,
-    /// The methods, each of one of the classes.
-    pub methods: Vec<MethodDraft>,
+    /// The methods in their slots, each of one of the classes; a slot is empty where a method was removed.
+    pub methods: Vec<Option<MethodDraft>>,
     pub doits: Vec<DoIt>,
     /// How many of the do-its stand before all else: from 0 to their number.
     pub heads: usize,
@@ -282,17 +283,16 @@ impl Draft {
         self.methods.put(method)
     }
 
-    /// What was read, in parts. The error is want of memory for the lists of the classes and the methods.
-    pub fn into_parts(self, alloc: Global) -> Result<DraftParts, Memory>
+    /// What was read, in parts. The error is want of memory for the lists of the classes.
+    pub fn into_parts(self) -> Result<DraftParts, Memory>
         ensures classes { IfOk result (λ parts. parts.classes.items ≡ self.classes) }
-        ensures methods { IfOk result (λ parts. parts.methods.items ≡ self.methods) }
+        ensures methods { IfOk result (λ parts. those_there parts.methods.items ≡ self.methods) }
         ensures doits { IfOk result (λ parts. parts.doits ≡ self.doits) }
         ensures heads { IfOk result (λ parts. parts.heads ≡ self.heads) }
     {
-        let methods = self.methods.into_items(alloc)?;
         Ok(DraftParts {
             classes: self.classes.into_items()?,
-            methods,
+            methods: self.methods.into_slots(),
             doits: self.doits,
             heads: self.heads,
         })

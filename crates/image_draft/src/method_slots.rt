@@ -286,6 +286,14 @@ impl MethodSlots {
         kernel_slots_first(&self.slots)
     }
 
+    /// The slots in order, for one who takes the methods one after another: the methods are not copied to a list of their
+    /// own. A slot is empty where its method was removed.
+    pub fn into_slots(self) -> Vec<Option<MethodDraft>>
+        ensures { those_there result.items ≡ those_there self.slots.items }
+    {
+        self.slots
+    }
+
     /// The methods that are there, in order.
     pub fn into_items(self, alloc: Global) -> Result<Vec<MethodDraft>, Memory>
         ensures { IfOk result (λ items. items.items ≡ those_there self.slots.items) }

@@ -9,6 +9,7 @@ ghost use Rattle.file_model.specs.Applied.{with_method};
 ghost use Rattle.image_draft.specs.Early.{told};
 ghost use Rattle.image_draft.specs.Fronts.{in_front};
 ghost use Rattle.image_draft.specs.Entries.{entry_of, run_of};
+ghost use Rattle.image_draft.specs.MethodSlots.{those_there};
 
 use crate::method_draft::MethodDraft;
 use crate::method_slots::{MethodKey, MethodSlots};
@@ -103,6 +104,14 @@ impl Methods {
         Ok(Methods {
             slots: MethodSlots::from_items(alloc, items)?,
         })
+    }
+
+    /// The methods in their slots, in order, for one who takes them one after another: they are not copied to a list of their
+    /// own. A slot is empty where its method was removed.
+    pub fn into_slots(self) -> Vec<Option<MethodDraft>>
+        ensures { those_there result.items ≡ self }
+    {
+        self.slots.into_slots()
     }
 
     /// The methods, in order.

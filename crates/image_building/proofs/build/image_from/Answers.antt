@@ -8,6 +8,7 @@ use Rattle.class_table.specs.Slots.{Slots}
 use Rattle.class_table.specs.View.{doit_of}
 use Rattle.image_draft.specs.declared.method_draft.MethodDraft.{MethodDraft}
 use Rattle.image_draft.specs.Entries.{entry_of}
+use Rattle.image_draft.specs.MethodSlots.{those_there}
 use Rattle.image_building.proofs.build.image_from.Goals as goal
 
 pub add_classes-requires-clause-known : goal.add_classes-requires-clause-known
@@ -21,7 +22,7 @@ add_classes-requires-clause-superclasses_before c = subst (λ (cs : List (ClassO
 pub add_methods-requires-clause-known : goal.add_methods-requires-clause-known
 add_methods-requires-clause-known c =
     let names = ap (λ (s : Slots). s.names) c.in_ok-add_classes.ensures.rest ∙ ap (λ (s : Slots). s.names) c.image_with-image.ensures.image in
-    subst (λ (ns : List (List ℕ)). AllByRecursion (EntryNames (λ n. n < length ns)) (map entry_of c.in_ok-parts.parts.methods.items)) (sym names)
+    subst (λ (ns : List (List ℕ)). AllByRecursion (EntryNames (λ n. n < length ns)) (map entry_of (those_there c.in_ok-parts.parts.methods.items))) (sym names)
     (subst (λ (ms : List MethodDraft). AllByRecursion (EntryNames (λ n. n < length c.args.names)) (map entry_of ms)) (sym c.in_ok-parts.ensures.methods) c.requires.known.methods)
 
 pub add_doits-requires-clause-known : goal.add_doits-requires-clause-known
