@@ -1,5 +1,5 @@
 // Files of the system.
-ghost use Rattle.std.specs.Prelude.{◌≡◌, ◌+◌, ◌≤◌, ◌<◌, length, []};
+ghost use Rattle.std.specs.Prelude.{◌≡◌, ◌+◌, ◌≤◌, ◌<◌, ◌++◌, length, [], OnOk, OnErr, IfErr};
 
 use rb_base::{Shelf, ShelfError};
 use std::alloc::Global;
@@ -78,6 +78,22 @@ fn read_file<R: Files>(
     }
 }
 
+/// Appends bytes, which are not copied where none stand before them.
+fn append(into: &mut Vec<u8>, bytes: Vec<u8>) -> Result<(), ShelfError>
+    ensures ok { OnOk result (into.new.items ≡ into.old.items ++ bytes.items) }
+    ensures err { OnErr result (into.new.items ≡ into.old.items) }
+    ensures cause { IfErr result (λ cause. cause ≡ ShelfError.Memory) }
+{
+    if into.is_empty() {
+        *into = bytes;
+        return Ok(());
+    }
+    match into.extend_from_slice(bytes.as_slice()) {
+        Ok(()) => Ok(()),
+        Err(_) => Err(ShelfError::Memory),
+    }
+}
+
 impl<R: Files> Shelf for FileShelf<'_, R> {
     ghost use Rattle.rb_base.specs.Outside.{Untold};
 
@@ -101,10 +117,7 @@ impl<R: Files> Shelf for FileShelf<'_, R> {
                 if bytes.len() > limit as usize {
                     return Err(ShelfError::TooLarge);
                 }
-                match into.extend_from_slice(bytes.as_slice()) {
-                    Ok(()) => Ok(()),
-                    Err(_) => Err(ShelfError::Memory),
-                }
+                append(into, bytes)
             }
         }
     }

@@ -44,6 +44,18 @@ fn write_file(alloc: Global, image: &Image, out: &mut Text) -> Result<(), Memory
     Ok(())
 }
 
+/// Appends a text, which is not copied where nothing stands before it.
+fn append(out: &mut Text, text: Text) -> Result<(), Memory>
+    ensures ok { OnOk result (out.new ≡ out.old ++ text) }
+    ensures err { OnErr result (out.new ≡ out.old) }
+{
+    if out.as_slice().is_empty() {
+        *out = text;
+        return Ok(());
+    }
+    out.push_slice(text.as_slice())
+}
+
 /// Appends the text of an image as a file-out: the do-its at its head, the classes of the user, their methods in runs of
 /// neighbours of one class, side and protocol, and the other do-its. Sources stay as they are. On want of memory `out` is
 /// as before.
@@ -54,5 +66,5 @@ pub fn write_image(alloc: Global, image: &Image, out: &mut Text) -> Result<(), M
 {
     let mut file = Text::new(alloc);
     write_file(alloc, image, &mut file)?;
-    out.push_slice(file.as_slice())
+    append(out, file)
 }
