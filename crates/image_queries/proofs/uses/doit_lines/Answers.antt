@@ -15,15 +15,6 @@ loop-number-preserved g c =
     held.0 c.in_ok-lines.lines c.push_slice.new.self held.1
     (c.in_ok-lines.ensures held.0 held.1) (c.in_ok-push_slice.ensures.ok ∙ ap (λ (t : List ℕ). c.loop-number.text ++ t) c.as_slice.ensures)
 
-pub loop-number-preserved-in_ok-push_slice : goal.loop-number-preserved-in_ok-push_slice
-loop-number-preserved-in_ok-push_slice g c =
-    let items = c.args.image.now.doits in
-    let within : c.loop-number.number < length items = omega (arith, c.loop-number-test.true, c.doits.ensures) in
-    let held = there items c.loop-number.number within in
-    text_more (λ (number : ℕ) (d : DoIt) (lines : List ℕ). IsDoItText c.args.image.now (query_of c.args.query.now) number d lines) items c.loop-number.number c.loop-number.text c.loop-number.invariant
-    held.0 c.in_ok-lines.lines c.push_slice.new.self held.1
-    (c.in_ok-lines.ensures held.0 held.1) (c.in_ok-push_slice.ensures.ok ∙ ap (λ (t : List ℕ). c.loop-number.text ++ t) c.as_slice.ensures)
-
 pub returns : goal.returns
 returns g c =
     let items = c.args.image.now.doits in
