@@ -2,6 +2,7 @@
 use rb_base::Memory;
 use std::alloc::Global;
 
+/// A list of these words, each as a string.
 pub fn given(alloc: Global, words: &[&str]) -> Result<Vec<String>, Memory> {
     let mut given = Vec::new(alloc);
     for word in words {

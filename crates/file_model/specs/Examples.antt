@@ -152,7 +152,7 @@ accepted =
     (Ok (record kernel { doits = record { source = []; body = statement (send (send (side (codes "A")) (codes "class") no_trees) (codes "comment:") (trees_of (string [] ∷ []))) } ∷ [] }))
     ∷ []
 
--- each cause
+-- each cause but `Unended`
 abbrev pub refusals : List Row
 refusals =
     refused (plain (codes "A") (codes "A") ∷ []) UnknownSuperclass
@@ -178,6 +178,7 @@ refusals =
     ∷ refused (pooled (codes "Object") (codes "a b") [] [] (codes "P") ∷ []) UnknownDefinition
     ∷ refused (definition (codes "Object") (codes "A") (codes "a 3") [] ∷ []) UnknownDefinition
     ∷ refused (definition (codes "Object") (codes "A") (codes "a self") [] ∷ []) UnknownDefinition
+    ∷ refused (definition (codes "Object") (codes "Object") (codes "a 3") [] ∷ []) UnknownDefinition
     ∷ refused (plain (codes "Object") (codes "Transcript") ∷ []) UnknownDefinition
     ∷ refused (message (class (codes "Foo")) (codes "removeClassNamed:") (name (codes "A") ∷ []) ∷ []) UnknownDefinition
     ∷ refused (message (class (codes "Foo")) (codes "comment:") (class (codes "nil") ∷ []) ∷ []) UnknownDefinition

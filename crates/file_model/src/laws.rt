@@ -9,7 +9,8 @@ ghost use Rattle.file_model.specs.Written.{file_of};
 ghost use Rattle.file_model.specs.Examples.{AllMade, accepted, refusals, written_image, written_text};
 
 /// Chunks one after the other make the images that stand beside them, or are refused with the cause that stands beside
-/// them: each form of chunk, and each cause. An image with everything that is written has the text that stands beside it.
+/// them: each form of chunk but the four that state places, settle them or replace a do-it, and each cause but `Unended`. An
+/// image with everything that is written has the text that stands beside it.
 pub fn judges_examples()
     ensures accepted { AllMade accepted }
     ensures refusals { AllMade refusals }

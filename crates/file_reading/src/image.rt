@@ -15,6 +15,8 @@ use std::alloc::Global;
 ///
 /// `ImageFault::Refused` tells the number of the chunk, from 1, the place of the cause, and the cause; `ImageFault::Memory`
 /// that memory was wanting.
+///
+/// The image is valid, and can be written as a file-out and read again, by the law `every_image_is_valid` of `kernel_image`.
 pub fn read_image(alloc: Global, text: &[u8]) -> Result<Image, ImageFault>
     ensures ok { IfOk result (IsReadFrom prelude_text text.now) }
     ensures err { IfErr result (IsRefused prelude_text text.now) }

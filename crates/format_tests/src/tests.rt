@@ -58,6 +58,8 @@ fn file_outs_are_refused(rt: HostRuntime) -> Result<(), Fail> {
     answers(&rt, alloc, 3, &texts::refused_one())?;
     answers(&rt, alloc, 3, &texts::refused_two())?;
     answers(&rt, alloc, 3, &texts::refused_three())?;
+    answers(&rt, alloc, 3, &texts::refused_four())?;
+    answers(&rt, alloc, 3, &texts::refused_five())?;
     Ok(())
 }
 
@@ -92,7 +94,8 @@ fn do_its_are_replaced(rt: HostRuntime) -> Result<(), Fail> {
 fn places_and_replacements_are_refused(rt: HostRuntime) -> Result<(), Fail> {
     let alloc = rt.alloc();
     answers(&rt, alloc, 3, &places::refused_whole())?;
-    answers(&rt, alloc, 3, &places::refused_small())?;
+    answers(&rt, alloc, 3, &places::refused_placed())?;
+    answers(&rt, alloc, 3, &places::refused_replaced())?;
     answers(&rt, alloc, 3, &places::refused_unordered())?;
     Ok(())
 }

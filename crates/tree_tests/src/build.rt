@@ -5,12 +5,14 @@ use st_tree::{
 };
 use std::alloc::Global;
 
+/// A variable whose name has this number.
 pub fn variable(name: usize) -> Node {
     Node {
         kind: NodeKind::Var { name: NameId(name) },
     }
 }
 
+/// Variables whose names have these numbers.
 pub fn variables(alloc: Global, names: &[usize]) -> Result<Nodes, Memory> {
     let mut nodes = Nodes::new(alloc);
     for name in names {
@@ -26,10 +28,12 @@ pub fn one(alloc: Global, node: Node) -> Result<Nodes, Memory> {
     Ok(nodes)
 }
 
+/// A list of these names, as a sequence or a block declares them.
 pub fn ids(alloc: Global, names: &[NameId]) -> Result<Ids, Memory> {
     Ok(Ids::from_vec(Vec::from_slice(alloc, names)?))
 }
 
+/// The path of these steps, from the root of a tree.
 pub fn path(alloc: Global, steps: &[usize]) -> Result<Path, Memory> {
     Ok(Path::from_vec(Vec::from_slice(alloc, steps)?))
 }

@@ -144,8 +144,8 @@ pub(super) fn refused_whole() -> [(&'static [u8], &'static [u8]); 4] {
     ]
 }
 
-/// Small file-outs with a chunk that is refused, and the line that tells which.
-pub(super) fn refused_small() -> [(&'static [u8], &'static [u8]); 13] {
+/// Small file-outs with a chunk that states a place and is refused, and the line that tells which.
+pub(super) fn refused_placed() -> [(&'static [u8], &'static [u8]); 6] {
     [
         (
             b"Object subclass: #A instanceVariableNames: '' classVariableNames: '' poolDictionaries: '' category: 'T' at: 0!",
@@ -171,6 +171,12 @@ pub(super) fn refused_small() -> [(&'static [u8], &'static [u8]); 13] {
             b"A methodsFor: 'p' at: 1!",
             b"image chunk 1 at 0 UnknownClass\n",
         ),
+    ]
+}
+
+/// Small file-outs with a chunk that replaces a do-it and is refused, and the line that tells which.
+pub(super) fn refused_replaced() -> [(&'static [u8], &'static [u8]); 7] {
+    [
         (
             b"3!Smalltalk replaceDoIt: 0 with: '4'!",
             b"image chunk 2 at 0 UnknownDefinition\n",

@@ -109,7 +109,7 @@ pub(super) fn refused_one() -> [(&'static [u8], &'static [u8]); 16] {
 }
 
 /// File-outs with a chunk that is refused, and the line that tells which.
-pub(super) fn refused_two() -> [(&'static [u8], &'static [u8]); 16] {
+pub(super) fn refused_two() -> [(&'static [u8], &'static [u8]); 9] {
     [
         (
             b"a foo foo foo foo foo foo foo foo foo foo foo foo foo foo foo foo foo foo foo foo foo foo foo foo foo foo foo foo foo foo foo foo foo foo foo foo foo foo foo foo foo foo foo foo foo foo foo foo foo foo foo foo foo foo foo foo foo foo foo foo foo foo foo foo foo foo foo foo foo foo foo foo foo foo foo foo foo foo foo foo foo foo foo foo foo foo foo foo foo foo foo foo foo foo foo foo foo foo foo foo foo foo foo foo foo foo foo foo foo foo foo foo foo foo foo foo foo foo foo foo foo foo foo foo foo foo foo foo foo foo foo foo foo foo foo foo foo foo foo foo foo foo foo foo foo foo foo foo foo foo foo foo foo foo foo foo foo foo foo foo foo foo foo foo foo foo foo foo foo foo foo foo foo foo foo foo foo foo foo foo foo foo foo foo foo foo foo foo foo foo foo foo foo foo foo foo foo foo foo foo!",
@@ -128,6 +128,16 @@ pub(super) fn refused_two() -> [(&'static [u8], &'static [u8]); 16] {
             b"\n\nnamed: aName ^parts detect: [:each | each name = aName]  ifNone: [nil]!",
             b"image chunk 1 at 0 Expected operand\n",
         ),
+        (
+            b"Object subclass: #Object instanceVariableNames: '3' classVariableNames: '' poolDictionaries: '' category: ''!",
+            b"image chunk 1 at 0 UnknownDefinition\n",
+        ),
+    ]
+}
+
+/// File-outs with a chunk that is refused, and the line that tells which.
+pub(super) fn refused_three() -> [(&'static [u8], &'static [u8]); 8] {
+    [
         (
             b"A class comment: ''!Object subclass: #A instanceVariableNames: '' classVariableNames: 'X' poolDictionaries: '' category: 'T'!\n\n!A class methodsFor: 'q''s'!\nbaz\n\t\"\"\n\t| super |!\n\nfoo: a\n\tb! !\n\n",
             b"image chunk 1 at 0 UnknownDefinition\n",
@@ -164,7 +174,7 @@ pub(super) fn refused_two() -> [(&'static [u8], &'static [u8]); 16] {
 }
 
 /// File-outs with a chunk that is refused, and the line that tells which.
-pub(super) fn refused_three() -> [(&'static [u8], &'static [u8]); 10] {
+pub(super) fn refused_four() -> [(&'static [u8], &'static [u8]); 5] {
     [
         (
             b"Object\x0csubclass: #A instanceVariableNames: '' classVariableNames: 'X y' poolDictionaries: ' ' category: 'T'! !A methodsFor:\t'!!'! - e5\n\t^[\n\t\t#()\n\t\t\".\"\n\t\t\".]\n\"] primitive: (99999999999999999999 whileTrue: '+!!\x00'); ~= (super -> thisContext); primitive: (x1 := #|)! !A class methodsFor: '!!'!at: a put: b!\r\n! \n\nA removeSelector: #zork!\n\"\xc8\"\n{(Foo := false) at: [:c :x1 |\n\t| e5 |\n\t'a \n'.\n\tself.\n\t$\xd0\n\t\"\"\n\t\"a\xc8\"]}!Object removeSelector: #zork!\nObject removeSelector: #yourself!",
@@ -186,6 +196,12 @@ pub(super) fn refused_three() -> [(&'static [u8], &'static [u8]); 10] {
             b"Object subclass: #A instanceVariableNames: 'x y n' classVariableNames: '' poolDictionaries: '' category: 'T'!\n\nA class instanceVariableNames: 'x'!\n\nObject subclass: #B instanceVariableNames: 'y' classVariableNames: 'X' poolDictionaries: '' category: 'T'!\n\nB class instanceVariableNames: 's'!\n\nB subclass: #C instanceVariableNames: 'x z n' classVariableNames: 'Z' poolDictionaries: '' category: 'T'!\n\n!A class methodsFor: 'm'!\nbaz\n\t| u |\n\tx.\n\tu := x.\n\t^u! !\n\n!C methodsFor: 'm'!\nbaz\n\t| x |\t^( (Transcript\r\nprint: 3) bar: 0)\r\nbar; run! !\n\n!B class methodsFor: 'm'!\nmake ^$a not! !\n\n!A methodsFor: 'x'!\nfoo: a foo: a ^3! !\n\n!Class class methodsFor: '*mine'!\ndouble ^self + self! !\n\n",
             b"image chunk 20 at 12 DuplicateName\n",
         ),
+    ]
+}
+
+/// File-outs with a chunk that is refused, and the line that tells which.
+pub(super) fn refused_five() -> [(&'static [u8], &'static [u8]); 5] {
+    [
         (
             b"nil foo foo foo foo foo foo foo foo foo foo foo foo foo foo foo foo foo foo foo foo foo foo foo foo foo foo foo foo foo foo foo foo foo foo foo foo foo foo foo foo foo foo foo foo foo foo foo foo foo foo foo foo foo foo foo foo foo foo foo foo foo foo foo foo foo foo foo foo foo foo foo foo foo foo foo foo foo foo foo foo foo foo foo foo foo foo foo foo foo foo foo foo foo foo foo foo foo foo foo foo foo foo foo foo foo foo foo foo foo foo foo foo foo foo foo foo foo foo foo foo foo foo foo foo foo foo foo foo foo foo foo foo foo foo foo foo foo foo foo foo foo foo foo foo foo foo foo foo foo foo foo foo foo foo foo foo foo foo foo foo foo foo foo foo foo foo foo foo foo foo foo foo foo foo foo foo foo foo foo foo foo foo foo foo foo foo foo foo foo foo foo foo foo foo foo foo foo foo foo foo!",
             b"image chunk 1 at 0 TooDeep\n",

@@ -1,74 +1,83 @@
 // A file-out that is cut off after any number of bytes.
-use super::{file_of, formats, words_of};
-use browse::browse;
-use rb_base::{Memory, MemorySink};
+use super::formats;
+use rb_base::Memory;
 use std::alloc::Global;
 use std::process::Abort;
 use std::test::Fail;
 
-/// A definition and a method of a class, and an expression. The definition has 114 bytes with its mark.
+/// A definition and a method of a class, and an expression.
 const ACCOUNT: &[u8] =
     b"Object subclass: #Account\n\tinstanceVariableNames: ''\n\tclassVariableNames: ''\n\tpoolDictionaries: ''\n\tcategory: 'T'!\n\n!Account methodsFor: 'm'!\nbalance\n\t^3! !\n\nAccount new balance!\n\n";
 
-/// How many bytes of the file-out are its definition, with the two line feeds behind it.
-const DEFINITION: usize = 116;
+/// From how many of its first bytes to before how many the file-out is read, and how many of them `format` writes then.
+fn ended() -> [(usize, usize, usize); 5] {
+    [
+        (0, 1, 0),
+        (114, 118, 116),
+        (141, 143, 116),
+        (154, 159, 158),
+        (178, 181, 180),
+    ]
+}
+
+/// From how many of its first bytes to before how many the file-out is refused, and the line that tells why.
+fn cut_off() -> [(usize, usize, &'static [u8]); 4] {
+    [
+        (1, 114, b"image chunk 1 at 0 Unended\n"),
+        (118, 141, b"image chunk 3 at 117 Unended\n"),
+        (143, 154, b"image chunk 4 at 142 Unended\n"),
+        (159, 178, b"image chunk 6 at 158 Unended\n"),
+    ]
+}
 
 /// The first bytes of a text, as many as there are.
 fn first(text: &[u8], count: usize) -> &[u8] {
     &text[..count.min(text.len())]
 }
 
-/// Whether only blanks stand behind the last mark of a text, or in all of it where it has none.
-fn is_ended(text: &[u8]) -> bool {
-    for byte in text.iter().rev() {
-        if *byte == b'!' {
-            return true;
-        }
-        if !byte.is_ascii_whitespace() {
-            return false;
-        }
+/// Compares the answers to the file-out's first bytes, from so many to before so many, with what is sent then.
+fn is_told(
+    rt: &impl Abort,
+    alloc: Global,
+    from: usize,
+    to: usize,
+    status: u8,
+    sent: &[u8],
+) -> Result<(), Memory> {
+    for count in from..to {
+        formats(rt, alloc, first(ACCOUNT, count), status, sent)?;
     }
-    true
+    Ok(())
 }
 
-/// The status of the answer to `format` of a text.
-fn status_of(alloc: Global, image: &[u8]) -> Result<u8, Memory> {
-    let mut shelf = file_of(alloc, image)?;
-    let mut sink = MemorySink::new(alloc);
-    let words = words_of(alloc, "I")?;
-    Ok(browse(alloc, words.as_slice(), &mut shelf, &mut sink).number())
+/// Compares the answers where the file-out is read.
+fn are_read(rt: &impl Abort, alloc: Global, cases: &[(usize, usize, usize)]) -> Result<(), Memory> {
+    for (from, to, written) in cases {
+        is_told(rt, alloc, *from, *to, 0, first(ACCOUNT, *written))?;
+    }
+    Ok(())
 }
 
-/// Compares the answer to the text's first bytes with what is known of each: it is refused unless it is ended.
-fn is_told(rt: &impl Abort, alloc: Global, text: &[u8]) -> Result<(), Memory> {
-    let status = if is_ended(text) { 0 } else { 3 };
-    let got = status_of(alloc, text)?;
-    assert_eq!(rt; got, status);
+/// Compares the answers where the file-out is refused.
+fn are_refused(
+    rt: &impl Abort,
+    alloc: Global,
+    cases: &[(usize, usize, &'static [u8])],
+) -> Result<(), Memory> {
+    for (from, to, line) in cases {
+        is_told(rt, alloc, *from, *to, 3, line)?;
+    }
     Ok(())
 }
 
 #[test]
 fn a_text_is_read_where_its_last_chunk_is_ended(rt: HostRuntime) -> Result<(), Fail> {
-    for count in 0..ACCOUNT.len() + 1 {
-        is_told(&rt, rt.alloc(), first(ACCOUNT, count))?;
-    }
+    are_read(&rt, rt.alloc(), &ended())?;
     Ok(())
 }
 
 #[test]
-fn a_definition_that_is_cut_off_is_refused(rt: HostRuntime) -> Result<(), Fail> {
-    for count in 1..DEFINITION - 2 {
-        let refusal = b"image chunk 1 at 0 Unended\n";
-        formats(&rt, rt.alloc(), first(ACCOUNT, count), 3, refusal)?;
-    }
-    for count in DEFINITION - 2..DEFINITION + 1 {
-        formats(
-            &rt,
-            rt.alloc(),
-            first(ACCOUNT, count),
-            0,
-            first(ACCOUNT, DEFINITION),
-        )?;
-    }
+fn a_text_that_is_cut_off_in_a_chunk_is_refused(rt: HostRuntime) -> Result<(), Fail> {
+    are_refused(&rt, rt.alloc(), &cut_off())?;
     Ok(())
 }
