@@ -1,5 +1,0 @@
-//! Tests of `run` over whole file-outs, through the one call of the program. The crate has nothing else.
-#![tactic(auto)]
-
-#[cfg(test)]
-mod tests;
