@@ -1,18 +1,11 @@
 // Parts of messages.
 ghost use Rattle.std.specs.Prelude.{◌≡◌, suc, ◌<◌, ◌≤◌, ◌++◌, ◌&&◌, length, take, true, IfOk, OnOk, OnErr, IsErr, codes};
-ghost use Rattle.rb_base.specs.Names.{name_at};
-ghost use Rattle.tree_model.specs.Tree.{map_names, map_messages};
-ghost use Rattle.tree_model.specs.AllNames.{AllNames, MessagesNames};
-ghost use Rattle.st_tree.specs.View.{messages_of};
 ghost use Rattle.text_model.specs.Pieces.{keywords_of, pieces_behind};
-ghost use Rattle.text_model.specs.Precedences as rule;
 ghost use Rattle.st_formatter.specs.Turns.{items_at};
 
 use crate::backward::Backward;
-use crate::selectors::{keyword_start, message_precedence, text_of};
-use rb_base::{Memory, Names};
-use st_tree::{Message, Node, NodeKind};
-use text_model::Precedence;
+use crate::selectors::keyword_start;
+use rb_base::Memory;
 
 /// Whether both hold.
 pub(crate) fn both(first: bool, second: bool) -> bool
@@ -50,38 +43,4 @@ pub(crate) fn write_keyword<'a>(
     out.put(&rest[start..])?;
     out.put_byte(b' ')?;
     Ok(&rest[..start])
-}
-
-/// How loosely an expression holds together.
-#[tactic(auto, using(crate::proofs::Arguments::precedence_rules))]
-pub(crate) fn precedence_of(node: &Node, names: &Names) -> Precedence
-    requires { AllNames (λ n. n < length names.now) node.now }
-    ensures { result ≡ rule.precedence_of (map_names (name_at names.now) node.now) }
-{
-    match &node.kind {
-        NodeKind::Send {
-            selector,
-            arguments,
-            ..
-        } => message_precedence(text_of(names, *selector), arguments.as_slice()),
-        NodeKind::Cascade { .. } | NodeKind::Assign { .. } => Precedence::Keyword,
-        NodeKind::Var { .. } | NodeKind::Literal { .. } => Precedence::Unary,
-        NodeKind::Block { .. } | NodeKind::Brace { .. } => Precedence::Unary,
-        NodeKind::Return { .. } => Precedence::Unary,
-    }
-}
-
-/// How loosely the first of these messages holds together.
-#[tactic(auto, using(crate::proofs::Arguments::precedence_rules))]
-pub(crate) fn messages_precedence(messages: &[Message], names: &Names) -> Precedence
-    requires { MessagesNames (λ n. n < length names.now) (messages_of messages.now) }
-    ensures { result ≡ rule.messages_precedence (map_messages (name_at names.now) (messages_of messages.now)) }
-{
-    match messages.split_first() {
-        None => Precedence::Unary,
-        Some((first, _)) => message_precedence(
-            text_of(names, first.selector),
-            first.arguments.as_slice(),
-        ),
-    }
 }

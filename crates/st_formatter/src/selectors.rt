@@ -3,24 +3,13 @@ ghost use Rattle.std.specs.Prelude.{◌≡◌, suc, ◌<◌, ◌≤◌, [], ◌�
 ghost use Rattle.std.specs.List.{list_all};
 ghost use Rattle.rb_base.specs.Names.{name_at};
 ghost use Rattle.token_model.specs.Bytes as class;
-ghost use Rattle.tree_model.specs.Tree.{trees_of};
 ghost use Rattle.text_model.specs.Pieces as piece;
 ghost use Rattle.text_model.specs.Literals as symbol;
-ghost use Rattle.text_model.specs.Precedences as rule;
 
 use crate::backward::Backward;
 use crate::bytes::{is_binary, is_letter, is_second, is_word};
+use precedences::text_of;
 use rb_base::{Memory, NameId, Names};
-use st_tree::Node;
-use text_model::Precedence;
-
-/// The text of a name.
-pub(crate) fn text_of(names: &Names, name: NameId) -> &[u8]
-    requires { name < length names.now }
-    ensures { result.now ≡ name_at names.now name }
-{
-    names.text_of(name)
-}
 
 /// Writes a name before the text.
 pub(crate) fn write_name(name: NameId, names: &Names, out: &mut Backward) -> Result<(), Memory>
@@ -76,61 +65,6 @@ fn last_keyword(selector: &[u8]) -> usize
         at -= 1;
     }
     at
-}
-
-/// Whether a selector has a colon, as those of keywords do.
-fn has_colon(selector: &[u8]) -> bool
-    ensures { result ≡ piece.has_colon selector.now }
-{
-    selector.iter().any(|byte| *byte == b':')
-}
-
-/// How loosely a message with this selector and these arguments holds together.
-#[tactic(auto, using(crate::proofs::Arguments::precedence_rules))]
-pub(crate) fn message_precedence(selector: &[u8], arguments: &[Node]) -> Precedence
-    ensures { result ≡ rule.message_precedence selector.now (trees_of arguments.now) }
-{
-    if arguments.is_empty() {
-        Precedence::Unary
-    } else if has_colon(selector) {
-        Precedence::Keyword
-    } else {
-        Precedence::Binary
-    }
-}
-
-/// The loosest receiver that a message takes without parentheses.
-pub(crate) fn receiver_limit(message: Precedence) -> Precedence
-    ensures { result ≡ rule.receiver_limit message }
-{
-    match message {
-        Precedence::Unary => Precedence::Unary,
-        Precedence::Binary | Precedence::Keyword => Precedence::Binary,
-    }
-}
-
-/// The loosest argument that a message takes without parentheses.
-pub(crate) fn argument_limit(message: Precedence) -> Precedence
-    ensures { result ≡ rule.argument_limit message }
-{
-    match message {
-        Precedence::Unary | Precedence::Binary => Precedence::Unary,
-        Precedence::Keyword => Precedence::Binary,
-    }
-}
-
-/// Whether an operand of this precedence is looser than the limit.
-pub(crate) fn is_looser(operand: Precedence, limit: Precedence) -> bool
-    ensures { result ≡ rule.is_looser operand limit }
-{
-    match (operand, limit) {
-        (Precedence::Unary, _) | (Precedence::Binary, Precedence::Binary | Precedence::Keyword) => {
-            false
-        }
-        (Precedence::Keyword, Precedence::Keyword) => false,
-        (Precedence::Binary, Precedence::Unary) => true,
-        (Precedence::Keyword, Precedence::Unary | Precedence::Binary) => true,
-    }
 }
 
 /// Whether the bytes are a letter, then letters and digits.

@@ -17,10 +17,11 @@ use crate::backward::Backward;
 use crate::bodies::{inner_level, is_bare, start_line_unless, write_blank, write_period};
 use crate::lines::{start_line, write_notes, write_parameters, write_temporaries};
 use crate::literals::write_literal;
-use crate::messages::{both, flat_after, messages_precedence, precedence_of, write_keyword};
-use crate::selectors::{
-    argument_limit, count_keywords, is_looser, message_precedence, receiver_limit, text_of,
-    write_name,
+use crate::messages::{both, flat_after, write_keyword};
+use crate::selectors::{count_keywords, write_name};
+use precedences::{
+    argument_limit, is_looser, message_precedence, messages_precedence, precedence_of,
+    receiver_limit, text_of,
 };
 use rb_base::{Memory, NameId, Names};
 use st_tree::{Message, Node, NodeKind, Sequence, Statement};

@@ -12,8 +12,9 @@ ghost use Rattle.text_model.specs.Whole.{pattern_text, primitive_lines, canonica
 use crate::backward::Backward;
 use crate::lines::{start_line, write_notes};
 use crate::messages::write_keyword;
-use crate::selectors::{count_keywords, text_of, write_name};
+use crate::selectors::{count_keywords, write_name};
 use crate::trees::write_lines;
+use precedences::text_of;
 use rb_base::{Memory, NameId, Names, Text};
 use st_tree::{Method, Sequence};
 use std::alloc::Global;
