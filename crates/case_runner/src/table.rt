@@ -109,7 +109,7 @@ impl<'t> Table<'t> {
 
     /// Reads the length of bytes, the end of its line, the bytes and the line feed behind them.
     pub fn bytes(&mut self) -> Result<&'t [u8], TableFault>
-        ensures ok { IfOk result (λ bytes. self.old.rest.now ≡ decimal (length bytes.now) ++ 10 ∷ bytes.now ++ 10 ∷ self.new.rest.now) }
+        ensures ok { IfOk result (λ bytes. self.old.rest.now ≡ decimal (length bytes.now) ++ 10 ∷ (bytes.now ++ 10 ∷ self.new.rest.now)) }
         ensures shorter { length self.new.rest.now ≤ length self.old.rest.now }
     {
         let length = self.last_number()?;
@@ -123,7 +123,7 @@ impl<'t> Table<'t> {
 
     /// Reads bytes that are UTF-8. Where they are not, they are still to be read.
     pub fn text(&mut self) -> Result<&'t str, TableFault>
-        ensures ok { IfOk result (λ text. self.old.rest.now ≡ decimal (length text.now) ++ 10 ∷ text.now ++ 10 ∷ self.new.rest.now) }
+        ensures ok { IfOk result (λ text. self.old.rest.now ≡ decimal (length text.now) ++ 10 ∷ (text.now ++ 10 ∷ self.new.rest.now)) }
         ensures shorter { length self.new.rest.now ≤ length self.old.rest.now }
     {
         let start = self.rest;

@@ -7,5 +7,5 @@ use Rattle.case_runner.proofs.table.Table.skip.Goals as goal
 pub returns-in-Some-clause-read : goal.returns-in-Some-clause-read
 returns-in-Some-clause-read c =
     let e : c.args.self.now.rest.now ≡ c.as_bytes.result.now ++ c.in-Some.rest.now =
-        strip_prefix_is Decides-eqb _ _ (Some c.in-Some.rest) c.in-Some.ensures.cases in
+    strip_prefix_is Decides-eqb _ _ (Some c.in-Some.rest) c.in-Some.ensures.cases in
     λ _. cc (e, c.as_bytes.ensures.value)
