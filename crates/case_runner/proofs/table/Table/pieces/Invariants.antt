@@ -1,0 +1,9 @@
+-- Each piece leaves less to be read.
+use Rattle.std.proofs.Common.{◌≤◌, length}
+use Rattle.case_runner.proofs.table.Table.pieces.Given as goal
+
+abbrev pub invariant-loop : goal.invariant-loop
+invariant-loop l = length l.self.rest.now ≤ length l.fn.self.rest.now
+
+abbrev pub decreases-loop : goal.decreases-loop
+decreases-loop l = length l.self.rest.now

@@ -1,0 +1,11 @@
+-- What is read is the text, and what is left stands behind it.
+use Rattle.std.proofs.Common.{◌≡◌, ◌++◌, Some}
+use Rattle.std.proofs.lemmas.Bool.Decides.{Decides-eqb}
+use Rattle.std.proofs.lemmas.Slice.Eq.{strip_prefix_is}
+use Rattle.case_runner.proofs.table.Table.skip.Goals as goal
+
+pub returns-in-Some-clause-read : goal.returns-in-Some-clause-read
+returns-in-Some-clause-read c =
+    let e : c.args.self.now.rest.now ≡ c.as_bytes.result.now ++ c.in-Some.rest.now =
+    strip_prefix_is Decides-eqb _ _ (Some c.in-Some.rest) c.in-Some.ensures.cases in
+    λ _. cc (e, c.as_bytes.ensures.value)

@@ -1,0 +1,129 @@
+// The cases of a table are run, and their answers compared.
+ghost use Rattle.std.specs.Prelude.{◌≡◌, ◌↔◌, ◌<◌, ℕ, take, IsNone, IfSome, Some};
+ghost use Rattle.browse.specs.Statuses.{number_of};
+
+use crate::case::{Case, Wanted};
+use crate::table::Table;
+use browse::{Status, browse};
+use rb_base::MemorySink;
+use std::{fmt, io};
+use thiserror::Error;
+
+/// In what an answer differs first from the one that is wanted.
+#[derive(Clone, Copy, Debug, PartialEq, Eq, Error)]
+pub enum Difference {
+    /// The call wanted memory.
+    #[error("memory is wanting")]
+    Memory,
+    /// Another status.
+    #[error("status {given} in place of {wanted}")]
+    Status { given: u8, wanted: u32 },
+    /// Other bytes were sent, from this place on.
+    #[error("other bytes are sent, the first at {0}")]
+    Sent(usize),
+    /// More or fewer puts were called.
+    #[error("{given} puts in place of {wanted}")]
+    Puts { given: u64, wanted: u32 },
+}
+
+/// How many cases were run.
+#[derive(Clone, Copy)]
+struct Tally {
+    all: u64,
+    agreeing: u64,
+}
+
+impl fmt::Display for Tally {
+    fn fmt<W: fmt::Write>(&self, f: &mut fmt::Formatter<W>) -> fmt::Result {
+        if self.agreeing == self.all {
+            write!(f, "all {} cases agree", self.all)
+        } else {
+            write!(f, "{} of {} cases agree", self.agreeing, self.all)
+        }
+    }
+}
+
+/// Runs the cases that are to be read, of which there is at least one, and prints what it finds. Tells whether the table is in
+/// form and all its cases agree. An error comes where the output fails.
+pub fn run_cases<R: Print + AllocGlobal>(rt: &R, table: &mut Table<'_>) -> io::Result<bool> {
+    let mut tally = Tally {
+        all: 0,
+        agreeing: 0,
+    };
+    loop {
+        match Case::read(rt.alloc(), table) {
+            Ok(mut case) => {
+                tally.all = tally.all.saturating_add(1);
+                if agrees(rt, &mut case)? {
+                    tally.agreeing = tally.agreeing.saturating_add(1);
+                }
+            }
+            Err(cause) => {
+                rt.println(table.fault(cause))?;
+                return Ok(false);
+            }
+        }
+        if table.rest.is_empty() {
+            break;
+        }
+    }
+    rt.println(tally)?;
+    Ok(tally.agreeing == tally.all)
+}
+
+/// Runs a case, and prints in what its answer differs.
+fn agrees<R: Print + AllocGlobal>(rt: &R, case: &mut Case<'_>) -> io::Result<bool> {
+    let words = case.words.as_slice();
+    let status = browse(rt.alloc(), words, &mut case.shelf, &mut case.sink);
+    match compare(status, &case.sink, &case.wanted) {
+        None => Ok(true),
+        Some(difference) => {
+            println!(rt; "{}: {difference}", case.name)?;
+            Ok(false)
+        }
+    }
+}
+
+/// In what an answer differs from the one that is wanted.
+fn compare(status: Status, sink: &MemorySink, wanted: &Wanted) -> Option<Difference>
+    ensures agrees { IsNone result ↔ ((number_of status ≡ wanted.now.status) × (sink.now.bytes ≡ wanted.now.sent.items)
+        × IfSome wanted.now.puts (λ puts. sink.now.calls ≡ puts)) }
+    ensures before { (place : ℕ) → result ≡ Some (Difference.Sent place) → take place sink.now.bytes ≡ take place wanted.now.sent.items }
+{
+    let given = status.number();
+    if u32::from(given) != wanted.status {
+        return Some(match status {
+            Status::Memory => Difference::Memory,
+            _ => Difference::Status {
+                given,
+                wanted: wanted.status,
+            },
+        });
+    }
+    if let Some(place) = first_other(sink.as_slice(), wanted.sent.as_slice()) {
+        return Some(Difference::Sent(place));
+    }
+    match wanted.puts {
+        Some(puts) if u64::from(puts) != sink.calls() => Some(Difference::Puts {
+            given: sink.calls(),
+            wanted: puts,
+        }),
+        _ => None,
+    }
+}
+
+/// The first place at which these bytes are not the same, or the shorter length where one of them goes on.
+#[tactic(auto, using(std::proofs::lemmas::List::take_more_same))]
+fn first_other(given: &[u8], wanted: &[u8]) -> Option<usize>
+    ensures same { IsNone result ↔ (given.now ≡ wanted.now) }
+    ensures before { IfSome result (λ place. take place given.now ≡ take place wanted.now) }
+{
+    if given == wanted {
+        return None;
+    }
+    let mut place = 0;
+    while place < given.len() && place < wanted.len() && given[place] == wanted[place] {
+        place += 1;
+    }
+    Some(place)
+}
