@@ -1,8 +1,9 @@
 // What no clause says: numerals as they are spelled, and that values are built where there is memory.
-use rb_base::{Memory, NameId, Names, Text};
+use rb_base::{Memory, Names};
 use st_literals::{literal, numeral};
 use st_meaning::{SharedNames, Store, Value, ValueKind};
-use st_tree::{Literal, LiteralKind, Literals};
+use st_parser::{ParseFault, parse_doit};
+use st_tree::{Literal, NodeKind, Sequence};
 use std::alloc::Global;
 use std::test::Fail;
 
@@ -30,74 +31,10 @@ const NUMERALS: &[(&[u8], Option<i64>)] = &[
 ];
 
 #[test]
-fn numerals_are_read(rt: HostRuntime) -> Result<(), Fail> {
+fn numerals_are_read(rt: HostRuntime) {
     for (text, wanted) in NUMERALS {
-        assert!(rt; numeral(*text) == *wanted);
+        assert!(rt; numeral(text) == *wanted);
     }
-    Ok(())
-}
-
-fn number(alloc: Global, text: &[u8]) -> Result<Literal, Memory> {
-    let text = Text::from_slice(alloc, text)?;
-    Ok(Literal {
-        kind: LiteralKind::Number { text },
-    })
-}
-
-fn string(alloc: Global) -> Result<Literal, Memory> {
-    let text = Text::from_slice(alloc, b"s")?;
-    Ok(Literal {
-        kind: LiteralKind::Str { text },
-    })
-}
-
-fn symbol(alloc: Global) -> Result<Literal, Memory> {
-    let text = Text::from_slice(alloc, b"s")?;
-    Ok(Literal {
-        kind: LiteralKind::Symbol { text },
-    })
-}
-
-fn word(number: usize) -> Literal {
-    Literal {
-        kind: LiteralKind::Word {
-            name: NameId(number),
-        },
-    }
-}
-
-/// `#(true false nil $a)`, where the words are the names from 0 on.
-fn words(alloc: Global) -> Result<Literal, Memory> {
-    let mut items = Literals::new(alloc);
-    for number in 0..3 {
-        items.push(word(number))?;
-    }
-    items.push(Literal {
-        kind: LiteralKind::Char { byte: 97 },
-    })?;
-    Ok(Literal {
-        kind: LiteralKind::Array { items },
-    })
-}
-
-/// `#(number 's' #s #(true false nil $a))`, with this numeral in the place of `number`.
-fn array(alloc: Global, first: &[u8]) -> Result<Literal, Memory> {
-    let mut items = Literals::new(alloc);
-    items.push(number(alloc, first)?)?;
-    items.push(string(alloc)?)?;
-    items.push(symbol(alloc)?)?;
-    items.push(words(alloc)?)?;
-    Ok(Literal {
-        kind: LiteralKind::Array { items },
-    })
-}
-
-fn names(alloc: Global) -> Result<SharedNames, Memory> {
-    let mut names = Names::new(alloc);
-    names.intern(b"true")?;
-    names.intern(b"false")?;
-    names.intern(b"nil")?;
-    SharedNames::new(alloc, &names)
 }
 
 /// A letter for a value, by its kind.
@@ -125,36 +62,56 @@ fn holds(store: &Store<'_>, number: usize, letters: &[u8]) -> bool {
             .all(|(value, wanted)| letter(value) == *wanted)
 }
 
-/// Whether a value is the array of a number.
-fn is_array(value: &Option<Value>, number: usize) -> bool {
-    match value {
+/// Whether the value of a literal is the second array, and the first one stands in it: each with elements of the kinds of
+/// these letters. No letters stand for no value.
+fn is_so(
+    alloc: Global,
+    names: &SharedNames,
+    spelled: &Literal,
+    inner: &[u8],
+    outer: &[u8],
+) -> Result<bool, Memory> {
+    let mut store = Store::new(alloc, 5);
+    match literal(&mut store, names, spelled)? {
         Some(
             Value {
-                kind: ValueKind::Array(found),
+                kind: ValueKind::Array(1),
             },
-        ) => *found == number,
-        _ => false,
+        ) => Ok(holds(&store, 0, inner) && holds(&store, 1, outer)),
+        Some(_) => Ok(false),
+        None => Ok(outer.is_empty()),
+    }
+}
+
+/// The literal that is the first statement of a do-it.
+fn literal_in(body: &Sequence) -> Option<&Literal> {
+    match &body.statements.as_slice().first()?.node.kind {
+        NodeKind::Literal { value } => Some(value),
+        _ => None,
+    }
+}
+
+/// Whether the literal that a text spells has a value of these kinds.
+fn is_read_so(alloc: Global, text: &str, inner: &[u8], outer: &[u8]) -> Result<bool, ParseFault> {
+    let mut names = Names::new(alloc);
+    let body = parse_doit(alloc, text.as_bytes(), &mut names)?;
+    let names = SharedNames::new(alloc, &names)?;
+    match literal_in(&body) {
+        Some(literal) => Ok(is_so(alloc, &names, literal, inner, outer)?),
+        None => Ok(false),
     }
 }
 
 #[test]
 fn an_array_in_an_array_is_made_first(rt: HostRuntime) -> Result<(), Fail> {
-    let texts = names(rt.alloc())?;
-    let mut store = Store::new(rt.alloc(), 5);
-    let literal_array = array(rt.alloc(), b"-7")?;
-    let value = literal(&mut store, &texts, &literal_array)?;
-    assert!(rt; is_array(&value, 1));
-    assert!(rt; holds(&store, 0, b"tfnc"));
-    assert!(rt; holds(&store, 1, b"isya"));
-    Ok(())
-}
-
-#[test]
-fn an_array_with_a_fraction_has_no_value(rt: HostRuntime) -> Result<(), Fail> {
-    let texts = names(rt.alloc())?;
-    let mut store = Store::new(rt.alloc(), 5);
-    let literal_array = array(rt.alloc(), b"1.5")?;
-    let value = literal(&mut store, &texts, &literal_array)?;
-    assert!(rt; value.is_none());
+    for (text, inner, outer) in [
+        ("#(-7 's' #s #(true false nil $a))", "tfnc", "isya"),
+        ("#(1.5 's' #s #(true false nil $a))", "", ""),
+    ] {
+        assert!(rt;
+            is_read_so(rt.alloc(), text, inner.as_bytes(), outer.as_bytes())?,
+            "of {text}"
+        );
+    }
     Ok(())
 }
