@@ -1,9 +1,8 @@
 // What no clause says: numerals as they are spelled, and that values are built where there is memory.
-use rb_base::{Memory, Names};
+use rb_base::{Memory, NameId, Names, Text};
 use st_literals::{literal, numeral};
 use st_meaning::{SharedNames, Store, Value, ValueKind};
-use st_parser::{ParseFault, parse_doit};
-use st_tree::{Literal, NodeKind, Sequence};
+use st_tree::{Literal, LiteralKind, Literals};
 use std::alloc::Global;
 use std::test::Fail;
 
@@ -37,6 +36,69 @@ fn numerals_are_read(rt: HostRuntime) {
     }
 }
 
+fn number(alloc: Global, text: &[u8]) -> Result<Literal, Memory> {
+    let text = Text::from_slice(alloc, text)?;
+    Ok(Literal {
+        kind: LiteralKind::Number { text },
+    })
+}
+
+fn string(alloc: Global) -> Result<Literal, Memory> {
+    let text = Text::from_slice(alloc, b"s")?;
+    Ok(Literal {
+        kind: LiteralKind::Str { text },
+    })
+}
+
+fn symbol(alloc: Global) -> Result<Literal, Memory> {
+    let text = Text::from_slice(alloc, b"s")?;
+    Ok(Literal {
+        kind: LiteralKind::Symbol { text },
+    })
+}
+
+fn word(number: usize) -> Literal {
+    Literal {
+        kind: LiteralKind::Word {
+            name: NameId(number),
+        },
+    }
+}
+
+/// `#(true false nil $a)`, where the words are the names from 0 on.
+fn words(alloc: Global) -> Result<Literal, Memory> {
+    let mut items = Literals::new(alloc);
+    for number in 0..3 {
+        items.push(word(number))?;
+    }
+    items.push(Literal {
+        kind: LiteralKind::Char { byte: 97 },
+    })?;
+    Ok(Literal {
+        kind: LiteralKind::Array { items },
+    })
+}
+
+/// `#(number 's' #s #(true false nil $a))`, with this numeral in the place of `number`.
+fn array(alloc: Global, first: &[u8]) -> Result<Literal, Memory> {
+    let mut items = Literals::new(alloc);
+    items.push(number(alloc, first)?)?;
+    items.push(string(alloc)?)?;
+    items.push(symbol(alloc)?)?;
+    items.push(words(alloc)?)?;
+    Ok(Literal {
+        kind: LiteralKind::Array { items },
+    })
+}
+
+fn names(alloc: Global) -> Result<SharedNames, Memory> {
+    let mut names = Names::new(alloc);
+    names.intern(b"true")?;
+    names.intern(b"false")?;
+    names.intern(b"nil")?;
+    SharedNames::new(alloc, &names)
+}
+
 /// A letter for a value, by its kind.
 fn letter(value: &Value) -> u8 {
     match &value.kind {
@@ -62,17 +124,13 @@ fn holds(store: &Store<'_>, number: usize, letters: &[u8]) -> bool {
             .all(|(value, wanted)| letter(value) == *wanted)
 }
 
-/// Whether the value of a literal is the second array, and the first one stands in it: each with elements of the kinds of
-/// these letters. No letters stand for no value.
-fn is_so(
-    alloc: Global,
-    names: &SharedNames,
-    spelled: &Literal,
-    inner: &[u8],
-    outer: &[u8],
-) -> Result<bool, Memory> {
+/// Whether the value of the array with this numeral is the second array, and the first one stands in it, each with elements
+/// of the kinds of these letters; or there is no value, where there are no letters.
+fn is_valued(alloc: Global, first: &[u8], inner: &[u8], outer: &[u8]) -> Result<bool, Memory> {
+    let texts = names(alloc)?;
     let mut store = Store::new(alloc, 5);
-    match literal(&mut store, names, spelled)? {
+    let spelled = array(alloc, first)?;
+    match literal(&mut store, &texts, &spelled)? {
         Some(
             Value {
                 kind: ValueKind::Array(1),
@@ -83,34 +141,17 @@ fn is_so(
     }
 }
 
-/// The literal that is the first statement of a do-it.
-fn literal_in(body: &Sequence) -> Option<&Literal> {
-    match &body.statements.as_slice().first()?.node.kind {
-        NodeKind::Literal { value } => Some(value),
-        _ => None,
-    }
-}
-
-/// Whether the literal that a text spells has a value of these kinds.
-fn is_read_so(alloc: Global, text: &str, inner: &[u8], outer: &[u8]) -> Result<bool, ParseFault> {
-    let mut names = Names::new(alloc);
-    let body = parse_doit(alloc, text.as_bytes(), &mut names)?;
-    let names = SharedNames::new(alloc, &names)?;
-    match literal_in(&body) {
-        Some(literal) => Ok(is_so(alloc, &names, literal, inner, outer)?),
-        None => Ok(false),
-    }
-}
-
 #[test]
 fn an_array_in_an_array_is_made_first(rt: HostRuntime) -> Result<(), Fail> {
-    for (text, inner, outer) in [
-        ("#(-7 's' #s #(true false nil $a))", "tfnc", "isya"),
-        ("#(1.5 's' #s #(true false nil $a))", "", ""),
-    ] {
+    for (first, inner, outer) in [("-7", "tfnc", "isya"), ("1.5", "", "")] {
         assert!(rt;
-            is_read_so(rt.alloc(), text, inner.as_bytes(), outer.as_bytes())?,
-            "of {text}"
+            is_valued(
+                rt.alloc(),
+                first.as_bytes(),
+                inner.as_bytes(),
+                outer.as_bytes()
+            )?,
+            "of {first}"
         );
     }
     Ok(())
