@@ -3,7 +3,6 @@ use rb_base::{Memory, Names, Text};
 use st_faults::{check_doit, check_method, scan};
 use st_formatter::{format_doit, format_method};
 use st_parser::{ParseFault, parse_doit, parse_method};
-use st_tree::{try_copy, try_copy_doit};
 use std::alloc::Global;
 
 /// A call that reads a text.
@@ -24,23 +23,21 @@ pub enum Call {
     WriteKernelMethod,
 }
 
-/// The canonical text of a copy of a method.
+/// The canonical text of a method.
 fn method_written(alloc: Global, text: &[u8], kernel: bool) -> Result<Text, ParseFault> {
     let mut names = Names::new(alloc);
     let method = parse_method(alloc, text, kernel, &mut names)?;
-    let copy = try_copy(alloc, &method)?;
     let mut out = Text::new(alloc);
-    format_method(alloc, &copy, &names, &mut out)?;
+    format_method(alloc, &method, &names, &mut out)?;
     Ok(out)
 }
 
-/// The canonical text of a copy of a do-it.
+/// The canonical text of a do-it.
 fn doit_written(alloc: Global, text: &[u8]) -> Result<Text, ParseFault> {
     let mut names = Names::new(alloc);
     let body = parse_doit(alloc, text, &mut names)?;
-    let copy = try_copy_doit(alloc, &body)?;
     let mut out = Text::new(alloc);
-    format_doit(alloc, &copy, &names, &mut out)?;
+    format_doit(alloc, &body, &names, &mut out)?;
     Ok(out)
 }
 

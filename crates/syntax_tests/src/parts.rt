@@ -4,13 +4,14 @@ use crate::places::path;
 use rb_base::{Memory, NameId, Names};
 use st_parser::{ParseFault, parse_method};
 use st_tree::{
-    Method, Node, NodeKind, Path, part_at, part_at_doit, replace_at, replace_at_doit, size,
+    Method, Node, NodeKind, Path, Sequence, part_at, part_at_doit, replace_at, replace_at_doit,
+    size, try_copy,
 };
 use std::alloc::Global;
 use std::test::Fail;
 use tree_lending::{part_mut, part_mut_doit, put_at, put_at_doit};
 
-const METHOD: &[u8] = b"go r m: a n: b; m: c; m: d n: e. [f. g]. {h. i}. j m: k";
+const METHOD: &[u8] = b"go \"1\" r m: a n: b; m: c; m: d n: e. [f. g]. {h. i}. j m: k. \"2\"";
 
 /// Paths, and the names of the variables to which they lead, or no text for a node that is no variable and for none.
 /// Whether there is a node.
@@ -79,9 +80,20 @@ fn leads_to(method: &Method, path: &Path, name: Option<NameId>) -> bool {
     name_of(part_at(method, path)) == name && name_of(part_at_doit(&method.body, path)) == name
 }
 
-/// Writes a node along a loan, if there is one.
-fn write(lent: Option<&mut Node>, node: Node) -> bool {
-    match lent {
+/// Writes a node along a loan of a method, if there is one.
+fn write(method: &mut Method, path: &Path, node: Node) -> bool {
+    match part_mut(method, path) {
+        Some(place) => {
+            *place = node;
+            true
+        }
+        None => false,
+    }
+}
+
+/// Writes a node along a loan of a do-it, if there is one.
+fn write_in_doit(body: &mut Sequence, path: &Path, node: Node) -> bool {
+    match part_mut_doit(body, path) {
         Some(place) => {
             *place = node;
             true
@@ -99,8 +111,8 @@ fn change(
     node: Node,
 ) -> Result<bool, Memory> {
     Ok(match way {
-        Way::Lent => write(part_mut(method, path), node),
-        Way::LentInDoIt => write(part_mut_doit(&mut method.body, path), node),
+        Way::Lent => write(method, path, node),
+        Way::LentInDoIt => write_in_doit(&mut method.body, path, node),
         Way::Put => put_at(method, path, node),
         Way::PutInDoIt => put_at_doit(&mut method.body, path, node),
         Way::Replaced => replace_at(method, path, Box::new(alloc, node)?).is_ok(),
@@ -133,11 +145,17 @@ fn is_changed(
     Ok(true)
 }
 
+/// A copy of the method.
+fn copied(alloc: Global, names: &mut Names) -> Result<Method, ParseFault> {
+    let method = parse_method(alloc, METHOD, false, names)?;
+    Ok(try_copy(alloc, &method)?)
+}
+
 #[test]
 fn paths_lead_to_parts(rt: HostRuntime) -> Result<(), Fail> {
     let mut names = Names::new(rt.alloc());
-    let mut method = parse_method(rt.alloc(), METHOD, false, &mut names)?;
-    assert!(rt; size(&method) == 16);
+    let mut method = copied(rt.alloc(), &mut names)?;
+    assert!(rt; size(&method) == 16 && method.head.len() == 1 && method.body.tail.len() == 1);
     for (steps, name, is_there) in PLACES {
         let path = path(rt.alloc(), steps)?;
         assert!(rt; leads_to(&method, &path, names.find(name.as_bytes())));

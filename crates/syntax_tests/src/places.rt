@@ -221,10 +221,10 @@ fn parts_stand_at_places(rt: HostRuntime) -> Result<(), Fail> {
 }
 
 /// Whether the part of a method to which a path leads is lent as its text, or nothing is.
-fn is_lent(alloc: Global, steps: &[usize], wanted: Option<&str>) -> Result<bool, ParseFault> {
+fn is_lent(alloc: Global, steps: &[usize], wanted: Option<&[u8]>) -> Result<bool, ParseFault> {
     let text = b"go ^self foo + self bar".as_slice();
     let path = path(alloc, steps)?;
-    Ok(lend_part(alloc, text, &path)? == wanted.map(str::as_bytes))
+    Ok(lend_part(alloc, text, &path)? == wanted)
 }
 
 /// Whether each call refuses a method with this fault.
@@ -238,7 +238,7 @@ fn is_refused(alloc: Global, text: &[u8], fault: ParseFault) -> bool {
 
 #[test]
 fn parts_are_lent_or_refused(rt: HostRuntime) -> Result<(), Fail> {
-    assert!(rt; is_lent(rt.alloc(), &[0, 0, 1], Some("self bar"))?);
+    assert!(rt; is_lent(rt.alloc(), &[0, 0, 1], Some(b"self bar"))?);
     assert!(rt; is_lent(rt.alloc(), &[0, 0, 2], None)?);
     for (text, fault) in REFUSED {
         assert!(rt;

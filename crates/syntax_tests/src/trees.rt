@@ -1,7 +1,7 @@
 // Do-its and their trees.
 use rb_base::Names;
 use st_parser::{ParseFault, parse_doit};
-use st_tree::{Node, NodeKind, Sequence, height, same};
+use st_tree::{Node, NodeKind, Sequence, height, same, try_copy_doit};
 use std::alloc::Global;
 use std::test::Fail;
 
@@ -67,11 +67,15 @@ fn texts_of_one_tree(rt: HostRuntime) -> Result<(), Fail> {
     Ok(())
 }
 
-/// The height of the first statement, or 0 where there is none.
+/// The height of the first statement in a copy of a do-it, or 0 where there is none.
 fn height_of(alloc: Global, text: &str) -> Result<usize, ParseFault> {
     let mut names = Names::new(alloc);
     let body = parse_doit(alloc, text.as_bytes(), &mut names)?;
-    Ok(first_node(&body).map_or(0, height))
+    let copy = try_copy_doit(alloc, &body)?;
+    match first_node(&copy) {
+        Some(node) => Ok(height(node)),
+        None => Ok(0),
+    }
 }
 
 /// Texts, and the heights of their first statements.
