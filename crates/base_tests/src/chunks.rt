@@ -6,27 +6,46 @@ use rb_base::{Memory, Text};
 use std::alloc::Global;
 use std::test::Fail;
 
-/// A text, the number of one of its chunks, where it begins, its source, and whether it is doubled.
-fn cases() -> [(&'static str, usize, usize, &'static str, bool); 10] {
-    [
-        ("Object foo! bar", 1, 0, "Object foo", false),
-        ("a!!b! c!", 1, 0, "a!b", true),
-        ("a!!b! c!", 2, 5, "c", false),
-        (
-            "Transcript show: 'wow!!' \"a!!b\"!",
-            1,
-            0,
-            "Transcript show: 'wow!' \"a!b\"",
-            true,
-        ),
-        ("!", 1, 0, "", false),
-        ("!!!", 1, 0, "!", true),
-        ("a! !b! c! ", 2, 2, "", false),
-        ("a! !b! c! ", 3, 4, "b", false),
-        ("\t\n\x0c\r x \n!", 1, 0, "x \n", false),
-        (" !!!! a!", 1, 0, "!! a", true),
-    ]
-}
+/// A chunk: where it begins, its source, and whether it is doubled.
+type Row<'c> = (usize, &'c str, bool);
+
+/// A text, its chunks, and the number and the place of the fault behind them, if there is one.
+type Case<'c> = (&'c str, &'c [Row<'c>], Option<(usize, usize)>);
+
+const TEXTS: &[Case] = &[
+    (
+        "Object foo! bar",
+        &[(0, "Object foo", false)],
+        Some((2, 12)),
+    ),
+    ("a!!b! c!", &[(0, "a!b", true), (5, "c", false)], None),
+    (
+        "Transcript show: 'wow!!' \"a!!b\"!",
+        &[(0, "Transcript show: 'wow!' \"a!b\"", true)],
+        None,
+    ),
+    ("!", &[(0, "", false)], None),
+    ("!!!", &[(0, "!", true)], None),
+    (
+        "a! !b! c! ",
+        &[
+            (0, "a", false),
+            (2, "", false),
+            (4, "b", false),
+            (6, "c", false),
+        ],
+        None,
+    ),
+    ("\t\n\x0c\r x \n!", &[(0, "x \n", false)], None),
+    (" !!!! a!", &[(0, "!! a", true)], None),
+    ("", &[], None),
+    (" \t\n\x0c\r", &[], None),
+    ("!!", &[], Some((1, 0))),
+    ("a!!", &[], Some((1, 0))),
+    ("a! b!!", &[(0, "a", false)], Some((2, 3))),
+    (" !!!!", &[], Some((1, 1))),
+    ("a! \x0b", &[(0, "a", false)], Some((2, 3))),
+];
 
 /// Whether the source of a chunk is appended.
 fn is_appended(alloc: Global, chunk: &Chunk<'_>, source: &[u8]) -> Result<bool, Memory>
@@ -47,87 +66,58 @@ fn is_lent(alloc: Global, chunk: &Chunk<'_>, source: &[u8]) -> Result<bool, Memo
     Ok(given && room.as_slice() == left)
 }
 
-/// Whether a text has a chunk of this number, which begins here and has this source, and is doubled or not.
-fn has_chunk(
-    alloc: Global,
-    text: &[u8],
-    number: usize,
-    at: usize,
-    source: &[u8],
-    doubled: bool,
-) -> Result<bool, Memory> {
-    for found in chunks(text) {
-        let Ok(chunk) = found else {
-            return Ok(false);
-        };
-        if chunk.number == number {
-            return Ok(
-                chunk.at == at
-                    && chunk.doubled == doubled
-                    && is_appended(alloc, &chunk, source)?
-                    && is_lent(alloc, &chunk, source)?,
-            );
-        }
+/// Whether a chunk is that of a row.
+fn is_so(alloc: Global, chunk: &Chunk<'_>, row: &Row) -> Result<bool, Memory>
+    requires { IsChunk (piece chunk.now) }
+{
+    let (at, source, doubled) = *row;
+    if chunk.at != at || chunk.doubled != doubled {
+        return Ok(false);
     }
-    Ok(false)
+    let source = source.as_bytes();
+    Ok(is_appended(alloc, chunk, source)? && is_lent(alloc, chunk, source)?)
 }
 
-#[test]
-fn chunks_have_their_sources(rt: HostRuntime) -> Result<(), Fail> {
-    for (text, number, at, source, doubled) in cases() {
-        assert!(rt;
-            has_chunk(
-                rt.alloc(),
-                text.as_bytes(),
-                number,
-                at,
-                source.as_bytes(),
-                doubled
-            )?,
-            "in {text}"
-        );
+/// Whether each chunk of a text is that of the row of its number.
+fn has_chunks(alloc: Global, text: &str, rows: &[Row]) -> Result<bool, Memory> {
+    for found in chunks(text.as_bytes()) {
+        if let Ok(chunk) = found {
+            match rows.get(chunk.number.wrapping_sub(1)) {
+                Some(row) if is_so(alloc, &chunk, row)? => {}
+                _ => return Ok(false),
+            }
+        }
     }
-    Ok(())
+    Ok(true)
 }
 
 /// Whether a text has so many chunks, and behind them this fault or none.
-fn ends_so(text: &[u8], count: usize, fault: Option<Unended>) -> bool {
+fn ends_so(text: &str, count: usize, fault: Option<(usize, usize)>) -> bool {
     let mut last = 0;
     let mut refused = None;
-    for found in chunks(text) {
+    for found in chunks(text.as_bytes()) {
         match found {
             Ok(chunk) => last = chunk.number,
-            Err(unended) => refused = Some(unended),
+            Err(Unended { number, at }) => refused = Some((number, at)),
         }
     }
     last == count && refused == fault
 }
 
 #[test]
-fn texts_end_with_a_mark(rt: HostRuntime) {
-    let unended = |number, at| Some(Unended { number, at });
-    for (text, count, fault) in [
-        ("Object foo! bar", 1, unended(2, 12)),
-        ("a!!b! c!", 2, None),
-        ("", 0, None),
-        (" \t\n\x0c\r", 0, None),
-        ("!", 1, None),
-        ("!!", 0, unended(1, 0)),
-        ("!!!", 1, None),
-        ("a!!", 0, unended(1, 0)),
-        ("a! b!!", 1, unended(2, 3)),
-        (" !!!!", 0, unended(1, 1)),
-        ("a! \x0b", 1, unended(2, 3)),
-    ] {
-        assert!(rt; ends_so(text.as_bytes(), count, fault), "in {text}");
+fn texts_have_their_chunks(rt: HostRuntime) -> Result<(), Fail> {
+    for (text, rows, fault) in TEXTS {
+        assert!(rt; has_chunks(rt.alloc(), text, rows)?, "in {text}");
+        assert!(rt; ends_so(text, rows.len(), *fault), "in {text}");
     }
+    Ok(())
 }
 
 /// Whether a source is written so, behind what was there.
-fn is_written(alloc: Global, source: &[u8], written: &[u8]) -> Result<bool, Memory> {
+fn is_written(alloc: Global, source: &str, written: &str) -> Result<bool, Memory> {
     let mut out = Text::from_slice(alloc, b"x")?;
-    write_chunk(alloc, source, &mut out)?;
-    Ok(out.as_slice() == written)
+    write_chunk(alloc, source.as_bytes(), &mut out)?;
+    Ok(out.as_slice() == written.as_bytes())
 }
 
 #[test]
@@ -138,10 +128,7 @@ fn sources_are_written(rt: HostRuntime) -> Result<(), Fail> {
         ("!", "x!!"),
         (" a!b!!", "x a!!b!!!!"),
     ] {
-        assert!(rt;
-            is_written(rt.alloc(), source.as_bytes(), written.as_bytes())?,
-            "of {source}"
-        );
+        assert!(rt; is_written(rt.alloc(), source, written)?, "of {source}");
     }
     Ok(())
 }

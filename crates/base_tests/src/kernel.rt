@@ -2,57 +2,72 @@
 use crate::kernel_table::{CLASSES, ClassRow, RUNS, RunRow};
 use rb_base::{Memory, Text};
 use st_kernel::{is_control_selector, is_reflective, is_reserved, prelude};
+use std::alloc::Global;
 use std::test::Fail;
 
 /// Appends the definition of a class.
 fn append_class(text: &mut Text, row: &ClassRow) -> Result<(), Memory> {
-    text.push_slice(row.superclass)?;
-    text.push_slice(b" subclass: #")?;
-    text.push_slice(row.name)?;
-    text.push_slice(b"\n\tinstanceVariableNames: '")?;
-    text.push_slice(row.variables)?;
-    text.push_slice(
-        b"'\n\tclassVariableNames: ''\n\tpoolDictionaries: ''\n\tcategory: 'Kernel'!\n\n",
-    )
+    let (superclass, name, variables) = *row;
+    for piece in [
+        superclass,
+        " subclass: #",
+        name,
+        "\n\tinstanceVariableNames: '",
+        variables,
+        "'\n\tclassVariableNames: ''\n\tpoolDictionaries: ''\n\tcategory: 'Kernel'!\n\n",
+    ] {
+        text.push_slice(piece.as_bytes())?;
+    }
+    Ok(())
 }
 
 /// Appends the methods of one class and side as a run.
 fn append_run(text: &mut Text, run: &RunRow) -> Result<(), Memory> {
+    let (class, sources) = *run;
     text.push_slice(b"!")?;
-    text.push_slice(run.class)?;
+    text.push_slice(class.as_bytes())?;
     text.push_slice(b" methodsFor: 'kernel'!\n")?;
-    let mut between: &[u8] = b"";
-    for source in run.sources {
-        text.push_slice(between)?;
-        text.push_slice(source)?;
-        text.push_slice(b"!")?;
-        between = b"\n\n";
+    let mut between = "";
+    for source in sources {
+        text.push_slice(between.as_bytes())?;
+        text.push_slice(source.as_bytes())?;
+        between = "!\n\n";
     }
-    text.push_slice(b" !\n\n")
+    text.push_slice(b"! !\n\n")
 }
 
-#[test]
-fn the_text_has_the_classes_and_methods_of_the_tables(rt: HostRuntime) -> Result<(), Fail> {
-    let mut expected = Text::new(rt.alloc());
-    for row in &CLASSES {
-        append_class(&mut expected, row)?;
+/// The text of the tables.
+fn expected_text(alloc: Global) -> Result<Text, Memory> {
+    let mut text = Text::new(alloc);
+    for row in CLASSES {
+        append_class(&mut text, row)?;
     }
-    for run in &RUNS {
-        append_run(&mut expected, run)?;
+    for run in RUNS {
+        append_run(&mut text, run)?;
     }
-    assert!(rt; expected.as_slice() == prelude());
-    Ok(())
+    Ok(text)
 }
 
+/// Selectors: whether each is reflective, whether it is reserved, and whether it is that of a control send.
+const SELECTORS: &[(&str, bool, bool, bool)] = &[
+    ("perform:with:with:with:", true, false, false),
+    ("perform:with:with:with:with:", false, false, false),
+    ("comment:", false, true, false),
+    ("subclass:with:", false, true, false),
+    ("subclass", false, false, false),
+    ("with:subclass:", false, false, false),
+    ("whileTrue:", false, false, true),
+    ("whileTrue", false, false, false),
+];
+
 #[test]
-fn selectors_with_a_meaning_of_their_own(rt: HostRuntime) -> Result<(), Fail> {
-    assert!(rt; is_reflective(b"perform:with:with:with:"));
-    assert!(rt; !is_reflective(b"perform:with:with:with:with:"));
-    assert!(rt; is_reserved(b"comment:"));
-    assert!(rt; is_reserved(b"subclass:with:"));
-    assert!(rt; !is_reserved(b"subclass"));
-    assert!(rt; !is_reserved(b"with:subclass:"));
-    assert!(rt; is_control_selector(b"whileTrue:"));
-    assert!(rt; !is_control_selector(b"whileTrue"));
+fn the_kernel_is_that_of_the_tables(rt: HostRuntime) -> Result<(), Fail> {
+    assert!(rt; expected_text(rt.alloc())?.as_slice() == prelude());
+    for (selector, reflective, reserved, control) in SELECTORS {
+        let selector = selector.as_bytes();
+        assert!(rt; is_reflective(selector) == *reflective);
+        assert!(rt; is_reserved(selector) == *reserved);
+        assert!(rt; is_control_selector(selector) == *control);
+    }
     Ok(())
 }

@@ -1,7 +1,6 @@
 // Texts with their tokens: kinds and spans, and the fault that they end in, if any.
 
 use st_lexer::{TokenIter, gives_the_tokens, tokens};
-use std::process::Abort;
 use std::test::Fail;
 use token_model::LexFault::{self, BadByte, BadNumeral, OpenComment, OpenString};
 use token_model::TokenKind::{
@@ -430,67 +429,70 @@ const FAULTS: &[Case] = &[
     (b"18446744073709551632r1", &[], Some(BadNumeral { at: 0 })),
 ];
 
-/// Compares the tokens that a text begins with.
-fn begins_so<'t>(
-    rt: &impl Abort,
+/// The tables.
+const TABLES: &[&[Case]] = &[
+    WORDS_MARKS_AND_BLANKS,
+    BINARY_SELECTORS,
+    STRINGS_COMMENTS_AND_CHARACTERS,
+    SYMBOLS,
+    NUMERALS,
+    FAULTS,
+];
+
+/// Whether the next token is this one.
+fn is_next<'t>(
     text: &'t [u8],
     reader: &mut TokenIter<'t>,
-    wanted: &[(TokenKind, usize, usize)],
-) {
-    for (kind, from, to) in wanted {
-        match reader.next() {
-            Some(Ok(token)) => {
-                assert_eq!(rt; (token.kind, token.from, token.to), (*kind, *from, *to));
-                assert!(rt; text.get(*from..*to) == Some(token.text));
-            }
-            _ => panic!(rt; "no token at {from}"),
+    wanted: &(TokenKind, usize, usize),
+) -> bool {
+    let (kind, from, to) = *wanted;
+    match reader.next() {
+        Some(Ok(token)) => {
+            token.kind == kind
+                && token.from == from
+                && token.to == to
+                && text.get(from..to) == Some(token.text)
+        }
+        _ => false,
+    }
+}
+
+/// Whether nothing follows, or this fault and then nothing.
+fn ends_so(reader: &mut TokenIter<'_>, wanted: Option<LexFault>) -> bool {
+    match reader.next() {
+        None => wanted == None,
+        Some(Ok(_)) => false,
+        Some(Err(fault)) => wanted == Some(fault) && reader.next().is_none(),
+    }
+}
+
+/// Whether a text has these tokens, and then this fault or none.
+fn has_tokens(text: &[u8], wanted: &[(TokenKind, usize, usize)], fault: Option<LexFault>) -> bool {
+    let mut reader = tokens(text);
+    for token in wanted {
+        if !is_next(text, &mut reader, token) {
+            return false;
+        }
+    }
+    ends_so(&mut reader, fault)
+}
+
+#[test]
+fn texts_have_their_tokens(rt: HostRuntime) {
+    for table in TABLES {
+        for (text, wanted, fault) in *table {
+            assert!(rt; has_tokens(text, wanted, *fault));
         }
     }
 }
 
-/// Reads the text of each case and compares what is read.
-fn compare(rt: &impl Abort, cases: &[Case]) {
-    for (text, wanted, fault) in cases {
-        let mut reader = tokens(text);
-        begins_so(rt, text, &mut reader, wanted);
-        if let Some(fault) = fault {
-            match reader.next() {
-                Some(Err(found)) => assert_eq!(rt; found, *fault),
-                _ => panic!(rt; "no fault"),
-            }
-        }
-        assert!(rt; reader.next().is_none());
+/// How many tokens and faults a text has.
+fn count(text: &[u8]) -> u64 {
+    let mut found = 0u64;
+    for _item in tokens(text) {
+        found = found.wrapping_add(1);
     }
-}
-
-#[test]
-fn reads_words_marks_and_blanks(rt: HostRuntime) {
-    compare(&rt, WORDS_MARKS_AND_BLANKS);
-}
-
-#[test]
-fn reads_binary_selectors(rt: HostRuntime) {
-    compare(&rt, BINARY_SELECTORS);
-}
-
-#[test]
-fn reads_strings_comments_and_characters(rt: HostRuntime) {
-    compare(&rt, STRINGS_COMMENTS_AND_CHARACTERS);
-}
-
-#[test]
-fn reads_symbols(rt: HostRuntime) {
-    compare(&rt, SYMBOLS);
-}
-
-#[test]
-fn reads_numerals(rt: HostRuntime) {
-    compare(&rt, NUMERALS);
-}
-
-#[test]
-fn reads_faults(rt: HostRuntime) {
-    compare(&rt, FAULTS);
+    found
 }
 
 #[test]
@@ -506,11 +508,7 @@ fn reads_a_million_bytes(rt: HostRuntime) -> Result<(), Fail> {
     ] {
         let mut text = vec![in rt.alloc(); byte; 1_000_000]?;
         text[0] = first;
-        let mut found = 0u64;
-        for _item in tokens(&text) {
-            found = found.wrapping_add(1);
-        }
-        assert_eq!(rt; found, wanted);
+        assert!(rt; count(&text) == wanted);
     }
     gives_the_tokens();
     Ok(())

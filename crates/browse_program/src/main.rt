@@ -1,15 +1,11 @@
 //! The program `browse`: its words, the files and the output of the system, and the status with which it ends.
 #![tactic(auto)]
 
-mod file_shelf;
-mod out_sink;
-
 use browse::browse;
-use file_shelf::FileShelf;
-use out_sink::OutSink;
 use std::io::ErrorKind;
 use std::process::ExitCode;
 use std::{env, io};
+use system_devices::{FileShelf, OutSink};
 
 /// The status where memory is wanting.
 const WANT_OF_MEMORY: u8 = 7;

@@ -1,10 +1,10 @@
 //! Walks of trees of many levels: what recurses over a tree must have stack for it, in each build of the program.
 #![tactic(auto)]
 
-use rb_base::{Ids, Memory, NameId};
+use rb_base::{Ids, Memory, NameId, Text};
 use st_tree::{
-    Comments, Node, NodeKind, Nodes, Path, Sequence, Statement, Statements, height, part_at_doit,
-    replace_at_doit, same, size_doit, try_copy_doit,
+    Comments, Literal, LiteralKind, Literals, Node, NodeKind, Nodes, Path, Sequence, Statement,
+    Statements, height, part_at_doit, replace_at_doit, same, size_doit, try_copy_doit,
 };
 use std::alloc::Global;
 use std::io;
@@ -32,16 +32,23 @@ fn sequence_of(alloc: Global, node: Node) -> Result<Sequence, Memory> {
     })
 }
 
-/// A block round a message to the tree: two levels more.
-fn wrapped(alloc: Global, inner: Node) -> Result<Node, Memory> {
-    let receiver = Box::new(alloc, inner)?;
-    let send = Node {
+/// A message to the tree with an argument.
+fn sent(alloc: Global, receiver: Node) -> Result<Node, Memory> {
+    let receiver = Box::new(alloc, receiver)?;
+    let mut arguments = Nodes::new(alloc);
+    arguments.push(leaf(7))?;
+    Ok(Node {
         kind: NodeKind::Send {
             receiver,
             selector: NameId(1),
-            arguments: Nodes::new(alloc),
+            arguments,
         },
-    };
+    })
+}
+
+/// A block round a message to the tree: two levels more.
+fn wrapped(alloc: Global, inner: Node) -> Result<Node, Memory> {
+    let send = sent(alloc, inner)?;
     let body = Box::new(alloc, sequence_of(alloc, send)?)?;
     Ok(Node {
         kind: NodeKind::Block {
@@ -113,6 +120,32 @@ fn walk(alloc: Global, pairs: usize) -> Result<Walked, Memory> {
     })
 }
 
+/// A number inside so many arrays.
+fn nested_arrays(alloc: Global, levels: usize) -> Result<Literal, Memory> {
+    let text = Text::from_slice(alloc, b"1")?;
+    let mut literal = Literal {
+        kind: LiteralKind::Number { text },
+    };
+    for _ in 0..levels {
+        let mut items = Literals::new(alloc);
+        items.push(literal)?;
+        literal = Literal {
+            kind: LiteralKind::Array { items },
+        };
+    }
+    Ok(literal)
+}
+
+/// The height of so many arrays, and whether their copy is the same.
+fn walk_arrays(alloc: Global, levels: usize) -> Result<(usize, bool), Memory> {
+    let literal = nested_arrays(alloc, levels)?;
+    let copied = literal.try_copy(alloc)?.same(&literal);
+    let node = Node {
+        kind: NodeKind::Literal { value: literal },
+    };
+    Ok((height(&node), copied))
+}
+
 fn main(rt: HostRuntime) -> io::Result<()> {
     for pairs in [0, 1, 100, 200, 1000] {
         match walk(rt.alloc(), pairs) {
@@ -130,6 +163,10 @@ fn main(rt: HostRuntime) -> io::Result<()> {
             }
             Err(Memory) => println!(rt; "no memory")?,
         }
+    }
+    match walk_arrays(rt.alloc(), 2000) {
+        Ok((height, copied)) => println!(rt; "arrays: height {height}, copied {copied}")?,
+        Err(Memory) => println!(rt; "no memory")?,
     }
     Ok(())
 }

@@ -9,8 +9,6 @@ mod lines;
 mod numbers;
 mod script;
 mod spelling;
-#[cfg(test)]
-mod tests;
 mod verb;
 
 pub use command::{Argument, Command};

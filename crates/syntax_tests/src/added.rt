@@ -4,44 +4,44 @@ use image_doits::add_doit;
 use st_parser::ParseFault::{self, AssignsFixed, Expected, Lexical, PrimitiveInUser};
 use st_parser::{LexFault, Wanted};
 use std::alloc::Global;
-use std::test::Fail;
 
-#[test]
-fn a_doit_is_added_with_its_text(rt: HostRuntime) -> Result<(), Fail> {
-    let mut image = Image::new(rt.alloc());
-    let text: &[u8] = b"| a | a := 3. ^a + 4 \"seven\"";
-    assert!(rt; add_doit(rt.alloc(), text, &mut image).is_ok());
-    assert!(rt; image.doits() == 1);
-    assert!(rt; image.doit_source(0) == Some(text));
-    assert!(rt; image.names().find(b"+").is_some());
-    Ok(())
-}
-
-/// The fault of a text.
-fn fault_of(alloc: Global, text: &str) -> Option<ParseFault> {
-    let mut image = Image::new(alloc);
-    add_doit(alloc, text.as_bytes(), &mut image).err()
-}
-
-/// Texts, and their faults.
-const FAULTS: &[(&str, Option<ParseFault>)] = &[
-    ("", None),
+/// Texts: the fault, or how many names there are behind the do-it.
+const ROWS: &[(&str, Result<usize, ParseFault>)] = &[
+    ("| a | a := 3. ^a + 4 \"seven\"", Ok(2)),
+    ("", Ok(0)),
     (
         "3 +",
-        Some(Expected {
+        Err(Expected {
             what: Wanted::Operand,
             at: 3,
         }),
     ),
-    ("a. nil := 3", Some(AssignsFixed { at: 3 })),
-    ("a 'b", Some(Lexical(LexFault::OpenString { at: 2 }))),
-    ("a. <primitive: 1>", Some(PrimitiveInUser { at: 3 })),
+    ("a. nil := 3", Err(AssignsFixed { at: 3 })),
+    ("a 'b", Err(Lexical(LexFault::OpenString { at: 2 }))),
+    ("a. <primitive: 1>", Err(PrimitiveInUser { at: 3 })),
 ];
 
-#[test]
-fn faults_have_places(rt: HostRuntime) -> Result<(), Fail> {
-    for (text, fault) in FAULTS {
-        assert!(rt; fault_of(rt.alloc(), text) == *fault);
+/// Whether the text is that of the only do-it, and there are so many names.
+fn holds(image: &Image, text: &str, names: usize) -> bool {
+    image.doits() == 1
+        && image.doit_source(0) == Some(text.as_bytes())
+        && image.names().len() == names
+        && image.names().find(b"+").is_some() == (names == 2)
+}
+
+/// Whether a do-it is added with its text, or refused with its fault.
+fn is_answered(alloc: Global, text: &str, wanted: &Result<usize, ParseFault>) -> bool {
+    let mut image = Image::new(alloc);
+    let fault = add_doit(alloc, text.as_bytes(), &mut image).err();
+    match wanted {
+        Ok(names) => fault.is_none() && holds(&image, text, *names),
+        Err(wanted) => fault == Some(*wanted),
     }
-    Ok(())
+}
+
+#[test]
+fn doits_are_added_or_refused(rt: HostRuntime) {
+    for (text, wanted) in ROWS {
+        assert!(rt; is_answered(rt.alloc(), text, wanted), "of {text}");
+    }
 }

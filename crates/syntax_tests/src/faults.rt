@@ -1,241 +1,341 @@
-// Texts with their first fault by the grammar, if they have one.
-use crate::compare::Call::{CheckDoIt, CheckKernelMethod, CheckMethod};
-use crate::compare::{are_read, have, long_text_has, repeated, want};
-use st_faults::ParseFault::{self, Expected, Lexical, PrimitiveInUser, TooDeep};
-use st_faults::Wanted::{self, Element, End, Identifier, Operand};
-use st_faults::{LexFault, Sort, next_lexeme, scan, word_of};
+// Texts with their first faults, in words. Faults that the grammar does not tell, of names that are declared twice, of what
+// may not be assigned and of heights, are judged once the grammar has read a text.
+use crate::calls::Call::{self, CheckDoIt, CheckKernelMethod, CheckMethod, ParseDoIt, ParseMethod};
+use crate::calls::fault_words;
 use std::test::Fail;
 
-const MESSAGES: &[&str] = &[
-    "",
-    "\"c\"",
-    "a . \"c\" .",
-    "a foo; bar",
-    "a + 3; * 4; foo: 5 bar: 6 * 7; baz",
-    "super foo bar; baz",
-    "super := 3",
-    "a foo: super + 3",
-    "a + super foo",
-    "^a. .",
-    "-3 - -4-5",
+/// A text, and the words of its fault, or none where it is read.
+type Row = (&'static [u8], &'static str);
+
+/// Do-its that are checked: messages and cascades.
+const MESSAGES: &[Row] = &[
+    (b"", ""),
+    (b"\"c\"", ""),
+    (b"a . \"c\" .", ""),
+    (b"a foo; bar", ""),
+    (b"a + 3; * 4; foo: 5 bar: 6 * 7; baz", ""),
+    (b"super foo bar; baz", ""),
+    (b"super := 3", ""),
+    (b"a foo: super + 3", ""),
+    (b"a + super foo", ""),
+    (b"^a. .", ""),
+    (b"-3 - -4-5", ""),
+    (b"(a foo); bar", "end expected at byte 7"),
+    (b"a; b", "end expected at byte 1"),
+    (b"a foo; 3", "end expected at byte 7"),
+    (b"a + 3; * 4 + 5", "end expected at byte 11"),
+    (b"super foo; bar", "end expected at byte 9"),
+    (b"(super) foo", "end expected at byte 6"),
+    (b"super", "end expected at byte 5"),
+    (b"a foo: super", "end expected at byte 12"),
+    (b"a + super", "identifier expected at byte 9"),
+    (b"a + super + 3", "identifier expected at byte 10"),
+    (b"(a) := 3", "end expected at byte 4"),
+    (b"a foo := 3", "end expected at byte 6"),
+    (b"a :=", "operand expected at byte 4"),
+    (b"a foo: ", "operand expected at byte 7"),
+    (b"^a. b", "end expected at byte 4"),
+    (b"- 3", "operand expected at byte 0"),
+    (b") '", "the string that opens at byte 2 has no end"),
+    (b"!", "byte 0 begins no token"),
 ];
 
-const WANTED_IN_MESSAGES: &[(&str, Wanted, usize)] = &[
-    ("(a foo); bar", End, 7),
-    ("a; b", End, 1),
-    ("a foo; 3", End, 7),
-    ("a + 3; * 4 + 5", End, 11),
-    ("super foo; bar", End, 9),
-    ("(super) foo", End, 6),
-    ("super", End, 5),
-    ("a foo: super", End, 12),
-    ("a + super", Identifier, 9),
-    ("a + super + 3", Identifier, 10),
-    ("(a) := 3", End, 4),
-    ("a foo := 3", End, 6),
-    ("a :=", Operand, 4),
-    ("a foo: ", Operand, 7),
-    ("^a. b", End, 4),
-    ("- 3", Operand, 0),
+/// Do-its that are checked: brackets and arrays.
+const BRACKETS: &[Row] = &[
+    (b"| a b | a", ""),
+    (b"[:a]", ""),
+    (b"[:a || b | b]", ""),
+    (b"{1. 2. }", ""),
+    (b"#(foo: bar:)", ""),
+    (b"#(foo:bar:)", ""),
+    (b"#(foo:bar)", ""),
+    (b"#(1 #(2 [3] (4)) $a 'x' nil - -5 + foo: |)", ""),
+    (b"#[1 99999]", ""),
+    (b"| a 3 |", "end expected at byte 4"),
+    (b"[:a 3]", "end expected at byte 4"),
+    (b"[:3]", "identifier expected at byte 2"),
+    (b"[a", "end expected at byte 2"),
+    (b"[", "operand expected at byte 1"),
+    (b"a ]", "end expected at byte 2"),
+    (b"(a", "end expected at byte 2"),
+    (b"()", "operand expected at byte 1"),
+    (b"{1 2}", "end expected at byte 3"),
+    (b"{. 1}", "operand expected at byte 1"),
+    (b"#(", "element expected at byte 2"),
+    (b"#( {", "element expected at byte 3"),
+    (b"#[-1]", "element expected at byte 2"),
+    (b"#[16r1]", "element expected at byte 2"),
+    (b"#[a]", "element expected at byte 2"),
 ];
 
-const BAD_TOKENS: &[(&str, ParseFault)] = &[
-    (") '", Lexical(LexFault::OpenString { at: 2 })),
-    ("!", Lexical(LexFault::BadByte { at: 0 })),
-];
-
-#[test]
-fn messages_and_cascades(rt: HostRuntime) {
-    are_read(&rt, rt.alloc(), CheckDoIt, MESSAGES);
-    want(&rt, rt.alloc(), CheckDoIt, WANTED_IN_MESSAGES);
-    have(&rt, rt.alloc(), CheckDoIt, BAD_TOKENS);
-}
-
-const BRACKETS: &[&str] = &[
-    "| a b | a",
-    "[:a]",
-    "[:a || b | b]",
-    "{1. 2. }",
-    "#(foo: bar:)",
-    "#(foo:bar:)",
-    "#(foo:bar)",
-    "#(1 #(2 [3] (4)) $a 'x' nil - -5 + foo: |)",
-    "#[1 99999]",
-];
-
-const WANTED_IN_BRACKETS: &[(&str, Wanted, usize)] = &[
-    ("| a 3 |", End, 4),
-    ("[:a 3]", End, 4),
-    ("[:3]", Identifier, 2),
-    ("[a", End, 2),
-    ("[", Operand, 1),
-    ("a ]", End, 2),
-    ("(a", End, 2),
-    ("()", Operand, 1),
-    ("{1 2}", End, 3),
-    ("{. 1}", Operand, 1),
-    ("#(", Element, 2),
-    ("#( {", Element, 3),
-    ("#[-1]", Element, 2),
-    ("#[16r1]", Element, 2),
-    ("#[a]", Element, 2),
-];
-
-#[test]
-fn brackets_and_arrays(rt: HostRuntime) {
-    are_read(&rt, rt.alloc(), CheckDoIt, BRACKETS);
-    want(&rt, rt.alloc(), CheckDoIt, WANTED_IN_BRACKETS);
-}
-
-const PRIMITIVES_IN_DOITS: &[(&str, ParseFault)] = &[
-    ("<primitive: 1>", PrimitiveInUser { at: 0 }),
-    ("< \"c\" primitive: 1>", PrimitiveInUser { at: 0 }),
-    ("a. <primitive: 1>", PrimitiveInUser { at: 3 }),
-    ("[<primitive: 1>]", PrimitiveInUser { at: 1 }),
-];
-
-const NO_PRIMITIVES: &[(&str, Wanted, usize)] = &[
-    ("^ <primitive: 1>", Operand, 2),
-    ("(<primitive: 1>)", Operand, 1),
-    ("^a. <primitive: 1>", End, 4),
-    ("a <primitive: 1>", Operand, 3),
-    ("<foo: 1>", Operand, 0),
-];
-
-#[test]
-fn primitives_in_doits(rt: HostRuntime) {
-    have(&rt, rt.alloc(), CheckDoIt, PRIMITIVES_IN_DOITS);
-    want(&rt, rt.alloc(), CheckDoIt, NO_PRIMITIVES);
-}
-
-const PRIMITIVES_IN_METHODS: &[(&str, ParseFault)] = &[
-    ("foo <primitive: 1>", PrimitiveInUser { at: 4 }),
-    ("foo: x <primitive: 1>", PrimitiveInUser { at: 7 }),
-    ("foo | a | <primitive: 1>", PrimitiveInUser { at: 10 }),
-];
-
-const NO_PRIMITIVES_IN_METHODS: &[(&str, Wanted, usize)] = &[
-    ("foo: <primitive: 1>", Identifier, 5),
-    ("foo <bar", Operand, 4),
-];
-
-#[test]
-fn primitives_in_methods_of_users(rt: HostRuntime) {
-    have(&rt, rt.alloc(), CheckMethod, PRIMITIVES_IN_METHODS);
-    want(&rt, rt.alloc(), CheckMethod, NO_PRIMITIVES_IN_METHODS);
-}
-
-const METHODS: &[&str] = &[
-    "+ x",
-    "foo: a bar: b ^a + b",
-    "foo | a | a := 3",
-    "super ^super nil",
-];
-
-const WANTED_IN_METHODS: &[(&str, Wanted, usize)] = &[
-    ("", End, 0),
-    ("3", End, 0),
-    ("+ 3", Identifier, 2),
-    ("foo: 3", Identifier, 5),
-];
-
-#[test]
-fn methods_of_users_and_of_the_kernel(rt: HostRuntime) {
-    for call in [CheckMethod, CheckKernelMethod] {
-        are_read(&rt, rt.alloc(), call, METHODS);
-        want(&rt, rt.alloc(), call, WANTED_IN_METHODS);
-    }
-}
-
-const KERNEL_METHODS: &[&str] = &["foo <primitive: 1>", "foo < \"c\" primitive: 65535>"];
-
-const WANTED_IN_KERNEL_METHODS: &[(&str, Wanted, usize)] = &[
-    ("foo <primitive: 65536>", End, 16),
-    ("foo <primitive: 16r1>", End, 16),
-    ("foo <primitive: 1> bar", End, 19),
-    ("foo <primitive: 1", End, 17),
-    ("foo <bar", End, 5),
-    ("foo bar. <primitive: 1>", Operand, 9),
-];
-
-#[test]
-fn primitives_in_methods_of_the_kernel(rt: HostRuntime) {
-    are_read(&rt, rt.alloc(), CheckKernelMethod, KERNEL_METHODS);
-    want(&rt, rt.alloc(), CheckKernelMethod, WANTED_IN_KERNEL_METHODS);
-}
-
-#[test]
-fn brackets_are_counted_before_all_else(rt: HostRuntime) -> Result<(), Fail> {
-    let open = repeated(rt.alloc(), &[("[", 400)])?;
-    assert!(rt; scan(&open).is_ok());
-    let deeper = repeated(rt.alloc(), &[("[", 400), ("#(", 1)])?;
-    assert!(rt; scan(&deeper).err() == Some(TooDeep { at: 400 }));
-    Ok(())
-}
-
-const LONG_TEXTS: &[(&[(&str, usize)], Option<ParseFault>)] = &[
+/// Do-its that are checked: primitives.
+const PRIMITIVES: &[Row] = &[
     (
-        &[("[", 400)],
-        Some(Expected {
-            what: Operand,
-            at: 400,
-        }),
+        b"<primitive: 1>",
+        "a primitive in a text of a user at byte 0",
     ),
-    (&[("[", 400), ("]", 400)], None),
-    (&[(")", 1), ("{", 401)], Some(TooDeep { at: 401 })),
-    (&[("(", 50_000)], Some(TooDeep { at: 400 })),
     (
-        &[("a := ", 50_000)],
-        Some(Expected {
-            what: Operand,
-            at: 250_000,
-        }),
+        b"< \"c\" primitive: 1>",
+        "a primitive in a text of a user at byte 0",
     ),
-    (&[("foo ", 50_000)], None),
-    (&[("\"c\"", 50_000)], None),
-    (&[("a b;c.", 50_000)], None),
+    (
+        b"a. <primitive: 1>",
+        "a primitive in a text of a user at byte 3",
+    ),
+    (
+        b"[<primitive: 1>]",
+        "a primitive in a text of a user at byte 1",
+    ),
+    (b"^ <primitive: 1>", "operand expected at byte 2"),
+    (b"(<primitive: 1>)", "operand expected at byte 1"),
+    (b"^a. <primitive: 1>", "end expected at byte 4"),
+    (b"a <primitive: 1>", "operand expected at byte 3"),
+    (b"<foo: 1>", "operand expected at byte 0"),
+];
+
+/// Methods that are checked, of users and of the kernel.
+const METHODS: &[Row] = &[
+    (b"+ x", ""),
+    (b"foo: a bar: b ^a + b", ""),
+    (b"foo | a | a := 3", ""),
+    (b"super ^super nil", ""),
+    (b"", "end expected at byte 0"),
+    (b"3", "end expected at byte 0"),
+    (b"+ 3", "identifier expected at byte 2"),
+    (b"foo: 3", "identifier expected at byte 5"),
+];
+
+/// Methods of users that are checked: primitives.
+const USER_METHODS: &[Row] = &[
+    (
+        b"foo <primitive: 1>",
+        "a primitive in a text of a user at byte 4",
+    ),
+    (
+        b"foo: x <primitive: 1>",
+        "a primitive in a text of a user at byte 7",
+    ),
+    (
+        b"foo | a | <primitive: 1>",
+        "a primitive in a text of a user at byte 10",
+    ),
+    (b"foo: <primitive: 1>", "identifier expected at byte 5"),
+    (b"foo <bar", "operand expected at byte 4"),
+];
+
+/// Methods of the kernel that are checked: primitives.
+const KERNEL_METHODS: &[Row] = &[
+    (b"foo <primitive: 1>", ""),
+    (b"foo < \"c\" primitive: 65535>", ""),
+    (b"foo <primitive: 65536>", "end expected at byte 16"),
+    (b"foo <primitive: 16r1>", "end expected at byte 16"),
+    (b"foo <primitive: 1> bar", "end expected at byte 19"),
+    (b"foo <primitive: 1", "end expected at byte 17"),
+    (b"foo <bar", "end expected at byte 5"),
+    (b"foo bar. <primitive: 1>", "operand expected at byte 9"),
+];
+
+/// Do-its that are parsed: names that are declared twice, and what may not be assigned.
+const PARSED_DOITS: &[Row] = &[
+    (b"| a | [:a | ]. [:a | ]", ""),
+    (b"| nil super | super foo", ""),
+    (b"[:a | [| a | a := 3]]", ""),
+    (b"| a b c d e f g h i | i := a", ""),
+    (
+        b"[:a :b :c :d :e :f :g :h :i :j :k :l :m :n :o :p :q | | r | r := q]",
+        "",
+    ),
+    (
+        b"[:a :b :c :d :e :f :g :h :i :j :k :l :m :n :o :p :q | [| q | q := a]]",
+        "",
+    ),
+    (b"| a b a | a", "a name is declared twice, at byte 6 again"),
+    (b"[:a :a | a]", "a name is declared twice, at byte 5 again"),
+    (
+        b"[:a | | a | a]",
+        "a name is declared twice, at byte 8 again",
+    ),
+    (
+        b"| a b c d e f g h i a | a",
+        "a name is declared twice, at byte 20 again",
+    ),
+    (
+        b"nil := 3. [:a :a | ]",
+        "a name is declared twice, at byte 15 again",
+    ),
+    (
+        b"nil := 3",
+        "a name that cannot be assigned is assigned at byte 0",
+    ),
+    (
+        b"super := 3",
+        "a name that cannot be assigned is assigned at byte 0",
+    ),
+    (
+        b"| nil | nil := 3",
+        "a name that cannot be assigned is assigned at byte 8",
+    ),
+    (
+        b"[:a | a := 3]",
+        "a name that cannot be assigned is assigned at byte 6",
+    ),
+    (
+        b"| a | [:a | a := 3]",
+        "a name that cannot be assigned is assigned at byte 12",
+    ),
+    (
+        b"[:a :b :c :d :e :f :g :h :i :j :k :l :m :n :o :p :q | q := a]",
+        "a name that cannot be assigned is assigned at byte 54",
+    ),
+    (
+        b"a := b := nil := 3",
+        "a name that cannot be assigned is assigned at byte 10",
+    ),
+    (
+        b"<primitive: 1>",
+        "a primitive in a text of a user at byte 0",
+    ),
+    (b"| a a | '", "the string that opens at byte 8 has no end"),
+    (b"nil := 3. 4 5", "end expected at byte 12"),
+    (b"[:a :a | ] ]", "end expected at byte 11"),
+    (b"a + ", "operand expected at byte 4"),
+    (b"super", "end expected at byte 5"),
+    (b"\"\x0c", "the comment that opens at byte 0 has no end"),
+    (b"3'_\t", "the string that opens at byte 1 has no end"),
+    (b"!\r", "byte 0 begins no token"),
+    (b"{", "operand expected at byte 1"),
+    (
+        b"Object subclass: #A instanceVariableNames: \x0c' classVariableNames: 'X y' poolDictionaries: '' caegory: 'T'",
+        "the string that opens at byte 104 has no end",
+    ),
+    (b"\xf5}o\xca5.", "byte 0 begins no token"),
+    (b"3\t (\x0c33", "end expected at byte 3"),
+    (b"_\" \n\t$", "the comment that opens at byte 1 has no end"),
+    (
+        b"Object subclass: #A instanceVariableNames: 'n' classVariableNames: '' poolDictionar+es: '' category: 'T'",
+        "operand expected at byte 84",
+    ),
+    (b"'3\r (\t", "the string that opens at byte 0 has no end"),
+    (
+        b"Object subclass: #A\x0cinstanceVariableNames:\rU'y n' classVariableNames: 'Y' poolDictionaries:\r''\x0ccategor\"y:\x0c\t'T'",
+        "the comment that opens at byte 102 has no end",
+    ),
+    (
+        b"named: aName ^parts detect: [:each | each name = aName]  ifNone: [nil]",
+        "operand expected at byte 0",
+    ),
+    (
+        b"[\n\t| b self |\t[\n\t\t| super e5 |\n\t\t^#() | #('''A')]].\n[\n\t| e5 |\n\t^[x1 whileTrue: false; at: #foo: put: nil]\n\t\"\"]\n\"\"\n\n\t\"",
+        "the comment that opens at byte 116 has no end",
+    ),
+    (
+        b"a b: !\nB subclass: #D instanceVariableNames: '' classVariableNames: 'X' poolDictionaries: '' category: 'T'",
+        "byte 5 begins no token",
+    ),
+    (b"$", "byte 0 begins no token"),
+    (b"'a", "the string that opens at byte 0 has no end"),
+    (b"\"a", "the comment that opens at byte 0 has no end"),
+    (
+        b"37r1",
+        "the numeral at byte 0 is in no base, or has a digit that is not below its base",
+    ),
+    (b"3 +", "operand expected at byte 3"),
+    (b"[:3]", "identifier expected at byte 2"),
+    (b"#(.)", "element expected at byte 2"),
+    (b"a)", "end expected at byte 1"),
+    (
+        b"<primitive: 1>",
+        "a primitive in a text of a user at byte 0",
+    ),
+    (b"[:a :a | ]", "a name is declared twice, at byte 5 again"),
+    (
+        b"nil := 3",
+        "a name that cannot be assigned is assigned at byte 0",
+    ),
+    (b"#'a", "the string that opens at byte 1 has no end"),
+    (b"(super) foo", "end expected at byte 6"),
+    (b"(a foo); bar", "end expected at byte 7"),
+    (b"^a. b", "end expected at byte 4"),
+    (b"#({1})", "element expected at byte 2"),
+];
+
+/// Methods that are parsed: the same.
+const PARSED_METHODS: &[Row] = &[
+    (b"foo: a [:a | ]", ""),
+    (b"foo: a | b | b := a", ""),
+    (
+        b"foo: a a := 3",
+        "a name that cannot be assigned is assigned at byte 7",
+    ),
+    (
+        b"foo: a | a | a",
+        "a name is declared twice, at byte 9 again",
+    ),
+    (
+        b"foo: a bar: a ^a",
+        "a name is declared twice, at byte 12 again",
+    ),
+    (
+        b"foo | nil | nil := 3",
+        "a name that cannot be assigned is assigned at byte 12",
+    ),
+    (
+        b"foo <primitive: 1>",
+        "a primitive in a text of a user at byte 4",
+    ),
+    (b"foo:o: [self bar]", "identifier expected at byte 4"),
+    (
+        b"foo: a\n\t\"\xc8\xc8'\"\n\t\"\"\n\t^([:r2 :x1 |\n\t\t| Foo super Transcript |\n\t\tc] at: super - false) ~= [:c |\n\t\t| e5 self b |\n\t\t16rFe2 primitive: thisContext.\n\t\t[| b b | b]^Transcript at: #foo:]",
+        "end expected at byte 154",
+    ),
+    (b"% a ^", "operand expected at byte 5"),
+    (
+        b"inject: a into: b\n\t^! value: a value: 1",
+        "byte 20 begins no token",
+    ),
+    (
+        b"foo: a foo: a ^3",
+        "a name is declared twice, at byte 12 again",
+    ),
+    (b"and: 16rFF\n\t^a value", "identifier expected at byte 5"),
+    (
+        b"baz\n\t| e5 |\n\t^[\n\t\t[\n\t\t\t| Transcript 99r1.  self super |\n\t\t\t\"]\"\n\t\t\t[\n\t\t\t\tthisContext class.\n\t\t\t\t\"\t\"\n\t\t\t\t^{}\n\t\t\t\t\"\"].\n\t\t\t^{{'1\nA'. -1.5e-3}. false at: false put: true; >= false}].\n\t\t\"\t\xc8\x00\"\n\t\t[:e5 :x1 | ].\n\t\tnil]\n\t\"\"",
+        "the numeral at byte 36 is in no base, or has a digit that is not below its base",
+    ),
+    (
+        b"fee {nil := 3}.^3",
+        "a name that cannot be assigned is assigned at byte 5",
+    ),
+    (
+        b"baz \".\x00_#]\" self := 3 ^self isNil ifTrue: [self\n\t] ifFalse: [\n\nself] .",
+        "end expected at byte 22",
+    ),
+    (
+        b"foo\n\t\"\t.\"\n\t(a ifTrue: 7; ifTrue: true) foo.\n\t# a ^nil\n\t\"\xc8.\"",
+        "byte 45 begins no token",
+    ),
+];
+
+/// The tables, by the calls that read their texts.
+const TABLES: &[(Call, &[Row])] = &[
+    (CheckDoIt, MESSAGES),
+    (CheckDoIt, BRACKETS),
+    (CheckDoIt, PRIMITIVES),
+    (CheckMethod, METHODS),
+    (CheckKernelMethod, METHODS),
+    (CheckMethod, USER_METHODS),
+    (CheckKernelMethod, KERNEL_METHODS),
+    (ParseDoIt, PARSED_DOITS),
+    (ParseMethod, PARSED_METHODS),
 ];
 
 #[test]
-fn long_and_deep_texts(rt: HostRuntime) -> Result<(), Fail> {
-    for (pieces, fault) in LONG_TEXTS {
-        long_text_has(&rt, rt.alloc(), CheckDoIt, pieces, *fault)?;
-    }
-    Ok(())
-}
-
-#[test]
-fn tokens_without_comments(rt: HostRuntime) {
-    let text = b" \"c\" super primitive: -1 - <";
-    let mut place = 0;
-    for (sort, from, to) in [
-        (Sort::Super, 5, 10),
-        (Sort::PrimitiveKeyword, 11, 21),
-        (Sort::Sign, 22, 23),
-        (Sort::SmallNumeral, 23, 24),
-        (Sort::Binary, 25, 26),
-        (Sort::Less, 27, 28),
-        (Sort::TextEnd, 28, 28),
-    ] {
-        assert!(rt; place <= text.len());
-        match next_lexeme(text, place) {
-            Ok(lexeme) => {
-                assert!(rt; (lexeme.sort, lexeme.from, lexeme.to) == (sort, from, to));
-                place = lexeme.to;
-            }
-            Err(_) => panic!(rt; "no token at {place}"),
+fn texts_have_their_first_faults(rt: HostRuntime) -> Result<(), Fail> {
+    for (call, rows) in TABLES {
+        for (text, wanted) in *rows {
+            let words = fault_words(rt.alloc(), *call, text)?;
+            assert!(rt; words.as_str() == *wanted, "not {wanted} but {words}");
         }
     }
-}
-
-#[test]
-fn words_of_what_is_wanted(rt: HostRuntime) {
-    for (what, word) in [
-        (Operand, "operand"),
-        (Identifier, "identifier"),
-        (Element, "element"),
-        (End, "end"),
-    ] {
-        assert!(rt; word_of(what) == word);
-    }
+    Ok(())
 }

@@ -1,18 +1,29 @@
-//! Tests of the readers of methods and do-its: first faults, trees with their names and comments, the places of nodes, and
-//! do-its that are added to an image. The crate has nothing else.
+//! Tests of the readers of methods, do-its and scripts, of the writer of methods and do-its, and of their trees: first faults,
+//! canonical texts, comments, the places of nodes, parts that are lent and replaced, what names stand for, and do-its that are
+//! added to an image. The crate has nothing else.
 #![tactic(auto)]
 
 #[cfg(test)]
 mod added;
 #[cfg(test)]
-mod comments;
+mod calls;
 #[cfg(test)]
-mod compare;
+mod comments;
 #[cfg(test)]
 mod faults;
 #[cfg(test)]
-mod parser;
+mod lexemes;
+#[cfg(test)]
+mod long_texts;
+#[cfg(test)]
+mod parts;
 #[cfg(test)]
 mod places;
 #[cfg(test)]
+mod scopes;
+#[cfg(test)]
+mod scripts;
+#[cfg(test)]
 mod trees;
+#[cfg(test)]
+mod written;

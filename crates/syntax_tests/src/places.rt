@@ -5,7 +5,6 @@ use st_spans::{
 };
 use st_tree::{Part, Path};
 use std::alloc::Global;
-use std::process::Abort;
 use std::test::Fail;
 
 /// The path of a node, and its place.
@@ -64,18 +63,6 @@ const METHODS: &[Case] = &[
     ("go", &[]),
 ];
 
-/// Methods, each with the path of a node and its place.
-const PARTS: &[(&str, Row)] = &[
-    (
-        "pay: x | rate | rate := 2. ^x * rate + 1",
-        (&[1, 0, 0], 28, 36),
-    ),
-    ("due ^self fee", (&[0, 0], 5, 13)),
-    ("go: flag ^flag ifTrue: self part", (&[0, 0, 1], 23, 32)),
-    ("pay: x ^x * 2 + 1", (&[0, 0, 0], 8, 13)),
-    ("go ^self foo + self bar", (&[0, 0, 1], 15, 23)),
-];
-
 /// Do-its.
 const DOITS: &[Case] = &[
     (
@@ -103,21 +90,39 @@ const DOITS: &[Case] = &[
 /// A method with runs of statements.
 const STATEMENTS: &str = "go | x b | x := 1. b := [x := x + 1]. ^b value + x";
 
-/// Two places, and the number of the first statement of the body that stands there, and how many.
-const RUNS: &[(usize, usize, Option<(usize, usize)>)] = &[
-    (11, 36, Some((0, 2))),
-    (11, 50, Some((0, 3))),
-    (19, 50, Some((1, 2))),
-    (11, 37, None),
-    (25, 50, None),
-];
+/// What stands between two places: nothing, a node by its path, or so many statements of the body from the one of a number on.
+enum Found {
+    Nothing,
+    Node(&'static [usize]),
+    Run(usize, usize),
+}
 
-/// Two places, and the path of the node that stands there.
-const NODES: &[Row] = &[
-    (&[2, 0], 39, 50),
-    (&[2], 38, 50),
-    (&[0], 11, 17),
-    (&[1, 0, 0], 25, 35),
+/// Methods with two places, and what stands between them.
+const PARTS: &[(&str, usize, usize, Found)] = &[
+    (
+        "pay: x | rate | rate := 2. ^x * rate + 1",
+        28,
+        36,
+        Found::Node(&[1, 0, 0]),
+    ),
+    ("due ^self fee", 5, 13, Found::Node(&[0, 0])),
+    (
+        "go: flag ^flag ifTrue: self part",
+        23,
+        32,
+        Found::Node(&[0, 0, 1]),
+    ),
+    ("pay: x ^x * 2 + 1", 8, 13, Found::Node(&[0, 0, 0])),
+    ("go ^self foo + self bar", 15, 23, Found::Node(&[0, 0, 1])),
+    (STATEMENTS, 39, 50, Found::Node(&[2, 0])),
+    (STATEMENTS, 38, 50, Found::Node(&[2])),
+    (STATEMENTS, 11, 17, Found::Node(&[0])),
+    (STATEMENTS, 25, 35, Found::Node(&[1, 0, 0])),
+    (STATEMENTS, 11, 36, Found::Run(0, 2)),
+    (STATEMENTS, 11, 50, Found::Run(0, 3)),
+    (STATEMENTS, 19, 50, Found::Run(1, 2)),
+    (STATEMENTS, 11, 37, Found::Nothing),
+    (STATEMENTS, 25, 50, Found::Nothing),
 ];
 
 /// Methods that are refused.
@@ -135,112 +140,111 @@ const REFUSED: &[(&str, ParseFault)] = &[
 ];
 
 /// The path of these steps.
-fn path(alloc: Global, steps: &[usize]) -> Result<Path, Memory> {
+pub fn path(alloc: Global, steps: &[usize]) -> Result<Path, Memory> {
     Ok(Path::from_vec(Vec::from_slice(alloc, steps)?))
 }
 
-/// Compares nodes with a table.
-fn compare(rt: &impl Abort, found: &Spans, rows: &[Row]) {
-    assert!(rt; found.as_slice().len() == rows.len());
-    for (node, (steps, from, to)) in found.as_slice().iter().zip(rows) {
-        assert!(rt; node.path.as_slice() == *steps);
-        assert!(rt; node.span.from == *from && node.span.to == *to);
+/// Whether the nodes are those of the rows.
+fn are_so(found: &Spans, rows: &[Row]) -> bool {
+    found.as_slice().len() == rows.len()
+        && found.as_slice().iter().zip(rows).all(|(node, (steps, from, to))| {
+            node.path.as_slice() == *steps && node.span.from == *from && node.span.to == *to
+        })
+}
+
+/// The nodes of a method or a do-it.
+fn spans_in(alloc: Global, text: &str, is_doit: bool) -> Result<Spans, ParseFault> {
+    if is_doit {
+        doit_spans(alloc, text.as_bytes())
+    } else {
+        spans(alloc, text.as_bytes())
+    }
+}
+
+/// The place of a node in a method or a do-it.
+fn span_in(
+    alloc: Global,
+    text: &str,
+    steps: &[usize],
+    is_doit: bool,
+) -> Result<Option<Span>, ParseFault> {
+    let path = path(alloc, steps)?;
+    if is_doit {
+        span_of_doit(alloc, text.as_bytes(), &path)
+    } else {
+        span_of(alloc, text.as_bytes(), &path)
     }
 }
 
 #[test]
-fn methods(rt: HostRuntime) -> Result<(), Fail> {
-    for (text, rows) in METHODS {
-        compare(&rt, &spans(rt.alloc(), text.as_bytes())?, rows);
-        for (steps, from, to) in *rows {
-            let span = span_of(rt.alloc(), text.as_bytes(), &path(rt.alloc(), steps)?);
-            assert!(&rt;
-                span == Ok(Some(Span {
-                    from: *from,
-                    to: *to
-                }))
+fn nodes_have_their_places(rt: HostRuntime) -> Result<(), Fail> {
+    for (cases, is_doit) in [(METHODS, false), (DOITS, true)] {
+        for (text, rows) in cases {
+            assert!(rt;
+                are_so(&spans_in(rt.alloc(), text, is_doit)?, rows),
+                "of {text}"
             );
+            for (steps, from, to) in *rows {
+                let span = span_in(rt.alloc(), text, steps, is_doit)?;
+                assert!(rt;
+                    span == Some(Span {
+                        from: *from,
+                        to: *to
+                    }),
+                    "of {text}"
+                );
+            }
         }
     }
     Ok(())
 }
 
-#[test]
-fn doits(rt: HostRuntime) -> Result<(), Fail> {
-    for (text, rows) in DOITS {
-        compare(&rt, &doit_spans(rt.alloc(), text.as_bytes())?, rows);
-        for (steps, from, to) in *rows {
-            let span = span_of_doit(rt.alloc(), text.as_bytes(), &path(rt.alloc(), steps)?);
-            assert!(&rt;
-                span == Ok(Some(Span {
-                    from: *from,
-                    to: *to
-                }))
-            );
+/// Whether the part is what is wanted.
+fn is_part(part: &Option<Part>, wanted: &Found) -> bool {
+    match (part, wanted) {
+        (None, Found::Nothing) => true,
+        (Some(Part::Expression { path }), Found::Node(steps)) => path.as_slice() == *steps,
+        (Some(Part::Run { path, first, count }), Found::Run(from, many)) => {
+            path.len() == 0 && *first == *from && *count == *many
         }
-    }
-    Ok(())
-}
-
-/// Whether the part is the node of a row.
-fn is_node(part: &Option<Part>, steps: &[usize]) -> bool {
-    match part {
-        Some(Part::Expression { path }) => path.as_slice() == steps,
         _ => false,
     }
 }
 
-/// Whether the part are statements of the body, or none where none are wanted.
-fn is_run(part: &Option<Part>, run: &Option<(usize, usize)>) -> bool {
-    match (part, run) {
-        (Some(Part::Run { path, first, count }), Some(run)) => {
-            path.len() == 0 && *first == run.0 && *count == run.1
-        }
-        (None, None) => true,
-        _ => false,
-    }
-}
-
 #[test]
-fn parts(rt: HostRuntime) -> Result<(), Fail> {
-    for (steps, from, to) in NODES {
-        let part = part_of_span(rt.alloc(), STATEMENTS.as_bytes(), *from, *to)?;
-        assert!(&rt; is_node(&part, steps));
-    }
-    for (from, to, run) in RUNS {
-        let part = part_of_span(rt.alloc(), STATEMENTS.as_bytes(), *from, *to)?;
-        assert!(&rt; is_run(&part, run));
-    }
-    Ok(())
-}
-
-#[test]
-fn nodes(rt: HostRuntime) -> Result<(), Fail> {
-    for (text, (steps, from, to)) in PARTS {
+fn parts_stand_at_places(rt: HostRuntime) -> Result<(), Fail> {
+    for (text, from, to, wanted) in PARTS {
         let part = part_of_span(rt.alloc(), text.as_bytes(), *from, *to)?;
-        assert!(&rt; is_node(&part, steps));
+        assert!(rt; is_part(&part, wanted), "of {text}");
     }
     Ok(())
 }
 
-#[test]
-fn lent(rt: HostRuntime) -> Result<(), Fail> {
+/// Whether the part of a method to which a path leads is lent as its text, or nothing is.
+fn is_lent(alloc: Global, steps: &[usize], wanted: Option<&[u8]>) -> Result<bool, ParseFault> {
     let text = b"go ^self foo + self bar".as_slice();
-    let bar = path(rt.alloc(), [0, 0, 1].as_slice())?;
-    assert!(&rt; lend_part(rt.alloc(), text, &bar) == Ok(Some(b"self bar".as_slice())));
-    let nowhere = path(rt.alloc(), [0, 0, 2].as_slice())?;
-    assert!(&rt; lend_part(rt.alloc(), text, &nowhere) == Ok(None));
-    Ok(())
+    let path = path(alloc, steps)?;
+    Ok(lend_part(alloc, text, &path)? == wanted)
+}
+
+/// Whether each call refuses a method with this fault.
+fn is_refused(alloc: Global, text: &[u8], fault: ParseFault) -> bool {
+    let body = Path::new(alloc);
+    span_of(alloc, text, &body).err() == Some(fault)
+        && lend_part(alloc, text, &body).err() == Some(fault)
+        && spans(alloc, text).err() == Some(fault)
+        && part_of_span(alloc, text, 0, 2).err() == Some(fault)
 }
 
 #[test]
-fn refused(rt: HostRuntime) {
-    let body = Path::new(rt.alloc());
+fn parts_are_lent_or_refused(rt: HostRuntime) -> Result<(), Fail> {
+    assert!(rt; is_lent(rt.alloc(), &[0, 0, 1], Some(b"self bar"))?);
+    assert!(rt; is_lent(rt.alloc(), &[0, 0, 2], None)?);
     for (text, fault) in REFUSED {
-        let text = text.as_bytes();
-        assert!(&rt; span_of(rt.alloc(), text, &body).err() == Some(*fault));
-        assert!(&rt; lend_part(rt.alloc(), text, &body).err() == Some(*fault));
-        assert!(&rt; spans(rt.alloc(), text).err() == Some(*fault));
-        assert!(&rt; part_of_span(rt.alloc(), text, 0, 2).err() == Some(*fault));
+        assert!(rt;
+            is_refused(rt.alloc(), text.as_bytes(), *fault),
+            "of {text}"
+        );
     }
+    Ok(())
 }

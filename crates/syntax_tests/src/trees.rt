@@ -1,7 +1,7 @@
-// Texts and their trees.
-use rb_base::{Memory, NameId, Names};
+// Do-its and their trees.
+use rb_base::Names;
 use st_parser::{ParseFault, parse_doit};
-use st_tree::{Node, NodeKind, Nodes, Sequence, same};
+use st_tree::{Node, NodeKind, Sequence, height, same, try_copy_doit};
 use std::alloc::Global;
 use std::test::Fail;
 
@@ -67,61 +67,81 @@ fn texts_of_one_tree(rt: HostRuntime) -> Result<(), Fail> {
     Ok(())
 }
 
-fn variable(number: usize) -> Node {
-    Node {
-        kind: NodeKind::Var {
-            name: NameId(number),
-        },
+/// The height of the first statement in a copy of a do-it, or 0 where there is none.
+fn height_of(alloc: Global, text: &str) -> Result<usize, ParseFault> {
+    let mut names = Names::new(alloc);
+    let body = parse_doit(alloc, text.as_bytes(), &mut names)?;
+    let copy = try_copy_doit(alloc, &body)?;
+    match first_node(&copy) {
+        Some(node) => Ok(height(node)),
+        None => Ok(0),
     }
 }
 
-/// A list of one node.
-fn one(alloc: Global, node: Node) -> Result<Nodes, Memory> {
-    let mut nodes = Nodes::new(alloc);
-    nodes.push(node)?;
-    Ok(nodes)
+/// Texts, and the heights of their first statements.
+const HEIGHTS: &[(&str, usize)] = &[
+    ("#()", 1),
+    ("#(#(1))", 3),
+    ("[x m: y]", 3),
+    ("r m: a n: b; m: c; m: d n: e", 2),
+];
+
+#[test]
+fn statements_have_heights(rt: HostRuntime) -> Result<(), Fail> {
+    for (text, wanted) in HEIGHTS {
+        assert!(rt; height_of(rt.alloc(), text)? == *wanted, "of {text}");
+    }
+    Ok(())
 }
 
-/// A message with one argument, each name by its number.
-fn sent(alloc: Global, receiver: usize, selector: usize, argument: usize) -> Result<Node, Memory> {
-    let arguments = one(alloc, variable(argument))?;
-    Ok(Node {
-        kind: NodeKind::Send {
-            receiver: Box::new(alloc, variable(receiver))?,
-            selector: NameId(selector),
+/// The number of a variable's name.
+fn variable_of(node: Option<&Node>) -> Option<usize> {
+    match &node?.kind {
+        NodeKind::Var { name } => Some(name.0),
+        _ => None,
+    }
+}
+
+/// The names of a message by their numbers: its receiver, its selector and its first argument.
+fn numbers_of(node: &Node) -> Option<(usize, usize, usize)> {
+    match &node.kind {
+        NodeKind::Send {
+            receiver,
+            selector,
             arguments,
-        },
-    })
-}
-
-/// Whether the first statement is a message with these numbers.
-fn is_sent(alloc: Global, body: &Sequence, numbers: [usize; 3]) -> Result<bool, Memory> {
-    let [receiver, selector, argument] = numbers;
-    let wanted = sent(alloc, receiver, selector, argument)?;
-    match first_node(body) {
-        Some(node) => Ok(same(node, &wanted)),
-        None => Ok(false),
+        } => Some((
+            variable_of(Some(receiver))?,
+            selector.0,
+            variable_of(arguments.as_slice().first())?,
+        )),
+        _ => None,
     }
 }
 
-/// Whether the first statement of a text is a message with these numbers, and then there are so many names.
-fn reads_message(
-    alloc: Global,
-    text: &[u8],
-    names: &mut Names,
-    numbers: [usize; 3],
-    count: usize,
-) -> Result<bool, ParseFault> {
-    let body = parse_doit(alloc, text, names)?;
-    Ok(names.len() == count && is_sent(alloc, &body, numbers)?)
+/// The names of the message that is the first statement, by their numbers.
+fn message_of(alloc: Global, text: &str, names: &mut Names) -> Option<(usize, usize, usize)> {
+    match parse_doit(alloc, text.as_bytes(), names) {
+        Ok(body) => numbers_of(first_node(&body)?),
+        Err(_) => None,
+    }
 }
+
+/// Texts that are read one after another: the numbers of the message, if there is one, and how many names there are then.
+const MESSAGES: &[(&str, Option<(usize, usize, usize)>, usize)] = &[
+    ("a foo: b", Some((0, 2, 1)), 3),
+    ("(b) foo: c \"d\"", Some((1, 2, 3)), 4),
+    ("| e e |", None, 4),
+];
 
 #[test]
 fn names_have_their_numbers(rt: HostRuntime) -> Result<(), Fail> {
     let mut names = Names::new(rt.alloc());
-    assert!(rt; reads_message(rt.alloc(), b"a foo: b", &mut names, [0, 2, 1], 3)?);
-    assert!(rt; reads_message(rt.alloc(), b"(b) foo: c \"d\"", &mut names, [1, 2, 3], 4)?);
-    assert!(rt; parse_doit(rt.alloc(), b"| e e |", &mut names).is_err());
-    assert!(rt; names.len() == 4);
+    for (text, numbers, count) in MESSAGES {
+        assert!(rt;
+            message_of(rt.alloc(), text, &mut names) == *numbers,
+            "of {text}"
+        );
+        assert!(rt; names.len() == *count, "of {text}");
+    }
     Ok(())
 }

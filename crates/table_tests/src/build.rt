@@ -60,35 +60,22 @@ pub fn doit(alloc: Global, source: Text) -> DoIt {
     }
 }
 
-fn put_name(image: &mut Image, text: &[u8]) {
-    let _ = image.names_mut().intern(text);
-}
-
-fn put_class(alloc: Global, image: &mut Image, name: usize, superclass: Option<ClassId>) {
-    let _ = image.add_class(class(alloc, name, superclass));
-}
-
 /// Adds a method, if there is memory.
 pub fn put_method(alloc: Global, image: &mut Image, class: usize, meta: bool, selector: usize) {
     let _ = image.add_method(method(alloc, class, meta, selector));
 }
 
-/// Adds a do-it, if there is memory.
-pub fn put_doit(alloc: Global, image: &mut Image) {
-    let _ = image.add_doit(doit(alloc, Text::new(alloc)));
-}
-
 /// Adds the names, the classes and the methods, as far as there is memory.
 pub fn put_all(alloc: Global, image: &mut Image) {
-    put_name(image, b"Object");
-    put_name(image, b"Class");
-    put_name(image, b"Account");
-    put_class(alloc, image, 0, None);
-    put_class(alloc, image, 1, Some(ClassId(0)));
-    put_class(alloc, image, 2, Some(ClassId(0)));
-    put_method(alloc, image, 0, false, 3);
-    put_method(alloc, image, 1, false, 4);
-    put_method(alloc, image, 2, true, 3);
+    for name in ["Object", "Class", "Account"] {
+        let _ = image.names_mut().intern(name.as_bytes());
+    }
+    for (name, superclass) in [(0, None), (1, Some(ClassId(0))), (2, Some(ClassId(0)))] {
+        let _ = image.add_class(class(alloc, name, superclass));
+    }
+    for (class, meta, selector) in [(0, false, 3), (1, false, 4), (2, true, 3)] {
+        put_method(alloc, image, class, meta, selector);
+    }
 }
 
 /// Adds two classes, the second one below the first.

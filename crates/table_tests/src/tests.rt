@@ -1,72 +1,76 @@
 // Calls on small images, with the answers read by hand.
 ghost use Rattle.std.specs.Prelude.{◌≡◌, ◌<◌, [], length};
 
-use crate::build::{class, doit, method, put_all, put_doit, put_method, put_two};
-use class_table::{ClassId, ClassIds, ClassRec, DoIt, Image, MethodRec, MethodSlot, Place, Slot};
+use crate::build::{class, doit, method, put_all, put_method, put_two};
+use class_table::{ClassId, ClassIds, Image, MethodSlot, Place, Slot};
 use rb_base::{Memory, NameId, Steps, Text};
 use std::alloc::Global;
 use std::marker::Brand;
 use std::sync::ledger::{Blank, Ledger};
-use std::test::Fail;
 
-fn finds_classes(image: &Image) -> bool {
-    let found = [
-        image.class_named(NameId(0)),
-        image.class_named(NameId(2)),
-        image.class_named(NameId(3)),
-        image.chain_at(ClassId(2), 1),
-        image.chain_at(ClassId(2), 2),
-        image.chain_at(ClassId(9), 0),
-    ];
-    let wanted = [
-        Some(ClassId(0)),
-        Some(ClassId(2)),
-        None,
-        Some(ClassId(0)),
-        None,
-        None,
-    ];
-    found.as_slice() == wanted.as_slice()
+/// Names, and the classes of these names.
+const CLASSES: &[(usize, Option<usize>)] = &[(0, Some(0)), (2, Some(2)), (3, None)];
+
+/// A class, a number, and the class of that number on its chain.
+const CHAINS: &[(usize, usize, Option<usize>)] = &[(2, 1, Some(0)), (2, 2, None), (9, 0, None)];
+
+/// A class, its class side or not, a selector, and the method that is found: an inherited one, one of the class itself and
+/// none; and on the class side one of the class, one of `Class`, one of `Object` that `Class` inherits, and none.
+const METHODS: &[(usize, bool, usize, Option<usize>)] = &[
+    (2, false, 3, Some(0)),
+    (1, false, 4, Some(1)),
+    (2, false, 4, None),
+    (2, true, 3, Some(2)),
+    (2, true, 4, Some(1)),
+    (0, true, 3, Some(0)),
+    (2, true, 1, None),
+];
+
+fn is_class(found: Option<ClassId>, wanted: Option<usize>) -> bool {
+    match found {
+        Some(ClassId(class)) => wanted == Some(class),
+        None => wanted == None,
+    }
 }
 
-// An inherited method, one of the class itself and none; and on the class side one of the class, one of `Class`, one of
-// `Object` that `Class` inherits, and none.
+fn is_method(found: Option<MethodSlot>, wanted: Option<usize>) -> bool {
+    match found {
+        Some(MethodSlot(slot)) => wanted == Some(slot),
+        None => wanted == None,
+    }
+}
+
+fn finds_classes(image: &Image) -> bool {
+    CLASSES.iter().all(|(name, wanted)| is_class(image.class_named(NameId(*name)), *wanted))
+}
+
+fn finds_chains(image: &Image) -> bool {
+    CHAINS.iter().all(|(class, n, wanted)| is_class(image.chain_at(ClassId(*class), *n), *wanted))
+}
+
 fn finds_methods(image: &Image) -> bool {
-    let found = [
-        image.lookup(ClassId(2), false, NameId(3)),
-        image.lookup(ClassId(1), false, NameId(4)),
-        image.lookup(ClassId(2), false, NameId(4)),
-        image.lookup(ClassId(2), true, NameId(3)),
-        image.lookup(ClassId(2), true, NameId(4)),
-        image.lookup(ClassId(0), true, NameId(3)),
-        image.lookup(ClassId(2), true, NameId(1)),
-    ];
-    let wanted = [
-        Some(MethodSlot(0)),
-        Some(MethodSlot(1)),
-        None,
-        Some(MethodSlot(2)),
-        Some(MethodSlot(1)),
-        Some(MethodSlot(0)),
-        None,
-    ];
-    found.as_slice() == wanted.as_slice()
+    METHODS.iter().all(|(class, meta, selector, wanted)| {
+        is_method(
+            image.lookup(ClassId(*class), *meta, NameId(*selector)),
+            *wanted,
+        )
+    })
 }
 
 fn finds_all(image: &Image) -> bool {
-    finds_classes(image) && finds_methods(image)
+    finds_classes(image) && finds_chains(image) && finds_methods(image)
 }
 
 #[test]
-fn classes_and_methods_are_found(rt: HostRuntime) -> Result<(), Fail> {
+fn classes_and_methods_are_found(rt: HostRuntime) {
     let mut image = Image::new(rt.alloc());
     put_all(rt.alloc(), &mut image);
-    let searched = finds_all(&image);
-    image.reindex()?;
-    assert!(rt; searched && finds_all(&image));
-    Ok(())
+    assert!(rt; finds_all(&image));
+    assert!(rt; image.reindex().is_ok());
+    assert!(rt; finds_all(&image));
 }
 
+/// Whether the tree of a class is appended, in an image of none.
 fn tree_reads(alloc: Global, image: &mut Image) -> Result<bool, Memory>
     requires none { image.old.classes ≡ [] }
     requires order { image.old.class_order ≡ [] }
@@ -79,72 +83,48 @@ fn tree_reads(alloc: Global, image: &mut Image) -> Result<bool, Memory>
     Ok(found.as_slice() == wanted.as_slice())
 }
 
-#[test]
-fn trees_of_classes_are_told(rt: HostRuntime) -> Result<(), Fail> {
-    let mut image = Image::new(rt.alloc());
-    assert!(rt; tree_reads(rt.alloc(), &mut image)?);
-    Ok(())
-}
-
-fn class_swaps(image: &mut Image, other: &mut ClassRec) -> bool
+/// Whether the first class is taken out, put back and swapped.
+fn class_swaps(alloc: Global, image: &mut Image) -> bool
     requires { 0 < length image.old.classes }
 {
+    let mut other = class(alloc, 1, None);
     let former = image.set_live(Slot::Class(ClassId(0)), None);
     image.set_live(Slot::Class(ClassId(0)), Some(0));
-    image.swap_class(ClassId(0), other);
+    image.swap_class(ClassId(0), &mut other);
     former == Some(0) && other.name == NameId(0)
 }
 
-fn method_swaps(image: &mut Image, other: &mut MethodRec) -> bool
+/// Whether the first method is taken out, put back and swapped.
+fn method_swaps(alloc: Global, image: &mut Image) -> bool
     requires { 0 < length image.old.methods }
 {
+    let mut other = method(alloc, 0, false, 4);
     let former = image.set_live(Slot::Method(MethodSlot(0)), None);
     image.set_live(Slot::Method(MethodSlot(0)), Some(0));
-    image.swap_method(MethodSlot(0), other);
+    image.swap_method(MethodSlot(0), &mut other);
     former == Some(0) && other.tree.selector == NameId(3)
 }
 
-fn doit_swaps(image: &mut Image, other: &mut DoIt) -> bool
+/// Whether the first do-it is swapped, and then its source.
+fn doit_swaps(alloc: Global, image: &mut Image) -> Result<bool, Memory>
     requires { 0 < length image.old.doits }
 {
-    image.swap_doit(0, other);
+    let mut other = doit(alloc, Text::from_slice(alloc, b"source")?);
+    image.swap_doit(0, &mut other);
     image.swap_source(Place::DoIt(0), &mut other.source);
-    other.source.as_slice() == b"source".as_slice() && image.doit_source(0).is_some()
+    Ok(other.source.as_slice() == b"source".as_slice() && image.doit_source(0).is_some())
 }
 
-fn classes_swap(alloc: Global) -> bool {
-    let mut image = Image::new(alloc);
-    let mut other = class(alloc, 1, None);
-    if image.add_class(class(alloc, 0, None)).is_err() {
-        return false;
-    }
-    class_swaps(&mut image, &mut other)
+fn classes_swap(alloc: Global, image: &mut Image) -> bool {
+    image.add_class(class(alloc, 0, None)).is_ok() && class_swaps(alloc, image)
 }
 
-fn methods_swap(alloc: Global) -> bool {
-    let mut image = Image::new(alloc);
-    let mut other = method(alloc, 0, false, 4);
-    if image.add_method(method(alloc, 0, false, 3)).is_err() {
-        return false;
-    }
-    method_swaps(&mut image, &mut other)
+fn methods_swap(alloc: Global, image: &mut Image) -> bool {
+    image.add_method(method(alloc, 0, false, 3)).is_ok() && method_swaps(alloc, image)
 }
 
-fn doits_swap(alloc: Global, other: &mut DoIt) -> bool {
-    let mut image = Image::new(alloc);
-    if image.add_doit(doit(alloc, Text::new(alloc))).is_err() {
-        return false;
-    }
-    doit_swaps(&mut image, other)
-}
-
-#[test]
-fn records_are_swapped(rt: HostRuntime) -> Result<(), Fail> {
-    let source = Text::from_slice(rt.alloc(), b"source")?;
-    let mut other = doit(rt.alloc(), source);
-    assert!(rt; classes_swap(rt.alloc()) && methods_swap(rt.alloc()));
-    assert!(rt; doits_swap(rt.alloc(), &mut other));
-    Ok(())
+fn doits_swap(alloc: Global, image: &mut Image) -> bool {
+    image.add_doit(doit(alloc, Text::new(alloc))).is_ok() && doit_swaps(alloc, image) == Ok(true)
 }
 
 fn reads<L: Ledger>(image: &Image, steps: &mut Steps<L>) -> bool {
@@ -168,15 +148,16 @@ fn opens<L: Ledger>(blank: Blank, image: &mut Image) -> bool
     writes_tree(image, &mut steps) && writes_body(image, &mut steps) && reads(image, &mut steps)
 }
 
-fn bodies_open(alloc: Global) -> bool {
-    let mut image = Image::new(alloc);
-    put_method(alloc, &mut image, 0, false, 3);
-    put_doit(alloc, &mut image);
-    opens::<Brand>(Blank::new(1), &mut image)
+fn bodies_open(image: &mut Image) -> bool {
+    opens::<Brand>(Blank::new(1), image)
 }
 
 #[test]
-fn bodies_are_opened(rt: HostRuntime) -> Result<(), Fail> {
-    assert!(rt; bodies_open(rt.alloc()));
-    Ok(())
+fn records_are_listed_swapped_and_opened(rt: HostRuntime) {
+    let mut image = Image::new(rt.alloc());
+    assert!(rt; tree_reads(rt.alloc(), &mut image) == Ok(true));
+    assert!(rt; classes_swap(rt.alloc(), &mut image));
+    assert!(rt; methods_swap(rt.alloc(), &mut image));
+    assert!(rt; doits_swap(rt.alloc(), &mut image));
+    assert!(rt; bodies_open(&mut image));
 }

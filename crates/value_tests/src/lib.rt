@@ -3,14 +3,12 @@
 #![tactic(auto)]
 
 #[cfg(test)]
-mod integers;
-#[cfg(test)]
 mod literals;
 #[cfg(test)]
 mod numbers;
 #[cfg(test)]
+mod primitives;
+#[cfg(test)]
 mod printed;
 #[cfg(test)]
 mod replies;
-#[cfg(test)]
-mod sequences;

@@ -7,78 +7,6 @@ use st_meaning::{
 use std::alloc::Global;
 use std::test::Fail;
 
-/// Values that have no text, and the line that tells each as a result.
-fn plain_value(at: usize) -> Option<(AtomKind, &'static [u8])> {
-    match at {
-        0 => Some((AtomKind::Nil, b"=> nil\n")),
-        1 => Some((AtomKind::True, b"=> true\n")),
-        2 => Some((AtomKind::False, b"=> false\n")),
-        3 => Some((AtomKind::Int(0), b"=> 0\n")),
-        4 => Some((
-            AtomKind::Int(-9_223_372_036_854_775_808),
-            b"=> -9223372036854775808\n",
-        )),
-        5 => Some((AtomKind::Char(32), b"=> $ \n")),
-        6 => Some((AtomKind::Char(255), b"=> $\xff\n")),
-        7 => Some((AtomKind::Array(65_535), b"=> an Array of 65535\n")),
-        8 => Some((AtomKind::Block, b"=> a block\n")),
-        9 => Some((AtomKind::Transcript, b"=> Transcript\n")),
-        _ => None,
-    }
-}
-
-/// Values of a text, and the line that tells each as a result.
-fn text_value(alloc: Global, at: usize) -> Result<Option<(AtomKind, &'static [u8])>, Memory> {
-    let text = SharedText::from_slice(alloc, b"it's")?;
-    Ok(match at {
-        0 => Some((AtomKind::Str(text), b"=> 'it''s'\n")),
-        1 => Some((AtomKind::Sym(text), b"=> #it's\n")),
-        2 => Some((AtomKind::Class(text), b"=> it's\n")),
-        3 => Some((AtomKind::Object(text), b"=> an instance of it's\n")),
-        _ => None,
-    })
-}
-
-/// Errors that have no text, and the line that tells each.
-fn plain_error(at: usize) -> Option<(RunErrorKind, &'static [u8])> {
-    match at {
-        0 => Some((RunErrorKind::CannotReturn, b"error CannotReturn\n")),
-        1 => Some((RunErrorKind::NonBoolean, b"error NonBoolean\n")),
-        2 => Some((RunErrorKind::Unsupported, b"error Unsupported\n")),
-        3 => Some((RunErrorKind::Reflective, b"error Reflective\n")),
-        4 => Some((RunErrorKind::Overflow, b"error Overflow\n")),
-        5 => Some((RunErrorKind::DivideByZero, b"error DivideByZero\n")),
-        6 => Some((RunErrorKind::BadIndex, b"error BadIndex\n")),
-        7 => Some((
-            RunErrorKind::BadArgument { primitive: 60 },
-            b"error BadArgument 60\n",
-        )),
-        8 => Some((
-            RunErrorKind::WrongArity { given: 2 },
-            b"error WrongArity 2\n",
-        )),
-        9 => Some((RunErrorKind::TooLong, b"error TooLong\n")),
-        _ => None,
-    }
-}
-
-/// Errors of a text, and the line that tells each.
-fn text_error(alloc: Global, at: usize) -> Result<Option<(RunErrorKind, &'static [u8])>, Memory> {
-    let name = SharedText::from_slice(alloc, b"Odd")?;
-    Ok(match at {
-        0 => Some((RunErrorKind::Undeclared { name }, b"error Undeclared Odd\n")),
-        1 => Some((
-            RunErrorKind::NotAssignable { name },
-            b"error NotAssignable Odd\n",
-        )),
-        2 => Some((
-            RunErrorKind::UserError { text: name },
-            b"error UserError Odd\n",
-        )),
-        _ => None,
-    })
-}
-
 /// Whether this is the text of a run that told nothing.
 fn ends_so(alloc: Global, kind: OutcomeKind, wanted: &[u8]) -> Result<bool, Memory> {
     let mut out = Text::new(alloc);
@@ -97,45 +25,104 @@ fn error_is(alloc: Global, kind: RunErrorKind, wanted: &[u8]) -> Result<bool, Me
     ends_so(alloc, OutcomeKind::Failed(RunError::new(kind)), wanted)
 }
 
+/// The lines that tell values that have no text, as results.
+const PLAIN_VALUES: &[&[u8]] = &[
+    b"=> nil\n",
+    b"=> true\n",
+    b"=> false\n",
+    b"=> 0\n",
+    b"=> -9223372036854775808\n",
+    b"=> $ \n",
+    b"=> $\xff\n",
+    b"=> an Array of 65535\n",
+    b"=> a block\n",
+    b"=> Transcript\n",
+];
+
+/// The value of a line.
+fn plain_value(line: usize) -> AtomKind {
+    match line {
+        0 => AtomKind::Nil,
+        1 => AtomKind::True,
+        2 => AtomKind::False,
+        3 => AtomKind::Int(0),
+        4 => AtomKind::Int(-9_223_372_036_854_775_808),
+        5 => AtomKind::Char(32),
+        6 => AtomKind::Char(255),
+        7 => AtomKind::Array(65_535),
+        8 => AtomKind::Block,
+        _ => AtomKind::Transcript,
+    }
+}
+
+/// The lines that tell values of a text, as results.
+const TEXT_VALUES: &[&[u8]] = &[
+    b"=> 'it''s'\n",
+    b"=> #it's\n",
+    b"=> it's\n",
+    b"=> an instance of it's\n",
+];
+
+/// The value of a line.
+fn text_value(text: SharedText, line: usize) -> AtomKind {
+    match line {
+        0 => AtomKind::Str(text),
+        1 => AtomKind::Sym(text),
+        2 => AtomKind::Class(text),
+        _ => AtomKind::Object(text),
+    }
+}
+
 #[test]
 fn values_are_printed(rt: HostRuntime) -> Result<(), Fail> {
-    for at in 0..10 {
-        if let Some((kind, wanted)) = plain_value(at) {
-            assert!(rt; value_is(rt.alloc(), kind, wanted)?);
-        }
+    for (line, wanted) in PLAIN_VALUES.iter().enumerate() {
+        assert!(rt; value_is(rt.alloc(), plain_value(line), wanted)?);
+    }
+    for (line, wanted) in TEXT_VALUES.iter().enumerate() {
+        let text = SharedText::from_slice(rt.alloc(), b"it's")?;
+        assert!(rt; value_is(rt.alloc(), text_value(text, line), wanted)?);
     }
     Ok(())
 }
 
-#[test]
-fn values_of_a_text_are_printed(rt: HostRuntime) -> Result<(), Fail> {
-    for at in 0..4 {
-        if let Some((kind, wanted)) = text_value(rt.alloc(), at)? {
-            assert!(rt; value_is(rt.alloc(), kind, wanted)?);
-        }
+/// The lines that tell errors that have no text.
+const PLAIN_ERRORS: &[&[u8]] = &[
+    b"error CannotReturn\n",
+    b"error NonBoolean\n",
+    b"error Unsupported\n",
+    b"error Reflective\n",
+    b"error Overflow\n",
+    b"error DivideByZero\n",
+    b"error BadIndex\n",
+    b"error BadArgument 60\n",
+    b"error WrongArity 2\n",
+    b"error TooLong\n",
+];
+
+/// The error of a line.
+fn plain_error(line: usize) -> RunErrorKind {
+    match line {
+        0 => RunErrorKind::CannotReturn,
+        1 => RunErrorKind::NonBoolean,
+        2 => RunErrorKind::Unsupported,
+        3 => RunErrorKind::Reflective,
+        4 => RunErrorKind::Overflow,
+        5 => RunErrorKind::DivideByZero,
+        6 => RunErrorKind::BadIndex,
+        7 => RunErrorKind::BadArgument { primitive: 60 },
+        8 => RunErrorKind::WrongArity { given: 2 },
+        _ => RunErrorKind::TooLong,
     }
-    Ok(())
 }
 
-#[test]
-fn errors_are_printed(rt: HostRuntime) -> Result<(), Fail> {
-    for at in 0..10 {
-        if let Some((kind, wanted)) = plain_error(at) {
-            assert!(rt; error_is(rt.alloc(), kind, wanted)?);
-        }
-    }
-    Ok(())
-}
-
-#[test]
-fn errors_of_a_text_are_printed(rt: HostRuntime) -> Result<(), Fail> {
-    for at in 0..3 {
-        if let Some((kind, wanted)) = text_error(rt.alloc(), at)? {
-            assert!(rt; error_is(rt.alloc(), kind, wanted)?);
-        }
-    }
-    Ok(())
-}
+/// The lines that tell errors of a text.
+const TEXT_ERRORS: &[&[u8]] = &[
+    b"error Undeclared Odd\n",
+    b"error NotAssignable Odd\n",
+    b"error UserError Odd\n",
+    b"error DoesNotUnderstand Odd at:put:\n",
+    b"error DoesNotUnderstand Odd class at:put:\n",
+];
 
 /// The error of a message that is not understood.
 fn not_understood(alloc: Global, meta: bool) -> Result<RunErrorKind, Memory> {
@@ -146,14 +133,27 @@ fn not_understood(alloc: Global, meta: bool) -> Result<RunErrorKind, Memory> {
     })
 }
 
+/// The error of a line.
+fn text_error(alloc: Global, line: usize) -> Result<RunErrorKind, Memory> {
+    if line >= 3 {
+        return not_understood(alloc, line == 4);
+    }
+    let name = SharedText::from_slice(alloc, b"Odd")?;
+    Ok(match line {
+        0 => RunErrorKind::Undeclared { name },
+        1 => RunErrorKind::NotAssignable { name },
+        _ => RunErrorKind::UserError { text: name },
+    })
+}
+
 #[test]
-fn messages_that_are_not_understood_are_printed(rt: HostRuntime) -> Result<(), Fail> {
-    for (meta, wanted) in [
-        (false, "error DoesNotUnderstand Odd at:put:\n"),
-        (true, "error DoesNotUnderstand Odd class at:put:\n"),
-    ] {
-        let kind = not_understood(rt.alloc(), meta)?;
-        assert!(rt; error_is(rt.alloc(), kind, wanted.as_bytes())?);
+fn errors_are_printed(rt: HostRuntime) -> Result<(), Fail> {
+    for (line, wanted) in PLAIN_ERRORS.iter().enumerate() {
+        assert!(rt; error_is(rt.alloc(), plain_error(line), wanted)?);
+    }
+    for (line, wanted) in TEXT_ERRORS.iter().enumerate() {
+        let error = text_error(rt.alloc(), line)?;
+        assert!(rt; error_is(rt.alloc(), error, wanted)?);
     }
     Ok(())
 }
@@ -171,14 +171,10 @@ fn numbers(alloc: Global, count: i64) -> Result<View, Memory> {
     })
 }
 
-#[test]
-fn arrays_are_printed(rt: HostRuntime) -> Result<(), Fail> {
-    for (count, wanted) in [(0, "=> ()\n"), (3, "=> (0 1 2)\n")] {
-        let view = numbers(rt.alloc(), count)?;
-        assert!(rt; ends_so(rt.alloc(), OutcomeKind::Done(view), wanted.as_bytes())?);
-    }
-    assert!(rt; ends_so(rt.alloc(), OutcomeKind::Spent, b"spent 10000000\n")?);
-    Ok(())
+/// Whether an array of so many integers is printed so, as a result.
+fn array_is(alloc: Global, count: i64, wanted: &str) -> Result<bool, Memory> {
+    let view = numbers(alloc, count)?;
+    ends_so(alloc, OutcomeKind::Done(view), wanted.as_bytes())
 }
 
 /// An array of one integer that was printed, and a text that was shown.
@@ -199,7 +195,11 @@ fn is_told(alloc: Global, shown: &[u8], wanted: &[u8]) -> Result<bool, Memory> {
 }
 
 #[test]
-fn runs_are_printed(rt: HostRuntime) -> Result<(), Fail> {
+fn arrays_and_runs_are_printed(rt: HostRuntime) -> Result<(), Fail> {
+    for (count, wanted) in [(0, "=> ()\n"), (3, "=> (0 1 2)\n")] {
+        assert!(rt; array_is(rt.alloc(), count, wanted)?);
+    }
+    assert!(rt; ends_so(rt.alloc(), OutcomeKind::Spent, b"spent 10000000\n")?);
     for (shown, wanted) in [
         ("", "?(0)\nspent 7\n"),
         ("a", "?(0)a\nspent 7\n"),

@@ -14,15 +14,9 @@ fn answer(reply: &Reply) -> Option<&Value> {
     }
 }
 
-/// Whether the answer is a string of these bytes.
-pub fn is_text(reply: &Reply, text: &[u8]) -> bool {
-    let Some(value) = answer(reply) else {
-        return false;
-    };
-    match string_of(value) {
-        Some(found) => found.as_slice() == text,
-        None => false,
-    }
+/// The bytes of the string that is answered, if one is.
+pub fn text_in(reply: &Reply) -> Option<&[u8]> {
+    Some(string_of(answer(reply)?)?.as_slice())
 }
 
 /// The integer that is answered, if one is.

@@ -122,24 +122,3 @@ impl<R: Files> Shelf for FileShelf<'_, R> {
         }
     }
 }
-
-#[cfg(test)]
-mod tests {
-    use super::*;
-    use std::io;
-
-    #[test]
-    fn a_file_is_read_or_refused(rt: HostRuntime) -> io::Result<()> {
-        let path = "/tmp/vizkendu-file-shelf-test";
-        fs::write(&rt, path, b"abc")?;
-        let mut shelf = FileShelf::new(&rt, rt.alloc());
-        let mut into = Vec::new(rt.alloc());
-        assert!(rt; shelf.load(path, 3, &mut into) == Ok(()));
-        assert!(rt; shelf.load(path, 2, &mut into) == Err(ShelfError::TooLarge));
-        assert!(rt;
-            shelf.load("/tmp/vizkendu-no-such-file", 3, &mut into) == Err(ShelfError::Failed)
-        );
-        assert!(rt; into.as_slice() == b"abc".as_slice());
-        fs::remove_file(&rt, path)
-    }
-}

@@ -42,16 +42,3 @@ impl<W: Write> Sink for OutSink<W> {
         Ok(())
     }
 }
-
-#[cfg(test)]
-mod tests {
-    use super::*;
-
-    #[test]
-    fn a_piece_is_written(rt: HostRuntime) {
-        let mut sink = OutSink::new(Vec::new(rt.alloc()));
-        assert!(rt; sink.put(b"one ") == Ok(()));
-        assert!(rt; sink.put(b"two") == Ok(()));
-        assert!(rt; sink.writer.as_slice() == b"one two".as_slice());
-    }
-}

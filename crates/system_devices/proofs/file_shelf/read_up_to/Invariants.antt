@@ -1,5 +1,5 @@
 use Rattle.std.proofs.Common.{◌-◌, ◌≤◌, length}
-use Rattle.browse_program.proofs.file_shelf.read_up_to.Given as goal
+use Rattle.system_devices.proofs.file_shelf.read_up_to.Given as goal
 
 abbrev pub invariant-loop-buffer : goal.invariant-loop-buffer
 invariant-loop-buffer g l = length l.into.items ≤ l.most

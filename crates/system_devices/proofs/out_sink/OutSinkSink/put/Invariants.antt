@@ -1,5 +1,5 @@
 use Rattle.std.proofs.Common.{◌≡◌, length}
-use Rattle.browse_program.proofs.out_sink.OutSinkSink.put.Given as goal
+use Rattle.system_devices.proofs.out_sink.OutSinkSink.put.Given as goal
 
 abbrev pub invariant-loop-rest : goal.invariant-loop-rest
 invariant-loop-rest g l = l.self.faults ≡ l.initial.self.faults
