@@ -93,9 +93,9 @@ fn array(alloc: Global, first: &[u8]) -> Result<Literal, Memory> {
 
 fn names(alloc: Global) -> Result<SharedNames, Memory> {
     let mut names = Names::new(alloc);
-    names.intern(b"true")?;
-    names.intern(b"false")?;
-    names.intern(b"nil")?;
+    for word in ["true", "false", "nil"] {
+        names.intern(word.as_bytes())?;
+    }
     SharedNames::new(alloc, &names)
 }
 

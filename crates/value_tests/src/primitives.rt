@@ -1,7 +1,7 @@
 // What no clause says of the primitives of integers and of strings: that the calls succeed where there is memory.
 use crate::replies::{integer_in, text_in};
 use integer_prims::{Operation, on_integers, prints_integer};
-use prim_calls::{Call, Reply};
+use prim_calls::Call;
 use rb_base::Memory;
 use sequence_prims::{gives_part, prints_string};
 use st_meaning::{Heap, SharedText, Value, ValueKind};
@@ -54,25 +54,7 @@ fn two_integers_have_an_answer_or_none(rt: HostRuntime) {
     }
 }
 
-/// The part of a string between two items.
-fn part_of(
-    alloc: Global,
-    heap: &Heap,
-    receiver: &Value,
-    first: i64,
-    last: i64,
-) -> Result<Reply, Memory> {
-    let arguments = [number(first), number(last)];
-    let call = Call {
-        number: 34,
-        receiver,
-        arguments: &arguments,
-        heap,
-    };
-    gives_part(alloc, &call)
-}
-
-/// The parts of a string between two items, if there are any.
+/// The parts of `smalltalk` between two items, if there are any.
 const PARTS: &[(i64, i64, Option<&[u8]>)] = &[
     (1, 5, Some(b"small")),
     (6, 9, Some(b"talk")),
@@ -84,13 +66,24 @@ const PARTS: &[(i64, i64, Option<&[u8]>)] = &[
     (10, 10, None),
 ];
 
+/// Whether the part of `smalltalk` between two items is this one, or there is none.
+fn part_is(alloc: Global, first: i64, last: i64, wanted: Option<&[u8]>) -> Result<bool, Memory> {
+    let heap = Heap::new(alloc);
+    let receiver = string(alloc, b"smalltalk")?;
+    let arguments = [number(first), number(last)];
+    let call = Call {
+        number: 34,
+        receiver: &receiver,
+        arguments: &arguments,
+        heap: &heap,
+    };
+    Ok(text_in(&gives_part(alloc, &call)?) == wanted)
+}
+
 #[test]
 fn strings_have_parts(rt: HostRuntime) -> Result<(), Fail> {
-    let heap = Heap::new(rt.alloc());
-    let receiver = string(rt.alloc(), b"smalltalk")?;
     for (first, last, wanted) in PARTS {
-        let reply = part_of(rt.alloc(), &heap, &receiver, *first, *last)?;
-        assert!(rt; text_in(&reply) == *wanted);
+        assert!(rt; part_is(rt.alloc(), *first, *last, *wanted)?);
     }
     Ok(())
 }

@@ -179,10 +179,9 @@ fn array_is(alloc: Global, count: i64, wanted: &str) -> Result<bool, Memory> {
 
 /// An array of one integer that was printed, and a text that was shown.
 fn two_events(alloc: Global, shown: &[u8]) -> Result<Vec<Event>, Memory> {
-    let mut events = Vec::new(alloc);
-    events.push(Event::printed(numbers(alloc, 1)?))?;
-    events.push(Event::shown(SharedText::from_slice(alloc, shown)?))?;
-    Ok(events)
+    let printed = Event::printed(numbers(alloc, 1)?);
+    let told = Event::shown(SharedText::from_slice(alloc, shown)?);
+    Ok(Vec::from_array(alloc, [printed, told])?)
 }
 
 /// Whether this is appended of a run that told these two events and spent its ticks.
