@@ -1,14 +1,20 @@
 // Texts with their first faults, in words. Faults that the grammar does not tell, of names that are declared twice, of what
 // may not be assigned and of heights, are judged once the grammar has read a text.
-use crate::calls::Call::{self, CheckDoIt, CheckKernelMethod, CheckMethod, ParseDoIt, ParseMethod};
+use crate::calls::Call::{CheckDoIt, CheckKernelMethod, CheckMethod, ParseDoIt, ParseMethod};
 use crate::calls::fault_words;
 use std::test::Fail;
 
-/// A text, and the words of its fault, or none where it is read.
+/// A text, and the words of its fault, or none where it is read. What it costs to prove a function that gives a table grows
+/// with the square of the table, so each table has one of its own.
+type Row = (&'static [u8], &'static str);
+
+/// A text, and the words of its fault, or none where it is read. What it costs to prove a function that gives a table grows
+/// with the square of the table, so each table has one of its own.
 type Row = (&'static [u8], &'static str);
 
 /// Do-its that are checked: messages and cascades.
-const MESSAGES: &[Row] = &[
+fn messages() -> &'static [Row] {
+    &[
     (b"", ""),
     (b"\"c\"", ""),
     (b"a . \"c\" .", ""),
@@ -38,10 +44,12 @@ const MESSAGES: &[Row] = &[
     (b"- 3", "operand expected at byte 0"),
     (b") '", "the string that opens at byte 2 has no end"),
     (b"!", "byte 0 begins no token"),
-];
+    ]
+}
 
 /// Do-its that are checked: brackets and arrays.
-const BRACKETS: &[Row] = &[
+fn brackets() -> &'static [Row] {
+    &[
     (b"| a b | a", ""),
     (b"[:a]", ""),
     (b"[:a || b | b]", ""),
@@ -66,10 +74,12 @@ const BRACKETS: &[Row] = &[
     (b"#[-1]", "element expected at byte 2"),
     (b"#[16r1]", "element expected at byte 2"),
     (b"#[a]", "element expected at byte 2"),
-];
+    ]
+}
 
 /// Do-its that are checked: primitives.
-const PRIMITIVES: &[Row] = &[
+fn primitives() -> &'static [Row] {
+    &[
     (
         b"<primitive: 1>",
         "a primitive in a text of a user at byte 0",
@@ -91,10 +101,12 @@ const PRIMITIVES: &[Row] = &[
     (b"^a. <primitive: 1>", "end expected at byte 4"),
     (b"a <primitive: 1>", "operand expected at byte 3"),
     (b"<foo: 1>", "operand expected at byte 0"),
-];
+    ]
+}
 
 /// Methods that are checked, of users and of the kernel.
-const METHODS: &[Row] = &[
+fn methods() -> &'static [Row] {
+    &[
     (b"+ x", ""),
     (b"foo: a bar: b ^a + b", ""),
     (b"foo | a | a := 3", ""),
@@ -103,10 +115,12 @@ const METHODS: &[Row] = &[
     (b"3", "end expected at byte 0"),
     (b"+ 3", "identifier expected at byte 2"),
     (b"foo: 3", "identifier expected at byte 5"),
-];
+    ]
+}
 
 /// Methods of users that are checked: primitives.
-const USER_METHODS: &[Row] = &[
+fn user_methods() -> &'static [Row] {
+    &[
     (
         b"foo <primitive: 1>",
         "a primitive in a text of a user at byte 4",
@@ -121,10 +135,12 @@ const USER_METHODS: &[Row] = &[
     ),
     (b"foo: <primitive: 1>", "identifier expected at byte 5"),
     (b"foo <bar", "operand expected at byte 4"),
-];
+    ]
+}
 
 /// Methods of the kernel that are checked: primitives.
-const KERNEL_METHODS: &[Row] = &[
+fn kernel_methods() -> &'static [Row] {
+    &[
     (b"foo <primitive: 1>", ""),
     (b"foo < \"c\" primitive: 65535>", ""),
     (b"foo <primitive: 65536>", "end expected at byte 16"),
@@ -133,10 +149,12 @@ const KERNEL_METHODS: &[Row] = &[
     (b"foo <primitive: 1", "end expected at byte 17"),
     (b"foo <bar", "end expected at byte 5"),
     (b"foo bar. <primitive: 1>", "operand expected at byte 9"),
-];
+    ]
+}
 
 /// Do-its that are parsed: names that are declared twice, and what may not be assigned.
-const PARSED_DOITS: &[Row] = &[
+fn parsed_doits() -> &'static [Row] {
+    &[
     (b"| a | [:a | ]. [:a | ]", ""),
     (b"| nil super | super foo", ""),
     (b"[:a | [| a | a := 3]]", ""),
@@ -199,6 +217,12 @@ const PARSED_DOITS: &[Row] = &[
     (b"nil := 3. 4 5", "end expected at byte 12"),
     (b"[:a :a | ] ]", "end expected at byte 11"),
     (b"a + ", "operand expected at byte 4"),
+    ]
+}
+
+/// Further do-its that are parsed.
+fn refused_doits() -> &'static [Row] {
+    &[
     (b"super", "end expected at byte 5"),
     (b"\"\x0c", "the comment that opens at byte 0 has no end"),
     (b"3'_\t", "the string that opens at byte 1 has no end"),
@@ -233,6 +257,12 @@ const PARSED_DOITS: &[Row] = &[
         "byte 5 begins no token",
     ),
     (b"$", "byte 0 begins no token"),
+    ]
+}
+
+/// Further do-its that are parsed.
+fn more_refused_doits() -> &'static [Row] {
+    &[
     (b"'a", "the string that opens at byte 0 has no end"),
     (b"\"a", "the comment that opens at byte 0 has no end"),
     (
@@ -257,7 +287,8 @@ const PARSED_DOITS: &[Row] = &[
     (b"(a foo); bar", "end expected at byte 7"),
     (b"^a. b", "end expected at byte 4"),
     (b"#({1})", "element expected at byte 2"),
-];
+    ]
+}
 
 /// Methods that are parsed: the same.
 const PARSED_METHODS: &[Row] = &[
@@ -316,24 +347,27 @@ const PARSED_METHODS: &[Row] = &[
     ),
 ];
 
-/// The tables, by the calls that read their texts.
-const TABLES: &[(Call, &[Row])] = &[
-    (CheckDoIt, MESSAGES),
-    (CheckDoIt, BRACKETS),
-    (CheckDoIt, PRIMITIVES),
-    (CheckMethod, METHODS),
-    (CheckKernelMethod, METHODS),
-    (CheckMethod, USER_METHODS),
-    (CheckKernelMethod, KERNEL_METHODS),
-    (ParseDoIt, PARSED_DOITS),
-    (ParseMethod, PARSED_METHODS),
-];
+fn parsed_methods() -> &'static [Row] {
+    PARSED_METHODS
+}
 
 #[test]
 fn texts_have_their_first_faults(rt: HostRuntime) -> Result<(), Fail> {
-    for (call, rows) in TABLES {
-        for (text, wanted) in *rows {
-            let words = fault_words(rt.alloc(), *call, text)?;
+    for (call, rows) in [
+        (CheckDoIt, messages()),
+        (CheckDoIt, brackets()),
+        (CheckDoIt, primitives()),
+        (CheckMethod, methods()),
+        (CheckKernelMethod, methods()),
+        (CheckMethod, user_methods()),
+        (CheckKernelMethod, kernel_methods()),
+        (ParseDoIt, parsed_doits()),
+        (ParseDoIt, refused_doits()),
+        (ParseDoIt, more_refused_doits()),
+        (ParseMethod, parsed_methods()),
+    ] {
+        for (text, wanted) in rows {
+            let words = fault_words(rt.alloc(), call, text)?;
             assert!(rt; words.as_str() == *wanted, "not {wanted} but {words}");
         }
     }

@@ -7,7 +7,8 @@ use std::test::Fail;
 /// The call, a text, and the canonical text of what it spells.
 type Row = (Call, &'static [u8], &'static [u8]);
 
-const ROWS: &[Row] = &[
+fn first_rows() -> &'static [Row] {
+    &[
     (WriteMethod, b"value\n\t^self ", b"value\n\t^self"),
     (WriteMethod, b"value: a\n\t^\na", b"value: a\n\t^a"),
     (WriteMethod, b"* a\x0c^ 7", b"* a\n\t^7"),
@@ -58,6 +59,11 @@ const ROWS: &[Row] = &[
         b"Stack\nnew push: 3\n\n; pop ",
         b"Stack new push: 3; pop",
     ),
+    ]
+}
+
+fn second_rows() -> &'static [Row] {
+    &[
     (
         WriteMethod,
         b"at: a put:\tb |\rr2\rTranscript |   \"it's\"",
@@ -83,6 +89,11 @@ const ROWS: &[Row] = &[
         b"| a | a := Account open. a deposit: 10; withdraw: 3. Transcript print: a balance; cr",
         b"| a |\na := Account open.\na deposit: 10; withdraw: 3.\nTranscript print: a balance; cr",
     ),
+    ]
+}
+
+fn third_rows() -> &'static [Row] {
+    &[
     (
         WriteMethod,
         b"- Foo [ \"\xc8:.a\": super |\n\t\t^[\x0c] \"\n\t.\"  \"\t\" ]",
@@ -126,6 +137,11 @@ const ROWS: &[Row] = &[
         b"#((1 $a #'a b' at:put:)[3]nil)",
         b"#(#(1 $a #'a b' #at:put:) #[3] nil)",
     ),
+    ]
+}
+
+fn fourth_rows() -> &'static [Row] {
+    &[
     (
         WriteMethod,
         b"pay: x|rate total|rate:=2.^(self scaled:x by:rate)+1",
@@ -178,6 +194,10 @@ const ROWS: &[Row] = &[
         b"rate\n\t\"percent\"\n\trate isNil ifTrue: [rate := 5].\n\t^rate",
     ),
     (WriteMethod, b"half\t^0.5", b"half\n\t^0.5"),
+    ]
+}
+
+const FIFTH_ROWS: &[Row] = &[
     (
         WriteMethod,
         b"log\tArchive add: self",
@@ -201,6 +221,10 @@ const ROWS: &[Row] = &[
     (WriteDoIt, b"(A new) feeOf: 7", b"A new feeOf: 7"),
 ];
 
+fn fifth_rows() -> &'static [Row] {
+    FIFTH_ROWS
+}
+
 /// Whether a text is written so.
 fn is_written(alloc: Global, call: Call, text: &[u8], wanted: &[u8]) -> bool {
     match written(alloc, call, text) {
@@ -211,9 +235,17 @@ fn is_written(alloc: Global, call: Call, text: &[u8], wanted: &[u8]) -> bool {
 
 #[test]
 fn texts_are_read_and_written(rt: HostRuntime) -> Result<(), Fail> {
-    for (call, text, wanted) in ROWS {
-        assert!(rt; is_written(rt.alloc(), *call, text, wanted));
-        assert!(rt; is_written(rt.alloc(), *call, wanted, wanted));
+    for rows in [
+        first_rows(),
+        second_rows(),
+        third_rows(),
+        fourth_rows(),
+        fifth_rows(),
+    ] {
+        for (call, text, wanted) in rows {
+            assert!(rt; is_written(rt.alloc(), *call, text, wanted));
+            assert!(rt; is_written(rt.alloc(), *call, wanted, wanted));
+        }
     }
     Ok(())
 }
