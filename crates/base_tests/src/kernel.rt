@@ -1,5 +1,7 @@
 // The text of the kernel classes against tables of them, and the lists of selectors.
-use crate::kernel_table::{CLASSES, ClassRow, RUNS, RunRow};
+use crate::kernel_table::{
+    ClassRow, RunRow, classes, integer_runs, object_runs, other_runs, sequence_runs, value_runs,
+};
 use rb_base::{Memory, Text};
 use st_kernel::{is_control_selector, is_reflective, is_reserved, prelude};
 use std::alloc::Global;
@@ -39,11 +41,19 @@ fn append_run(text: &mut Text, run: &RunRow) -> Result<(), Memory> {
 /// The text of the tables.
 fn expected_text(alloc: Global) -> Result<Text, Memory> {
     let mut text = Text::new(alloc);
-    for row in CLASSES {
+    for row in classes() {
         append_class(&mut text, row)?;
     }
-    for run in RUNS {
-        append_run(&mut text, run)?;
+    for runs in [
+        object_runs(),
+        value_runs(),
+        integer_runs(),
+        sequence_runs(),
+        other_runs(),
+    ] {
+        for run in runs {
+            append_run(&mut text, run)?;
+        }
     }
     Ok(text)
 }
