@@ -1,10 +1,8 @@
 //! Tests of the readers of methods, do-its and scripts, of the writer of methods and do-its, and of their trees: first faults,
-//! canonical texts, comments, the places of nodes, parts that are lent and replaced, what names stand for, and do-its that are
-//! added to an image. The crate has nothing else.
+//! canonical texts, comments, the places of nodes, parts that are lent and replaced, and what names stand for. The crate has
+//! nothing else.
 #![tactic(auto)]
 
-#[cfg(test)]
-mod added;
 #[cfg(test)]
 mod calls;
 #[cfg(test)]
