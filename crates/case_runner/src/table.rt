@@ -26,7 +26,9 @@ impl<'t> Table<'t> {
     }
 
     /// This fault at the line of what is to be read next.
-    pub fn fault(&self, cause: TableFault) -> Fault {
+    pub fn fault(&self, cause: TableFault) -> Fault
+        ensures { result.cause ≡ cause }
+    {
         let read = self.whole.len().saturating_sub(self.rest.len());
         let lines = self.whole.iter().take(read).filter(|byte| **byte == b'\n');
         Fault {
