@@ -1,7 +1,6 @@
 -- What assigned names mean in methods and do-its without a fault of the grammar.
 use Rattle.std.proofs.Common.{◌≡◌, ℕ, List, [], ◌∷◌, ◌++◌, Option, Some, None, refl, sym, ap, ◌∙◌}
 use Rattle.std.specs.Prelude.{Bool, true, false, ◌||◌, if◌then◌else◌, option_map, option_and_then, unwrap_or}
-use Rattle.std.specs.Option.{option_or}
 use Rattle.std.proofs.lemmas.Bool.{false≢true}
 use Rattle.std.proofs.lemmas.List.{append-nil}
 use Rattle.std.specs.List.{AllByRecursion, list_any}
@@ -13,10 +12,9 @@ use Rattle.scope_model.specs.declared.local.Local.{Local}
 use Rattle.scope_model.specs.declared.local.Local.TheVariants.{Argument, Temporary, NotLocal}
 use Rattle.scope_model.specs.SpecialNames.{pseudo_variables, is_pseudo_variable}
 use Rattle.scope_model.specs.Scope.{ScopeOf, PlacedScope, entered, scopes_round, local_by, local_in_scope}
-use Rattle.image_model.specs.Image.{ClassOf, ImageOf}
+use Rattle.image_model.specs.Image.{ImageOf}
 use Rattle.image_model.specs.Words.{text_words}
-use Rattle.image_model.specs.Chain.{class_named, chain}
-use Rattle.image_model.specs.Means.{of_class, MeaningOf, pseudo, variable, a_class, transcript, undeclared, definer, side_kind, means_by, means_outside}
+use Rattle.image_model.specs.Means.{MeaningOf, pseudo, means_by, means_outside}
 use Rattle.run_model.proofs.Finite.{by_cases}
 use Rattle.run_model.proofs.RenamingLemmas.{text-same}
 use Rattle.grammar_model.specs.Terminal.{Text}
@@ -24,6 +22,7 @@ use Rattle.grammar_model.specs.Words.{is_pseudo}
 use Rattle.grammar_model.specs.Spanned.{Declared, names_of}
 use Rattle.grammar_model.specs.Checks.{known_of}
 use Rattle.rename_laws.specs.BehindKernel.{is_fixed}
+use Rattle.rename_laws.proofs.OutsideLoose.{outside-loose}
 use Rattle.assignment_laws.proofs.KnownNames.{makes_fixed, scope-known, is_argument, local-fixed}
 use Rattle.assignment_laws.proofs.AssignedNames.{MayAssign, EachAssignsFreely}
 
@@ -38,20 +37,7 @@ no-pseudo : (n : Text) → is_pseudo n ≡ false → is_pseudo_variable n ≡ fa
 unfolding is_pseudo_variable
 no-pseudo n e = none-of pseudo_variables n (refl, (refl, (refl, (refl, (refl, (refl, tt)))))) e
 
--- what a name means behind all scopes is no pseudo-variable and no argument
-found-loose : (meta : Bool) (side shared named : Option (ClassOf Text)) (b : Bool) →
-    is_fixed (unwrap_or (option_or (option_map (λ (e : ClassOf Text). variable (side_kind meta) e.name) side) (option_or (option_map (λ (e : ClassOf Text). variable of_class e.name) shared) (option_or (option_map (λ (e : ClassOf Text). a_class e.name) named) (if b then Some transcript else None)))) undeclared) ≡ false
-found-loose meta (Some e) shared named b = refl
-found-loose meta None (Some e) named b = refl
-found-loose meta None None (Some e) b = refl
-found-loose meta None None None true = refl
-found-loose meta None None None false = refl
-
-outside-loose : (i : ImageOf Text) (home : Option Text) (meta : Bool) (n : Text) → is_fixed (means_outside text_words i home meta n) ≡ false
-outside-loose i home meta n =
-    found-loose meta (definer text_eq (side_kind meta) (chain text_eq i.classes home) n) (definer text_eq of_class (chain text_eq i.classes home) n) (class_named text_eq i.classes n) (text_words.is_transcript n)
-
--- nor is what it means by scopes that make it none
+-- what it means by scopes that make it no argument is not fixed, where what it means behind them is not
 local-loose : (p : Bool) (l : Local) (g : MeaningOf Text) → p ≡ false → is_argument l ≡ false → is_fixed g ≡ false → is_fixed (if p then pseudo else means_by (if p then NotLocal else l) g) ≡ false
 local-loose true l g e h k = absurd (false≢true (sym e))
 local-loose false (Argument s) g e h k = absurd (false≢true (sym h))

@@ -1,9 +1,9 @@
--- The commands that keep the shape of code (Roberts 1999).
+-- The commands (Roberts 1999).
 use Rattle.std.specs.Prelude.{ℕ, List, Bool}
-use Rattle.tree_model.specs.Tree.{MethodOf}
+use Rattle.tree_model.specs.Tree.{LiteralOf, MethodOf}
 use Rattle.image_model.specs.Means.{VariableKind, of_instance, of_class_side, of_class}
 
--- A command and the words behind its own, in their order. C, D, P and the classes of a list are names of classes, x and y of variables, s and t selectors; a side is whether it is the class side.
+-- A command and the words behind its own, in their order. C, D, P and the classes of a list are names of classes, x and y of variables, s and t selectors; a side is whether it is the class side; a part stands from one place of a method's source up to another.
 pub data CommandOf (N : Type 0) : Type 0 where
   -- C is called D
   RenameClass : (c d : N) → CommandOf N
@@ -47,8 +47,36 @@ pub data CommandOf (N : Type 0) : Type 0 where
   PushUpMethod : (c : N) → (meta : Bool) → (s : N) → CommandOf N
   -- it goes down to the direct subclasses
   PushDownMethod : (c : N) → (meta : Bool) → (s : N) → CommandOf N
+  -- each method of s has a last argument x and the selector t, and each message of s passes the literal
+  AddParameter : (s t x : N) → (passed : LiteralOf N) → CommandOf N
+  -- the k-th argument of s goes, counted from 1, and the selector is t
+  RemoveParameter : (s : N) → (k : ℕ) → (t : N) → CommandOf N
+  -- the instance variable x of C is read and assigned by messages; with the setter's selector and its argument
+  AbstractInstVar : (c x setter given : N) → CommandOf N
+  -- a part of a method of C becomes a message of t, and a method
+  ExtractMethod : (c : N) → (meta : Bool) → (s : N) → (from to : ℕ) → (t : N) → CommandOf N
+  -- a message in a method of C becomes the body of the method that it finds
+  InlineMethod : (c : N) → (meta : Bool) → (s : N) → (from to : ℕ) → CommandOf N
+  -- a part of a method of C becomes a temporary x
+  ExtractTemp : (c : N) → (meta : Bool) → (s : N) → (from to : ℕ) → (x : N) → CommandOf N
+  -- a temporary x of a method of C becomes what is assigned to it
+  InlineTemp : (c : N) → (meta : Bool) → (s x : N) → CommandOf N
+  -- an argument, parameter or temporary x of a method of C is called y
+  RenameTemp : (c : N) → (meta : Bool) → (s x y : N) → CommandOf N
 
--- the kind of the variables of which a command speaks; of commands of classes and methods it says nothing
+-- whether a command keeps the shape of code: it changes no more of a tree than names and selectors, and none that a method declares
+abbrev pub KeepsShape : {N : Type 0} → CommandOf N → Type 0
+KeepsShape (AddParameter s t x passed) = ⊥
+KeepsShape (RemoveParameter s k t) = ⊥
+KeepsShape (AbstractInstVar c x setter given) = ⊥
+KeepsShape (ExtractMethod c meta s from to t) = ⊥
+KeepsShape (InlineMethod c meta s from to) = ⊥
+KeepsShape (ExtractTemp c meta s from to x) = ⊥
+KeepsShape (InlineTemp c meta s x) = ⊥
+KeepsShape (RenameTemp c meta s x y) = ⊥
+KeepsShape command = Unit {0}
+
+-- the kind of the variables of which a command speaks; of commands that speak of none it says nothing
 abbrev pub kind_of : {N : Type 0} → CommandOf N → VariableKind
 kind_of (AddClassVar c x) = of_class
 kind_of (RenameClassVar c x y) = of_class

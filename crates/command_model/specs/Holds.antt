@@ -3,7 +3,7 @@ use Rattle.std.specs.Prelude.{Bool, false, nat_eq, ◌&&◌, is_some}
 use Rattle.image_model.specs.Image.{ImageOf}
 use Rattle.rename_model.specs.Conditions.{is_user_class, is_name_unused, is_selector_fresh, is_no_kernel_selector, is_known_selector, has_variable}
 use Rattle.command_model.specs.Commands.{CommandOf, AddMethod, PushUpMethod, PushDownMethod, kind_of}
-use Rattle.command_model.specs.Conditions.{ConditionOf, NoReflection, IsUserClass, GoodName, NameUnused, SelectorFresh, NotKernelSelector, Arity, Implements, NotImplements, Removable, NoSubclasses, NotReferenced, HasVariable, VariableFree, VariableUnused, ParentIsUser, NoSuper, MeansSame, Unreached, IsClass, ChildOf, LacksVariable, KnownSelector}
+use Rattle.command_model.specs.Conditions.{ConditionOf, NoReflection, IsUserClass, GoodName, NameUnused, SelectorFresh, NotKernelSelector, Arity, Implements, NotImplements, Removable, NoSubclasses, NotReferenced, HasVariable, VariableFree, VariableUnused, ParentIsUser, NoSuper, MeansSame, Unreached, IsClass, ChildOf, LacksVariable, KnownSelector, UndoLeft, RedoLeft}
 use Rattle.command_model.specs.Asked.{AskedOf}
 use Rattle.command_model.specs.Hierarchy.{is_class, superclass_name}
 use Rattle.command_model.specs.MethodEffects.{method_added, method_pushed_up, method_pushed_down}
@@ -11,6 +11,7 @@ use Rattle.command_model.specs.NameConditions.{is_without_reflection, is_good_na
 use Rattle.command_model.specs.ClassConditions.{has_no_subclasses, is_not_referenced, has_user_parent, is_user_child}
 use Rattle.command_model.specs.VariableConditions.{lacks_variable, may_come_for, is_unused_for}
 use Rattle.command_model.specs.MethodConditions.{implements, lacks_method, is_removable, is_without_super, means_same_in_class, is_unreached}
+use Rattle.command_model.specs.CodeHolds.{code_holds}
 
 module _ {N : Type 0} (a : AskedOf N) (i : ImageOf N) (command : CommandOf N) where
   -- whether two names are the same
@@ -28,7 +29,7 @@ module _ {N : Type 0} (a : AskedOf N) (i : ImageOf N) (command : CommandOf N) wh
       implements same i c meta t && is_unreached a.words a.is_super i (method_pushed_down same c meta t i) meta s
   unreached_after other s = false
 
-  -- whether a condition of the command holds in the image
+  -- whether a condition of the command holds in the image; an image alone has no history, and the last line is for the conditions that only commands have which change code
   abbrev pub holds : ConditionOf N → Bool
   holds NoReflection = is_without_reflection a.command_words i command
   holds (IsUserClass c) = is_user_class same i c
@@ -53,3 +54,6 @@ module _ {N : Type 0} (a : AskedOf N) (i : ImageOf N) (command : CommandOf N) wh
   holds (ChildOf d c) = is_user_child same i d c
   holds (LacksVariable c x) = lacks_variable same i c x
   holds (KnownSelector s) = is_known_selector same i s
+  holds UndoLeft = false
+  holds RedoLeft = false
+  holds condition = code_holds a i command condition

@@ -12,8 +12,8 @@ use Rattle.command_model.specs.Holds.{holds}
 
 -- the first condition that is false
 abbrev pub first_false : {N : Type 0} → AskedOf N → ImageOf N → CommandOf N → Option (ConditionOf N)
-first_false a i command = find (λ condition. not (holds a i command condition)) (needs a.words.tests.same a.command_words i command)
+first_false a i command = find (λ condition. not (holds a i command condition)) (needs a i command)
 
 -- the image after the command, or the first condition that is false
 abbrev pub judged : {N : Type 0} → AskedOf N → WritingOf N → ImageOf N → CommandOf N → Result (ImageOf N) (ConditionOf N)
-judged a writing i command = option_map_or (λ condition. Err condition) (first_false a i command) (Ok (effect a.words writing command i))
+judged a writing i command = option_map_or (λ condition. Err condition) (first_false a i command) (Ok (effect a writing command i))

@@ -1,6 +1,5 @@
 -- The conditions of methods. A condition on a method or a class that is not there is false.
 use Rattle.std.specs.Prelude.{Bool, false, not, ◌&&◌, ◌||◌, Some, is_none}
-use Rattle.std.proofs.Math.Bool.{beq}
 use Rattle.std.specs.List.{list_any}
 use Rattle.std.specs.Option.{option_map_or}
 use Rattle.tree_model.specs.Nodes.{nodes}
@@ -42,16 +41,15 @@ module _ {N : Type 0} (w : WordsOf N) (is_super : N → Bool) (i : ImageOf N) wh
       is_class w.tests.same i d
       && option_map_or (λ m. means_same_in w i m i (of_class_named m d)) (own_method w.tests.same i.methods c meta s) false
 
-  -- whether a message to `super` of a selector, in a method of a side, begins its look-up in the class
-  abbrev pub begins_in : N → Bool → N → EntryOf N → Bool
-  begins_in c meta s m =
-      beq meta m.meta
-      && (option_map_or (λ d. option_map_or (w.tests.same c) (superclass_name w.tests.same i d) false) m.class false
-      && list_any (λ e. is_super_sender is_super w.tests.same s e.1) (nodes m.tree.body))
+  -- whether a message to `super` of a selector, in a method of either side, begins its look-up in the class
+  abbrev pub begins_in : N → N → EntryOf N → Bool
+  begins_in c s m =
+      option_map_or (λ d. option_map_or (w.tests.same c) (superclass_name w.tests.same i d) false) m.class false
+      && list_any (λ e. is_super_sender is_super w.tests.same s e.1) (nodes m.tree.body)
 
-  -- whether a node means the class, or a message to `super` of the selector begins in it on the side
-  abbrev pub is_reached : N → Bool → N → Bool
-  is_reached c meta s = not (is_empty (class_uses w i c)) || list_any (begins_in c meta s) i.methods
+  -- whether a node means the class, or a message to `super` of the selector begins in it
+  abbrev pub is_reached : N → N → Bool
+  is_reached c s = not (is_empty (class_uses w i c)) || list_any (begins_in c s) i.methods
 
   -- whether the class finds another method for the selector on the side in the image j than in i, or finds one in one of them alone
   abbrev pub finds_another : ImageOf N → N → Bool → N → Bool
@@ -60,4 +58,4 @@ module _ {N : Type 0} (w : WordsOf N) (is_super : N → Bool) (i : ImageOf N) wh
   -- the selector is sent nowhere, or no class that finds another method for it in the image j is reached
   abbrev pub is_unreached : ImageOf N → Bool → N → Bool
   is_unreached j meta s =
-      is_sent_nowhere w i s || not (list_any (λ (e : ClassOf _). finds_another j e.name meta s && is_reached e.name meta s) i.classes)
+      is_sent_nowhere w i s || not (list_any (λ (e : ClassOf _). finds_another j e.name meta s && is_reached e.name s) i.classes)

@@ -1,4 +1,4 @@
--- What commands ask where names are numbers of a table, and how changed trees are written there.
+-- What commands ask where names are numbers of a table, one of which is `self`, and how changed trees are written there.
 use Rattle.std.specs.Prelude.{ℕ, List, codes}
 use Rattle.rb_base.specs.Names.{text_eq, name_at}
 use Rattle.tree_model.specs.Tree.{map_sequence, map_method}
@@ -7,7 +7,8 @@ use Rattle.image_model.specs.Words.{number_words}
 use Rattle.rename_model.specs.CommandWords.{is_reflective_name, is_good_class_name, is_good_variable_name, is_good_selector, has_own_meaning, arity, CommandWordsOf}
 use Rattle.rename_model.specs.ClassRenamed.{WritingOf}
 use Rattle.st_kernel.specs.Selectors.{is_reflective_selector}
-use Rattle.command_model.specs.Asked.{AskedOf}
+use Rattle.command_model.specs.Located.{Locating}
+use Rattle.command_model.specs.Asked.{AskedOf, is_constant_text}
 
 -- what commands ask of new names, by their texts
 abbrev pub number_command_words : List (List ℕ) → CommandWordsOf ℕ
@@ -23,11 +24,14 @@ number_command_words names = record {
 }
 
 -- what conditions ask of numbers in a table of names
-abbrev pub number_asked : List (List ℕ) → AskedOf ℕ
-number_asked names = record {
+abbrev pub number_asked : List (List ℕ) → ℕ → Locating → AskedOf ℕ
+number_asked names self_number part_of = record {
   words = number_words names;
   command_words = number_command_words names;
   is_super = λ n. text_eq (codes "super") (name_at names n);
+  self_name = self_number;
+  is_constant = λ n. is_constant_text (name_at names n);
+  part_of = part_of;
 }
 
 -- trees of numbers as canonical text

@@ -1,6 +1,6 @@
 -- When two methods that are found are the same, and messages to `super`.
 use Rattle.std.specs.Prelude.{Bool, true, false, not, ◌&&◌, ◌||◌, nat_eq, Option, Some, None}
-use Rattle.std.proofs.Math.Bool.{beq}
+use Rattle.std.specs.Bool.{beq}
 use Rattle.std.specs.List.{list_any, list_all}
 use Rattle.std.specs.Option.{option_map_or, option_eq}
 use Rattle.tree_model.specs.Tree.{TreeOf, var, literal, send, cascade, assign, block, brace, return}
@@ -9,7 +9,7 @@ use Rattle.image_model.specs.Image.{EntryOf, ImageOf}
 use Rattle.image_model.specs.Words.{WordsOf}
 use Rattle.image_model.specs.Means.{MeaningOf, pseudo, argument, temporary, variable, a_class, transcript, undeclared, means}
 use Rattle.image_model.specs.Uses.{name_used, has_message, same_kind}
-use Rattle.command_model.specs.SameTrees.{same_code}
+use Rattle.same_trees.specs.SameTrees.{same_code}
 
 -- whether two meanings are one
 abbrev pub same_meaning : {N : Type 0} → (N → N → Bool) → MeaningOf N → MeaningOf N → Bool

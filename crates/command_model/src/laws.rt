@@ -1,53 +1,25 @@
-// Examples of commands, held against the definitions. The function does nothing; its contract is the law.
-ghost use Rattle.command_model.specs.Compared.{
-  CommentsDoNotCount,
-  AreTreesApart,
-  AreMethodsApart,
-};
-ghost use Rattle.command_model.specs.Examples.{
-  AllJudged,
-  classes,
-  instance_variables,
-  class_variables,
-  methods,
-  moves,
-};
-ghost use Rattle.command_model.specs.Listed.{AllListed, class_listings, method_listings};
-ghost use Rattle.command_model.specs.Orders.{order_rows, AllFalse, missing};
-ghost use Rattle.command_model.specs.Refused.{
-  reflections,
-  names,
-  class_rows,
-  new_variables,
-  used_variables,
-  method_rows,
-  move_rows,
-  reached_rows,
-};
+// Laws of all commands. Each function does nothing; its contract is the law.
+ghost use Rattle.std.specs.Prelude.{◌≡◌, None};
+ghost use Rattle.image_model.specs.Image.{DoItOf, ImageOf, plus};
+ghost use Rattle.rename_model.specs.ClassRenamed.{WritingOf};
+ghost use Rattle.command_model.specs.AllHold.{AllHold};
+ghost use Rattle.command_model.specs.Asked.{AskedOf};
+ghost use Rattle.command_model.specs.Beside.{HasOneMore, LeavesDoIts};
+ghost use Rattle.command_model.specs.Commands.{CommandOf};
+ghost use Rattle.command_model.specs.Effects.{effect};
+ghost use Rattle.command_model.specs.Judged.{first_false};
 
-/// In small images commands make the images that stand beside them, or are refused with the first condition that is
-/// false, which stands beside them. Each command has the conditions that are listed, in that order; conditions on what
-/// is not there are false. Trees, methods and meanings in lists are each the same as itself alone, and comments do not
-/// count.
-pub fn judges_examples()
-    ensures classes { AllJudged classes }
-    ensures instance_variables { AllJudged instance_variables }
-    ensures class_variables { AllJudged class_variables }
-    ensures methods { AllJudged methods }
-    ensures moves { AllJudged moves }
-    ensures reflections { AllJudged reflections }
-    ensures names { AllJudged names }
-    ensures class_rows { AllJudged class_rows }
-    ensures new_variables { AllJudged new_variables }
-    ensures used_variables { AllJudged used_variables }
-    ensures method_rows { AllJudged method_rows }
-    ensures move_rows { AllJudged move_rows }
-    ensures reached_rows { AllJudged reached_rows }
-    ensures order_rows { AllJudged order_rows }
-    ensures missing { AllFalse missing }
-    ensures class_listings { AllListed class_listings }
-    ensures method_listings { AllListed method_listings }
-    ensures comments { CommentsDoNotCount }
-    ensures trees { AreTreesApart }
-    ensures methods_and_meanings { AreMethodsApart }
+/// Where no condition of a command is false, all that it has hold, and the other way round.
+pub fn law_all_hold<N>()
+    ensures hold { (a : AskedOf N) (i : ImageOf N) (command : CommandOf N) → first_false a i command ≡ None → AllHold a i command }
+    ensures none_false { (a : AskedOf N) (i : ImageOf N) (command : CommandOf N) → AllHold a i command → first_false a i command ≡ None }
+{}
+
+/// What a command makes of an image with one more do-it is what it makes of the image, with one more do-it; and with the same
+/// one, where the command leaves do-its.
+pub fn law_doit_beside<N>()
+    ensures beside { (a : AskedOf N) (writing : WritingOf N) (i : ImageOf N) (e : DoItOf N) (command : CommandOf N) →
+        HasOneMore (effect a writing command i) (effect a writing command (plus i e)) }
+    ensures left { (a : AskedOf N) (writing : WritingOf N) (i : ImageOf N) (e : DoItOf N) (command : CommandOf N) → LeavesDoIts command →
+        effect a writing command (plus i e) ≡ plus (effect a writing command i) e }
 {}

@@ -1,9 +1,9 @@
-//! What refactorings that keep the shape of code demand of an image, and what they make of it (Roberts 1999): those of
-//! classes, of variables and of methods.
+//! What refactorings demand of an image, and what they make of it (Roberts 1999): those of classes, of variables, of methods
+//! and of parts of methods; and what each of them renames. Definitions over any type of names; no program text runs here.
 //!
-//! The function of this crate is a law on the definitions: it does nothing.
+//! The functions of this crate are laws on the definitions: they do nothing.
 #![tactic(auto)]
 
 mod laws;
 
-pub use laws::judges_examples;
+pub use laws::{law_all_hold, law_doit_beside};

@@ -5,9 +5,9 @@ mod Names
 pub mod Says
 pub mod Replacements
 mod DoIts
-mod Fresh
+pub mod Fresh
 mod Methods
-mod Prefixes
+pub mod Prefixes
 mod Classes
 mod Again
 mod Least

@@ -1,15 +1,16 @@
--- The text of the kernel is read to its end.
-use Rattle.std.proofs.Common.{◌≡◌, ◌↔◌, Bool, true, false, List, [], ◌∷◌, ◌++◌, map, find, Option, Some, None, Result, Ok, Err, refl, sym, ap, subst, ◌∙◌, true≢false}
-use Rattle.std.specs.Prelude.{codes, ◌&&◌, unwrap_or}
+-- The text of the kernel is read to its end, and makes the image of the tables.
+use Rattle.std.proofs.Common.{◌≡◌, ◌↔◌, Bool, true, false, not, List, [], ◌∷◌, ◌++◌, length, map, Option, Some, None, Result, Ok, Err, refl, sym, subst, ◌∙◌, true≢false}
+use Rattle.std.specs.Prelude.{codes, flat_map, ◌&&◌, ◌==◌, if◌then◌else◌, unwrap_or}
 use Rattle.std.specs.Fmt.{digits}
 use Rattle.std.proofs.lemmas.Bool.{and_parts}
-use Rattle.rb_base.specs.Names.{text_eq}
 use Rattle.token_model.specs.declared.kind.Dialect.{Dialect}
 use Rattle.token_model.specs.declared.kind.Dialect.TheVariants.{Second}
 use Rattle.tree_model.specs.Tree.{MethodOf}
 use Rattle.scope_model.specs.SpecialNames.{is_pseudo_variable}
 use Rattle.text_model.specs.Literals.{is_identifier}
 use Rattle.text_model.specs.Whole.{canonical_method}
+use Rattle.chunk_format.specs.Blank.{drop_blanks}
+use Rattle.chunk_format.specs.Chunks.{Piece}
 use Rattle.chunk_format.specs.Left.{start_of}
 use Rattle.grammar_model.specs.Spelling.{SpellsDoIt, SpellsMethod}
 use Rattle.reread_law.specs.WholeTrees.{WellFormedMethod}
@@ -18,129 +19,163 @@ use Rattle.image_model.specs.Image.{ClassOf, ImageOf}
 use Rattle.file_model.specs.Causes.{Cause}
 use Rattle.file_model.specs.Changes.{RunOf}
 use Rattle.file_model.specs.Filing.{Text, Filing, begun, Item, Blank, DoItChunk, MethodChunk, taken}
+use Rattle.file_model.specs.Places.{no_places}
 use Rattle.file_model.specs.Reading.{IsItem, Empty, DoItRead, MethodRead, no_image, IsKernelOf}
 use Rattle.file_model.specs.Written.{definition_text}
 use Rattle.file_model.proofs.OneImage.{one_kernel}
-use Rattle.file_laws.proofs.Moves.{text_equal}
 use Rattle.file_rereading.specs.Trees.{definition_tree, opening_tree, opening_text}
 use Rattle.kernel_image.specs.KernelClasses.{kernel_classes}
+use Rattle.kernel_image.specs.KernelCode.{SideCode, kernel_sides, whole_kernel}
 use Rattle.kernel_image.specs.KernelMethods.{row_of, kernel_methods}
+use Rattle.kernel_image.specs.KernelNames.{knows_names}
+use Rattle.kernel_image.proofs.Tests.{not_empty}
 use Rattle.kernel_image.proofs.Braces.{has_no_brace, doit_in, method_in_dialect}
-use Rattle.kernel_image.proofs.Forms.{opening_replaces_none}
+use Rattle.kernel_image.proofs.Forms.{definition_replaces_none, opening_replaces_none}
 use Rattle.kernel_image.proofs.Parts.{HasBodies, has_bodies}
-use Rattle.kernel_image.proofs.Sources.{Reads, Nothing, Source, reads_then, takes_sources}
-use Rattle.kernel_image.proofs.Texts.{first_part, other_parts, kernel_bodies, method_sources, kernel_runs, whole, is_cut, plain_pieces, sources_of}
+use Rattle.kernel_image.proofs.Sources.{Reads, Nothing, Source, takes_sources}
+use Rattle.kernel_image.proofs.Texts.{first_part, other_parts, kernel_bodies, whole, is_cut, plain_pieces, sources_of}
 use Rattle.kernel_image.proofs.Trees.{is_well_formed, method_tested}
-use Rattle.kernel_image.proofs.Reader.{method_in}
-use Rattle.kernel_image.proofs.Classes.{classes_alone, classes_made}
 
--- the run that a source opens
-abbrev opened : Text → RunOf Text
-opened s = unwrap_or (find (λ (r : RunOf Text). text_eq s (opening_text r)) kernel_runs) (record { class = []; meta = false; protocol = [] })
+-- what the sources of the text are, by the tables: the definition of a class, an empty source, the opening of a run, or a method of the run
+data Part : Type 0 where
+  Definition : ClassOf Text → Part
+  Gap : Part
+  Opening : RunOf Text → Part
+  Code : MethodOf Text → Part
 
--- what a source is
-abbrev item_in : Option (RunOf Text) → Text → Item
-item_in run [] = Blank
-item_in None (b ∷ s) = DoItChunk (b ∷ s) (opening_tree (opened (b ∷ s)))
-item_in (Some r) (b ∷ s) = MethodChunk r (b ∷ s) (method_in (b ∷ s))
+-- the methods of a side are one run
+abbrev parts_of : SideCode → List Part
+parts_of side = Gap ∷ Opening (record { class = side.class; meta = side.meta; protocol = codes "kernel" }) ∷ map Code side.methods ++ Gap ∷ []
 
--- whether it is spelled by the source, which holds no brace
-abbrev is_spelled : Option (RunOf Text) → Text → Bool
-is_spelled run [] = true
-is_spelled None (b ∷ s) = has_no_brace (b ∷ s) && (text_eq (opening_text (opened (b ∷ s))) (b ∷ s) && is_identifier (opened (b ∷ s)).class)
-is_spelled (Some r) (b ∷ s) = has_no_brace (b ∷ s) && (text_eq (canonical_method (method_in (b ∷ s))) (b ∷ s) && is_well_formed (method_in (b ∷ s)))
+abbrev kernel_parts : List Part
+kernel_parts = map Definition kernel_classes ++ flat_map parts_of kernel_sides
 
--- whether what is made passes a test
-abbrev on_ok : (Filing → Bool) → Result Filing Cause → Bool
-on_ok p (Ok f) = p f
-on_ok p (Err cause) = false
+-- the source of a part
+abbrev source_of : Part → Text
+source_of (Definition c) = definition_text c
+source_of Gap = []
+source_of (Opening r) = opening_text r
+source_of (Code m) = canonical_method m
 
--- whether sources are read to their end
-abbrev can_read : Dialect → List Text → Filing → Bool
-can_read d [] f = true
-can_read d (s ∷ ss) f = is_spelled f.run s && on_ok (can_read d ss) (taken d true f (item_in f.run s))
+-- the text has these sources
+sources_known : map drop_blanks kernel_bodies ≡ map source_of kernel_parts
+unfolding first_part other_parts prelude_text kernel_classes kernel_sides digits
+sources_known = refl
 
--- what they make then
-abbrev end_by : (Filing → Filing) → Filing → Result Filing Cause → Filing
-end_by p f (Ok g) = p g
-end_by p f (Err cause) = f
+-- what the source of a part is, outside a run or in one
+abbrev item_in : Option (RunOf Text) → Part → Item
+item_in run (Definition c) = DoItChunk (definition_text c) (definition_tree c)
+item_in run Gap = Blank
+item_in run (Opening r) = DoItChunk (opening_text r) (opening_tree r)
+item_in None (Code m) = Blank
+item_in (Some r) (Code m) = MethodChunk r (canonical_method m) m
 
-abbrev end_of : Dialect → List Text → Filing → Filing
-end_of d [] f = f
-end_of d (s ∷ ss) f = end_by (end_of d ss) f (taken d true f (item_in f.run s))
+-- whether a source is not empty, and holds no brace
+abbrev is_plain : Text → Bool
+is_plain s = not (length s == 0) && has_no_brace s
 
--- the image of the kernel
-pub kernel_in : Dialect → ImageOf Text
-kernel_in d = (end_of d method_sources (classes_alone kernel_classes)).image
+-- whether a class and its superclass have identifiers as names
+abbrev is_named : ClassOf Text → Bool
+is_named c = is_identifier (unwrap_or c.superclass (codes "nil")) && is_identifier c.name
 
--- its methods
-pub its_methods : (d : Dialect) → map row_of (kernel_in d).methods ≡ kernel_methods
-unfolding kernel_in first_part other_parts prelude_text kernel_classes kernel_methods method_sources kernel_runs is_pseudo_variable method_in digits
-its_methods d = refl
+-- whether the source of a part spells it there
+abbrev is_spelled : Option (RunOf Text) → Part → Bool
+is_spelled None (Definition c) = is_plain (definition_text c) && is_named c
+is_spelled None Gap = true
+is_spelled None (Opening r) = is_plain (opening_text r) && is_identifier r.class
+is_spelled None (Code m) = false
+is_spelled (Some r) (Definition c) = false
+is_spelled (Some r) Gap = true
+is_spelled (Some r) (Opening q) = false
+is_spelled (Some r) (Code m) = is_plain (canonical_method m) && is_well_formed m
 
--- it is the same in both dialects
-alike : (d : Dialect) → kernel_in d ≡ kernel_in Second
-unfolding kernel_in first_part other_parts prelude_text kernel_classes method_sources kernel_runs is_pseudo_variable method_in digits
-alike d = refl
+-- what parts make, if each is spelled and none is refused
+abbrev end_by : (Filing → Option Filing) → Result Filing Cause → Option Filing
+end_by p (Ok f) = p f
+end_by p (Err cause) = None
 
--- the methods of the kernel are read behind its classes
-reads_methods : (d : Dialect) → can_read d method_sources (classes_alone kernel_classes) ≡ true
-unfolding first_part other_parts prelude_text kernel_classes method_sources kernel_runs is_pseudo_variable method_in digits
-reads_methods d = refl
+abbrev end_of : Dialect → List Part → Filing → Option Filing
+end_of d [] f = Some f
+end_of d (p ∷ ps) f = if is_spelled f.run p then end_by (end_of d ps) (taken d true f (item_in f.run p)) else None
+
+-- the text is read to its end, and makes the classes and the methods of the tables
+whole_end : Filing
+whole_end = record { image = whole_kernel; run = None; at_head = false; places = no_places }
+
+reads_whole : (d : Dialect) → end_of d kernel_parts (begun no_image) ≡ Some whole_end
+unfolding whole_end kernel_classes kernel_sides is_pseudo_variable digits
+reads_whole d = refl
+
+-- what the methods are by their selectors and primitives
+pub its_rows : map row_of whole_kernel.methods ≡ kernel_methods
+unfolding kernel_sides kernel_methods
+its_rows = refl
+
+-- each name in their code stands for something
+pub its_names : knows_names whole_kernel ≡ true
+unfolding kernel_classes kernel_sides is_pseudo_variable
+its_names = refl
 
 -- what a source is, by the laws on what texts spell
 module _ (definitions : (class : ClassOf Text) → is_identifier (unwrap_or class.superclass (codes "nil")) ≡ true → is_identifier class.name ≡ true → SpellsDoIt Second (definition_text class) (definition_tree class))
     (openings : (run : RunOf Text) → is_identifier run.class ≡ true → SpellsDoIt Second (opening_text run) (opening_tree run))
     (some_text : (kernel : Bool) (tree : MethodOf Text) → ((text : Text) × SpellsMethod Second kernel text tree) ↔ WellFormedMethod kernel tree)
     (canonical : (dialect : Dialect) (kernel : Bool) (text : Text) (tree : MethodOf Text) → SpellsMethod dialect kernel text tree → SpellsMethod Second kernel (canonical_method tree) tree) where
-  spelled_item : (d : Dialect) (run : Option (RunOf Text)) (s : Text) → is_spelled run s ≡ true → IsItem d true run s (item_in run s)
-  spelled_item d run [] h = Empty
-  spelled_item d None (b ∷ s) h =
-      let r = opened (b ∷ s) in
-      let plain = and_parts (has_no_brace (b ∷ s)) (text_eq (opening_text r) (b ∷ s) && is_identifier r.class) h in
-      let parts = and_parts (text_eq (opening_text r) (b ∷ s)) (is_identifier r.class) plain.1 in
-      let text : opening_text r ≡ b ∷ s = text_equal (opening_text r) (b ∷ s) parts.0 in
-      DoItRead (λ e. cc) (doit_in d (b ∷ s) (opening_tree r) plain.0 (subst (λ (t : Text). SpellsDoIt Second t (opening_tree r)) text (openings r parts.1))) (opening_replaces_none r)
-  spelled_item d (Some r) (b ∷ s) h =
-      let m = method_in (b ∷ s) in
-      let plain = and_parts (has_no_brace (b ∷ s)) (text_eq (canonical_method m) (b ∷ s) && is_well_formed m) h in
-      let parts = and_parts (text_eq (canonical_method m) (b ∷ s)) (is_well_formed m) plain.1 in
-      let text : canonical_method m ≡ b ∷ s = text_equal (canonical_method m) (b ∷ s) parts.0 in
+  spelled_item : (d : Dialect) (run : Option (RunOf Text)) (p : Part) → is_spelled run p ≡ true → IsItem d true run (source_of p) (item_in run p)
+  spelled_item d None (Definition c) h =
+      let text = definition_text c in
+      let parts = and_parts (is_plain text) (is_named c) h in
+      let plain = and_parts (not (length text == 0)) (has_no_brace text) parts.0 in
+      let named = and_parts (is_identifier (unwrap_or c.superclass (codes "nil"))) (is_identifier c.name) parts.1 in
+      DoItRead (not_empty text plain.0) (doit_in d text (definition_tree c) plain.1 (definitions c named.0 named.1)) (definition_replaces_none c)
+  spelled_item d None Gap h = Empty
+  spelled_item d None (Opening r) h =
+      let text = opening_text r in
+      let parts = and_parts (is_plain text) (is_identifier r.class) h in
+      let plain = and_parts (not (length text == 0)) (has_no_brace text) parts.0 in
+      DoItRead (not_empty text plain.0) (doit_in d text (opening_tree r) plain.1 (openings r parts.1)) (opening_replaces_none r)
+  spelled_item d None (Code m) h = absurd (true≢false (sym h))
+  spelled_item d (Some r) (Definition c) h = absurd (true≢false (sym h))
+  spelled_item d (Some r) Gap h = Empty
+  spelled_item d (Some r) (Opening q) h = absurd (true≢false (sym h))
+  spelled_item d (Some r) (Code m) h =
+      let text = canonical_method m in
+      let parts = and_parts (is_plain text) (is_well_formed m) h in
+      let plain = and_parts (not (length text == 0)) (has_no_brace text) parts.0 in
       let some = (some_text true m).1 (method_tested m parts.1) in
-      MethodRead (λ e. cc) (method_in_dialect d true (b ∷ s) m plain.0 (subst (λ (t : Text). SpellsMethod Second true t m) text (canonical Second true some.0 m some.1)))
+      MethodRead (not_empty text plain.0) (method_in_dialect d true text m plain.1 (canonical Second true some.0 m some.1))
 
-  sources_end : (d : Dialect) (ss : List Text) (f : Filing) → can_read d ss f ≡ true → Reads d f ss (end_of d ss f)
-  sources_end d [] f h = Nothing
-  sources_end d (s ∷ ss) f h = by (taken d true f (item_in f.run s)) refl (and_parts (is_spelled f.run s) (on_ok (can_read d ss) (taken d true f (item_in f.run s))) h) (λ g k. sources_end d ss g k)
+  sources_end : (d : Dialect) (ps : List Part) (f g : Filing) → end_of d ps f ≡ Some g → Reads d f (map source_of ps) g
+  sources_end d [] f g h = let same : f ≡ g = cc in subst (λ (x : Filing). Reads d f [] x) same Nothing
+  sources_end d (p ∷ ps) f g h = by (is_spelled f.run p) refl (taken d true f (item_in f.run p)) refl h (λ k e. sources_end d ps k g e)
     where
-      by : (r : Result Filing Cause) → taken d true f (item_in f.run s) ≡ r → (is_spelled f.run s ≡ true) × (on_ok (can_read d ss) r ≡ true) → ((g : Filing) → can_read d ss g ≡ true → Reads d g ss (end_of d ss g)) → Reads d f (s ∷ ss) (end_by (end_of d ss) f r)
-      by (Ok g) made parts rest = Source (spelled_item d f.run s parts.0) (sym made) (rest g parts.1)
-      by (Err cause) made parts rest = absurd (true≢false (sym parts.1))
+      none : ◌≡◌ {A = Option Filing} None (Some g) → ⊥
+      none e = cc
+
+      by : (b : Bool) → is_spelled f.run p ≡ b → (r : Result Filing Cause) → taken d true f (item_in f.run p) ≡ r → (if b then end_by (end_of d ps) r else None) ≡ Some g → ((k : Filing) → end_of d ps k ≡ Some g → Reads d k (map source_of ps) g) → Reads d f (source_of p ∷ map source_of ps) g
+      by true s (Ok k) made e rest = Source (spelled_item d f.run p s) (sym made) (rest k e)
+      by true s (Err cause) made e rest = absurd (none e)
+      by false s r made e rest = absurd (none e)
 
   -- the text has this image in each dialect
-  pub is_kernel : (d : Dialect) → IsKernelOf d prelude_text (kernel_in d)
-  unfolding kernel_in
+  pub is_kernel : (d : Dialect) → IsKernelOf d prelude_text whole_kernel
+  unfolding whole_end
   is_kernel d =
       let start : Filing = begun no_image in
-      let end = end_of d method_sources (classes_alone kernel_classes) in
-      let methods = sources_end d method_sources (classes_alone kernel_classes) (reads_methods d) in
-      let sources : Reads d start (map definition_text kernel_classes ++ method_sources) end = reads_then d (map definition_text kernel_classes) method_sources start (classes_alone kernel_classes) end (classes_made definitions d) methods in
       let bodies : HasBodies (start_of prelude_text) kernel_bodies = has_bodies first_part other_parts (start_of prelude_text) (sym whole) is_cut in
+      let sources : map source_of kernel_parts ≡ map (λ (p : Piece). drop_blanks p.body) bodies.pieces = sym (sources_of bodies.pieces bodies.same ∙ sources_known) in
       record {
-        end = end;
+        end = whole_end;
         reads = record {
           pieces = bodies.pieces;
           end = None;
           chunks = bodies.chunks;
-          takes = takes_sources d bodies.pieces start end (plain_pieces bodies.pieces bodies.same) (subst (λ (ss : List Text). Reads d start ss end) (sym (sources_of bodies.pieces bodies.same)) sources);
+          takes = takes_sources d bodies.pieces start whole_end (plain_pieces bodies.pieces bodies.same)
+              (subst (λ (ss : List Text). Reads d start ss whole_end) sources (sources_end d kernel_parts start whole_end (reads_whole d)));
         };
         image = refl;
       }
 
   -- and no other
-  pub kernel_rows : (d : Dialect) (k : ImageOf Text) → IsKernelOf d prelude_text k → map row_of k.methods ≡ kernel_methods
-  kernel_rows d k is = ap (λ (i : ImageOf Text). map row_of i.methods) (one_kernel d prelude_text k (kernel_in d) is (is_kernel d)) ∙ its_methods d
-
-  -- the image of either dialect is that of the second
-  pub in_second : (d : Dialect) (k : ImageOf Text) → IsKernelOf d prelude_text k → IsKernelOf Second prelude_text k
-  in_second d k is = subst (IsKernelOf Second prelude_text) (sym (one_kernel d prelude_text k (kernel_in d) is (is_kernel d) ∙ alike d)) (is_kernel Second)
+  pub is_whole : (d : Dialect) (k : ImageOf Text) → IsKernelOf d prelude_text k → k ≡ whole_kernel
+  is_whole d k is = one_kernel d prelude_text k whole_kernel is (is_kernel d)

@@ -1,2 +1,5 @@
 pub mod KernelClasses
+pub mod KernelCode
 pub mod KernelMethods
+pub mod KernelNames
+pub mod KernelTrees

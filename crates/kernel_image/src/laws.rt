@@ -1,5 +1,5 @@
 // The laws. Each function does nothing; its contract is the law.
-ghost use Rattle.std.specs.Prelude.{◌≡◌, ◌⊎◌, [], map};
+ghost use Rattle.std.specs.Prelude.{true, ◌≡◌, ◌⊎◌, [], map};
 ghost use Rattle.std.specs.List.{AllByRecursion};
 ghost use Rattle.token_model.specs.declared.kind.Dialect.{Dialect};
 ghost use Rattle.token_model.specs.declared.kind.Dialect.TheVariants.{Second};
@@ -14,6 +14,8 @@ ghost use Rattle.file_model.specs.Reading.{HasRefusal, IsImageOf, IsKernelOf};
 ghost use Rattle.file_model.specs.Written.{file_of};
 ghost use Rattle.file_rereading.specs.Rereading.{IsBeginning, IsWithinLimits, KernelFirst, with_heads};
 ghost use Rattle.kernel_image.specs.KernelClasses.{kernel_classes};
+ghost use Rattle.kernel_image.specs.KernelCode.{whole_kernel};
+ghost use Rattle.kernel_image.specs.KernelNames.{knows_names};
 ghost use Rattle.kernel_image.specs.KernelMethods.{row_of, kernel_methods};
 
 use file_laws::{gives_fileable_images, gives_valid_images};
@@ -32,14 +34,22 @@ pub fn kernel_is_read()
     spells_the_tree_again();
 }
 
+/// The text of the kernel makes one image, in either dialect: its classes and its methods are those of tables, and it has no
+/// do-its. Of each method its class and side, its protocol, its source and its whole tree are so known: what it says.
+pub fn kernel_says()
+    ensures { (dialect : Dialect) (kernel : ImageOf Text) → IsKernelOf dialect prelude_text kernel → kernel ≡ whole_kernel }
+{
+    spells_definitions();
+    tells_which_trees_have_a_text();
+    spells_the_tree_again();
+}
+
 /// The text of the kernel makes its twenty classes, in either dialect: `Object` and those below it, with their superclasses
 /// and instance variables, and nothing else.
 pub fn kernel_has_these_classes()
     ensures { (dialect : Dialect) (kernel : ImageOf Text) → IsKernelOf dialect prelude_text kernel → kernel.classes ≡ kernel_classes }
 {
-    spells_definitions();
-    tells_which_trees_have_a_text();
-    spells_the_tree_again();
+    kernel_says();
 }
 
 /// The text of the kernel makes these methods, in either dialect: of each class and side these selectors, in order, each with
@@ -47,9 +57,15 @@ pub fn kernel_has_these_classes()
 pub fn kernel_has_these_methods()
     ensures { (dialect : Dialect) (kernel : ImageOf Text) → IsKernelOf dialect prelude_text kernel → map row_of kernel.methods ≡ kernel_methods }
 {
-    spells_definitions();
-    tells_which_trees_have_a_text();
-    spells_the_tree_again();
+    kernel_says();
+}
+
+/// Each name that a method of the kernel reads or assigns stands for something: for a pseudo-variable, a local of the method,
+/// a variable of its class or of one above it, a class of the kernel, or `Transcript`.
+pub fn kernel_knows_its_names()
+    ensures { (dialect : Dialect) (kernel : ImageOf Text) → IsKernelOf dialect prelude_text kernel → knows_names kernel ≡ true }
+{
+    kernel_says();
 }
 
 /// The image of the kernel's text is valid, in either dialect. No class of it has class-instance variables, and images begin
@@ -59,9 +75,7 @@ pub fn kernel_is_valid()
     ensures plain { (dialect : Dialect) (kernel : ImageOf Text) → IsKernelOf dialect prelude_text kernel → AllByRecursion (λ (c : ClassOf Text). c.class_side ≡ []) kernel.classes }
     ensures beginning { (dialect : Dialect) (kernel : ImageOf Text) → IsKernelOf dialect prelude_text kernel → IsBeginning kernel }
 {
-    spells_definitions();
-    tells_which_trees_have_a_text();
-    spells_the_tree_again();
+    kernel_says();
 }
 
 /// Each text that is read behind the kernel makes an image, or one of its chunks is the first that is refused.

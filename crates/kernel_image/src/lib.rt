@@ -7,4 +7,5 @@ mod laws;
 pub use laws::{
     every_image_is_read_again, every_image_is_valid, every_text_is_read_or_refused,
     kernel_has_these_classes, kernel_has_these_methods, kernel_is_read, kernel_is_valid,
+    kernel_knows_its_names, kernel_says,
 };

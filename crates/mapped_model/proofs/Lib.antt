@@ -3,12 +3,12 @@ mod LookupsMapped
 mod ValuesMapped
 mod PrimitivesMapped
 mod ShapesMapped
-mod Objects
+pub mod Objects
 mod OwnShapes
 mod Homes
 mod StoresMapped
 mod HeldActs
-mod PrimitivesKeep
+pub mod PrimitivesKeep
 mod Everywhere
 mod Suited
 mod RunsMapped
@@ -17,7 +17,7 @@ mod Widened
 mod MatchedByMaps
 pub mod NodesBelow
 mod ChangedLemmas
-mod NamesFound
+pub mod NamesFound
 mod OwnResolved
 pub mod NamesOfImagesHold
 mod ChangedImageLemmas

@@ -1,10 +1,11 @@
 -- A variable that is renamed in one class and in those below it.
 use Rattle.std.specs.Prelude.{◌≡◌, Bool, ◌&&◌, if◌then◌else◌, IsTrue, Some}
-use Rattle.std.specs.List.{AllByRecursion, list_any}
+use Rattle.std.specs.List.{AllByRecursion}
 use Rattle.rb_base.specs.Names.{text_eq}
 use Rattle.image_model.specs.Image.{ClassOf, ImageOf}
 use Rattle.image_model.specs.Chain.{chain}
 use Rattle.image_model.specs.Means.{VariableKind}
+use Rattle.class_chains.specs.Chains.{is_on_chain}
 use Rattle.run_model.specs.Values.{Name}
 use Rattle.run_model.specs.Renamings.{OfClass}
 use Rattle.mapped_model.specs.NameMaps.{NameMaps}
@@ -13,7 +14,7 @@ use Rattle.mapped_model.specs.NamesOfImages.{variables_along}
 
 -- whether a class stands on the chain of another
 abbrev pub stands_above : ImageOf Name → Name → Name → Bool
-stands_above i c d = list_any (λ (e : ClassOf Name). text_eq c e.name) (chain text_eq i.classes (Some d))
+stands_above i c d = is_on_chain text_eq i.classes c (Some d)
 
 -- what a variable is called after, where one of a class is renamed
 abbrev pub renamed_below : ImageOf Name → Name → Name → Name → OfClass → Name

@@ -33,7 +33,7 @@ or-right true b e = refl
 or-right false b e = e
 
 -- where the first of two alternatives fails, the second holds
-other-holds : (a b : Bool) → a ≡ false → (a || b) ≡ true → b ≡ true
+pub other-holds : (a b : Bool) → a ≡ false → (a || b) ≡ true → b ≡ true
 other-holds a b e h = sym (ap (λ x. x || b) e) ∙ h
 
 -- the class of a name on a list

@@ -16,7 +16,7 @@ use Rattle.mapped_model.specs.RenamedVariables.{stands_above, renamed_below}
 use Rattle.mapped_model.proofs.NamesOfImagesHold.{named-found}
 use Rattle.mapped_model.proofs.RenamedVariableLemmas.{at-all}
 use Rattle.rename_model.specs.Conditions.{stands_below}
-use Rattle.rename_laws.specs.OneRenamed.{in_classes_below}
+use Rattle.rename_model.specs.OneRenamed.{in_classes_below}
 use Rattle.rename_laws.proofs.TextsTold.{text-turned}
 use Rattle.rename_laws.proofs.ClassesAfter.{find-nothing}
 use Rattle.rename_laws.proofs.Unnamed.{each-fails}

@@ -1,26 +1,30 @@
-mod Zips
-mod TextsTold
+pub mod Zips
+pub mod TextsTold
 mod Declarations
 mod NewNames
 mod ClassesAfter
-mod OutsideAfter
+pub mod OutsideAfter
 mod ScopesAfter
 mod TreesAfter
-mod Unnamed
+pub mod Unnamed
 mod Undeclared
-mod MeaningsAfter
+pub mod MeaningsAfter
 mod NamesUnused
 mod Readiness
 mod ImagesAfter
 mod NamesApart
-mod SentAnew
+pub mod SentAnew
 mod FreshSelector
 mod RenamedSelector
-mod VariableClasses
+pub mod VariableClasses
 mod VariableOutside
 mod VariableMeanings
 mod VariableImages
-mod ChainFacts
+pub mod ChainFacts
 mod SharedVariable
 mod OwnVariable
 mod ClassesBelow
+pub mod NodesOfImages
+pub mod OwnMethods
+pub mod GoodNames
+pub mod OutsideLoose

@@ -32,7 +32,7 @@ use Rattle.rename_model.specs.CommandWords.{has_own_meaning, text_command_words}
 use Rattle.rename_model.specs.Conditions.{speaks_of, is_no_kernel_selector, is_selector_fresh}
 use Rattle.rename_model.specs.ClassRenamed.{WritingOf}
 use Rattle.rename_model.specs.SelectorRenamed.{selector_renamed_to, method_after, doit_after, selector_renamed}
-use Rattle.rename_laws.specs.OneRenamed.{one_selector}
+use Rattle.rename_model.specs.OneRenamed.{one_selector}
 use Rattle.rename_laws.proofs.TextsTold.{text-turned}
 use Rattle.rename_laws.proofs.Zips.{any-kept, zip-after, zip-same}
 use Rattle.rename_laws.proofs.Unnamed.{neither_left, neither_right, denied}

@@ -1,7 +1,7 @@
 -- A name that nothing in an image has.
 use Rattle.std.proofs.Common.{◌≡◌, ℕ, List, [], ◌∷◌, Option, Some, None, refl, sym, ap, ◌∙◌, subst}
 use Rattle.std.specs.Prelude.{Bool, true, false, not, ◌||◌, slice_get, Contains}
-use Rattle.std.specs.List.{AllByRecursion, list_any}
+use Rattle.std.specs.List.{AllByRecursion, list_all, list_any}
 use Rattle.std.specs.Option.{option_map_or}
 use Rattle.std.proofs.lemmas.Bool.{false≢true}
 use Rattle.std.proofs.lemmas.List.Elements.{All-contains, All-from_recursion}
@@ -17,6 +17,7 @@ use Rattle.image_model.specs.Uses.{name_used}
 use Rattle.image_model.specs.Valid.{SuperclassesStandBefore}
 use Rattle.image_model.proofs.ChainLemmas.{slice_get-map}
 use Rattle.run_model.specs.Values.{Name}
+use Rattle.run_model.proofs.Finite.{and-true_left, and-true_right}
 use Rattle.mapped_model.proofs.RenamedVariableLemmas.{all-at, at-all}
 use Rattle.rename_model.specs.NamesThere.{declared_by, is_named_by, is_named_in, is_named_by_class}
 use Rattle.rename_laws.proofs.NewNames.{Other}
@@ -40,6 +41,11 @@ denied false e = refl
 pub each-fails : {X : Type 0} (p : X → Bool) (xs : List X) → list_any p xs ≡ false → AllByRecursion (λ x. p x ≡ false) xs
 each-fails p [] e = tt
 each-fails p (x ∷ xs) e = (neither_left (p x) (list_any p xs) e, each-fails p xs (neither_right (p x) (list_any p xs) e))
+
+-- and all of them
+pub each-passes : {X : Type 0} (p : X → Bool) (xs : List X) → list_all p xs ≡ true → AllByRecursion (λ x. p x ≡ true) xs
+each-passes p [] e = tt
+each-passes p (x ∷ xs) e = (and-true_left (p x) (list_all p xs) e, each-passes p xs (and-true_right (p x) (list_all p xs) e))
 
 -- a fact of each item is one of an item
 pub fact-of : {X : Type 0} (P : X → Type 0) (xs : List X) (x : X) → AllByRecursion P xs → Contains xs x → P x

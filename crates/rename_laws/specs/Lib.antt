@@ -1,3 +1,2 @@
 pub mod BehindKernel
-pub mod OneRenamed
 pub mod VariablesOnce

@@ -9,7 +9,7 @@ ghost use Rattle.rename_model.specs.CommandWords.{text_command_words};
 ghost use Rattle.rename_model.specs.Conditions.{is_no_kernel_selector, is_selector_fresh};
 ghost use Rattle.rename_model.specs.ClassRenamed.{WritingOf};
 ghost use Rattle.rename_model.specs.SelectorRenamed.{selector_renamed};
-ghost use Rattle.rename_laws.specs.OneRenamed.{one_selector};
+ghost use Rattle.rename_model.specs.OneRenamed.{one_selector};
 
 use mapped_model::{law_changed_images, law_matched_by_maps, law_matched_images};
 

@@ -14,7 +14,7 @@ ghost use Rattle.mapped_model.specs.RenamedVariables.{renamed_below};
 ghost use Rattle.rename_model.specs.Conditions.{is_user_class, has_variable, is_variable_free, is_name_unused};
 ghost use Rattle.rename_model.specs.ClassRenamed.{WritingOf};
 ghost use Rattle.rename_model.specs.VariableRenamed.{variable_renamed};
-ghost use Rattle.rename_laws.specs.OneRenamed.{one_variable};
+ghost use Rattle.rename_model.specs.OneRenamed.{one_variable};
 ghost use Rattle.rename_laws.specs.VariablesOnce.{HasVariablesOnce};
 
 use mapped_model::{

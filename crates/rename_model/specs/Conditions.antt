@@ -8,6 +8,7 @@ use Rattle.image_model.specs.Image.{ClassOf, EntryOf, DoItOf, ImageOf}
 use Rattle.image_model.specs.Chain.{class_named, chain, chain_from}
 use Rattle.image_model.specs.Means.{VariableKind, variables}
 use Rattle.image_model.specs.Uses.{name_used, is_sender}
+use Rattle.class_chains.specs.Chains.{is_on_chain}
 use Rattle.rename_model.specs.CommandWords.{CommandWordsOf}
 use Rattle.rename_model.specs.NamesThere.{is_named, is_named_in_method}
 
@@ -47,7 +48,7 @@ has_no_reflection v i = not (list_any (method_reflects v) i.methods || list_any 
 abbrev pub is_user_class : {N : Type 0} → (N → N → Bool) → ImageOf N → N → Bool
 is_user_class same i n = option_map_or (λ (c : ClassOf _). not c.kernel) (class_named same i.classes n) false
 
--- nothing in the image has the name
+-- no class and no variable has the name, and no code reads, assigns or declares it; a selector of that spelling is no use
 abbrev pub is_name_unused : {N : Type 0} → (N → N → Bool) → ImageOf N → N → Bool
 is_name_unused same i n = not (is_named same i n)
 
@@ -65,7 +66,7 @@ stands_below same classes c e = list_any (λ (d : ClassOf _). same c d.name) (ch
 
 -- whether a method is one of the class of the name or of a class below it
 abbrev pub is_method_below : {N : Type 0} → (N → N → Bool) → List (ClassOf N) → N → EntryOf N → Bool
-is_method_below same classes c m = list_any (λ (d : ClassOf _). same c d.name) (chain same classes m.class)
+is_method_below same classes c m = is_on_chain same classes c m.class
 
 -- there is a class of the name; no class above it, or below it, defines the variable, nor does the class itself, and no method of it or of a class below it reads, assigns or declares the name
 abbrev pub is_variable_free : {N : Type 0} → (N → N → Bool) → ImageOf N → N → N → Bool

@@ -5,3 +5,4 @@ pub mod Renamed
 pub mod ClassRenamed
 pub mod SelectorRenamed
 pub mod VariableRenamed
+pub mod OneRenamed

@@ -13,61 +13,13 @@ use Rattle.run_model.specs.Values.{Name, Value, nil_value}
 use Rattle.run_model.specs.Store.{Binding, holds, in_cell, Slot}
 use Rattle.run_model.specs.Eval.{held, in_cells}
 use Rattle.run_model.proofs.Finite.{by_cases}
-use Rattle.resolved_model.specs.ResolvedTrees.{Reference, of_word, of_local, Target, to_temporary, to_fixed}
+use Rattle.resolved_model.specs.ResolvedTrees.{of_word, to_fixed}
 use Rattle.resolved_model.specs.Resolving.{declared_by, reference_of, target_of}
 use Rattle.resolved_model.specs.ResolvedEval.{values_held, cells_from}
-
--- a name that is declared, and whether it is a temporary's
-pub record Declared : Type 0 where
-  pub name : Name
-  pub is_temporary : Bool
-
--- an argument
-abbrev pub as_argument : Name → Declared
-as_argument n = record { name = n; is_temporary = false }
-
--- a temporary
-abbrev pub as_temporary : Name → Declared
-as_temporary n = record { name = n; is_temporary = true }
-
--- what a scope declares, and what stood round it
-abbrev pub opened : List Name → List Name → List Declared → List Declared
-opened ps ts env = map as_argument ps ++ (map as_temporary ts ++ env)
-
--- whether the first declaration of a name is that of a temporary, if there is one
-abbrev pub kind_in : List Declared → Name → Option Bool
-kind_in env n = option_map (λ (d : Declared). d.is_temporary) (find (λ (d : Declared). text_eq n d.name) env)
-
--- the place of the first declaration of a name
-abbrev pub place_in : List Declared → Name → ℕ
-place_in env n = position_or_len (text_eq n) (map (λ (d : Declared). d.name) env)
-
--- what is read under a name that may be declared
-abbrev pub reference_by : Option Bool → ℕ → MeaningOf Name → Name → Reference
-reference_by (Some b) k g n = of_local k
-reference_by None k g n = reference_of g k n
-
--- what is assigned under a name that may be declared
-abbrev pub target_by : Option Bool → ℕ → MeaningOf Name → Name → Target
-target_by (Some true) k g n = to_temporary k
-target_by (Some false) k g n = to_fixed n
-target_by None k g n = target_of g k n
-
--- what is read under a name in an environment, with what it means outside
-abbrev pub reference_in : List Declared → MeaningOf Name → Name → Reference
-reference_in env g n = if is_pseudo_variable n then of_word n else reference_by (kind_in env n) (place_in env n) g n
-
--- what is assigned under a name in an environment
-abbrev pub target_in : List Declared → MeaningOf Name → Name → Target
-target_in env g n = if is_pseudo_variable n then to_fixed n else target_by (kind_in env n) (place_in env n) g n
-
--- what scopes declare
-abbrev pub declared_in : List (PlacedScope Name) → List Declared
-declared_in [] = []
-declared_in (p ∷ ps) = opened p.1.arguments p.1.temporaries (declared_in ps)
+use Rattle.resolved_model.specs.Environments.{Declared, as_argument, as_temporary, opened, kind_in, place_in, reference_by, target_by, reference_in, target_in, declared_in}
 
 -- the kind of a local
-abbrev kind_of : Local → Option Bool
+abbrev pub kind_of : Local → Option Bool
 kind_of (Argument scope) = Some false
 kind_of (Temporary scope) = Some true
 kind_of NotLocal = None
@@ -85,7 +37,7 @@ kind-front make b h (m ∷ ns) env n =
     by false ih = ih
 
 -- what scopes say of a name is what their declarations say
-kind-scopes : (ps : List (PlacedScope Name)) (n : Name) → kind_in (declared_in ps) n ≡ kind_of (local_by text_eq ps n)
+pub kind-scopes : (ps : List (PlacedScope Name)) (n : Name) → kind_in (declared_in ps) n ≡ kind_of (local_by text_eq ps n)
 kind-scopes [] n = refl
 kind-scopes (p ∷ ps) n =
     kind-front as_argument false (λ m. (refl, refl)) p.1.arguments (map as_temporary p.1.temporaries ++ declared_in ps) n

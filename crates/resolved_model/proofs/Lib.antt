@@ -1,6 +1,6 @@
 mod ResolvedStores
-mod Environments
+pub mod Environments
 pub mod ResolvingLemmas
 pub mod LookupLemmas
-mod ShapeLemmas
+pub mod ShapeLemmas
 pub mod RunLemmas

@@ -1,10 +1,10 @@
--- Names resolved by what is declared round them, and that this is what they mean at their places.
+-- Names resolved by what is declared round them are what they mean at their places.
 use Rattle.std.proofs.Common.{◌≡◌, ℕ, zero, suc, ◌+◌, List, [], ◌∷◌, ◌++◌, length, Some, None, refl, ap, ◌∙◌, arith, append_assoc}
 use Rattle.std.specs.Prelude.{false, if◌then◌else◌, option_map, unwrap_or}
 use Rattle.std.specs.List.{position_or_len}
 use Rattle.rb_base.specs.Names.{text_eq}
 use Rattle.scope_model.specs.SpecialNames.{is_pseudo_variable}
-use Rattle.tree_model.specs.Tree.{TreeOf, var, literal, send, cascade, assign, block, brace, return, TreesOf, no_trees, more_trees, MessagesOf, no_messages, more_messages, StatementsOf, no_statements, more_statements, SequenceOf}
+use Rattle.tree_model.specs.Tree.{TreeOf, var, literal, send, cascade, assign, block, brace, return, TreesOf, no_trees, more_trees, MessagesOf, no_messages, more_messages, StatementsOf, no_statements, more_statements}
 use Rattle.tree_model.specs.Path.{append, count, nth, all_arguments, statement_trees, children}
 use Rattle.scope_model.specs.Scope.{ScopeOf, PlacedScope, method_scope, doit_scope, own_scope, entered, local_by}
 use Rattle.scope_model.specs.declared.local.Local.TheVariants.{NotLocal}
@@ -13,16 +13,17 @@ use Rattle.image_model.specs.Words.{text_words}
 use Rattle.image_model.specs.Means.{MeaningOf, pseudo, means_by, means_outside}
 use Rattle.run_model.specs.Values.{Name}
 use Rattle.run_model.specs.Runs.{doit_class}
-use Rattle.resolved_model.specs.ResolvedTrees.{ResolvedTree, reading, constant, sending, cascading, assigning, block_of, brace_of, returning, ResolvedTrees, no_nodes, more_nodes, ResolvedMessages, no_sends, more_sends, ResolvedStatements, no_lines, more_lines, ResolvedCode}
+use Rattle.resolved_model.specs.ResolvedTrees.{reading, sending, cascading, assigning, block_of, brace_of, returning, more_nodes, more_sends, more_lines}
 use Rattle.resolved_model.specs.Resolving.{Meant, MeantAt, below, declared_by, reference_of, target_of, resolved, resolved_trees, resolved_messages, resolved_statements, resolved_method, resolved_doit, meant_in, meant_in_doit}
-use Rattle.resolved_model.proofs.Environments.{Declared, opened, reference_in, target_in, declared_in, reference-scopes, target-scopes}
+use Rattle.resolved_model.specs.Environments.{declared_in, tree_in, trees_in, messages_in, statements_in, code_in}
+use Rattle.resolved_model.proofs.Environments.{reference-scopes, target-scopes}
 
 -- what is there
 there : (t : TreeOf Name) → None ≡ Some t → ⊥
 there t e = cc
 
 -- the first of two lists has its items in both
-nth-left : (ts us : TreesOf Name) (j : ℕ) (c : TreeOf Name) → nth ts j ≡ Some c → nth (append ts us) j ≡ Some c
+pub nth-left : (ts us : TreesOf Name) (j : ℕ) (c : TreeOf Name) → nth ts j ≡ Some c → nth (append ts us) j ≡ Some c
 nth-left no_trees us j c e = absurd (there c e)
 nth-left (more_trees t ts) us zero c e = e
 nth-left (more_trees t ts) us (suc j) c e = nth-left ts us j c e
@@ -38,51 +39,23 @@ nth-right (more_trees t ts) us j =
 
 -- g is what names mean outside all scopes
 module _ (g : Name → MeaningOf Name) where
-  -- a node with its names resolved by what is declared round it
-  abbrev mutual
-    pub tree_in : List Declared → TreeOf Name → ResolvedTree
-    tree_in env (var n) = reading (reference_in env (g n) n)
-    tree_in env (literal l) = constant l
-    tree_in env (send r s args) = sending (tree_in env r) s (trees_in env args)
-    tree_in env (cascade r ms) = cascading (tree_in env r) (messages_in env ms)
-    tree_in env (assign n t) = assigning (target_in env (g n) n) (tree_in env t)
-    tree_in env (block ps ts ss e) = block_of (length ps) (length ts) (statements_in (opened ps ts env) ss)
-    tree_in env (brace ts) = brace_of (trees_in env ts)
-    tree_in env (return t) = returning (tree_in env t)
-
-    pub trees_in : List Declared → TreesOf Name → ResolvedTrees
-    trees_in env no_trees = no_nodes
-    trees_in env (more_trees t ts) = more_nodes (tree_in env t) (trees_in env ts)
-
-    pub messages_in : List Declared → MessagesOf Name → ResolvedMessages
-    messages_in env no_messages = no_sends
-    messages_in env (more_messages s args ms) = more_sends s (trees_in env args) (messages_in env ms)
-
-    pub statements_in : List Declared → StatementsOf Name → ResolvedStatements
-    statements_in env no_statements = no_lines
-    statements_in env (more_statements c t ss) = more_lines (tree_in env t) (statements_in env ss)
-
-  -- a sequence with parameters, with its names resolved
-  abbrev pub code_in : List Declared → List Name → SequenceOf Name → ResolvedCode
-  code_in env ps b = record { parameters = length ps; temporaries = length b.temporaries; statements = statements_in (opened ps b.temporaries env) b.statements }
-
   -- what a name means inside scopes
-  abbrev meant_by : List (PlacedScope Name) → Name → Meant
+  abbrev pub meant_by : List (PlacedScope Name) → Name → Meant
   meant_by ps n = record {
     meaning = if is_pseudo_variable n then pseudo else means_by (if is_pseudo_variable n then NotLocal else local_by text_eq ps n) (g n);
     place = position_or_len (text_eq n) (declared_by ps);
   }
 
   -- names mean below a node what they mean in the scopes that the path enters there and in those round the node
-  abbrev IsInScopes : ℕ → TreeOf Name → List (PlacedScope Name) → MeantAt → Type 0
+  abbrev pub IsInScopes : ℕ → TreeOf Name → List (PlacedScope Name) → MeantAt → Type 0
   IsInScopes d t ps at = (path : List ℕ) (n : Name) → at path n ≡ meant_by (entered d t path ++ ps) n
 
   -- the same below nodes to which the steps from k on lead
-  abbrev AreInScopes : ℕ → TreesOf Name → ℕ → List (PlacedScope Name) → MeantAt → Type 0
+  abbrev pub AreInScopes : ℕ → TreesOf Name → ℕ → List (PlacedScope Name) → MeantAt → Type 0
   AreInScopes d ts k ps at = (j m : ℕ) (c : TreeOf Name) (path : List ℕ) (n : Name) → m ≡ k + j → nth ts j ≡ Some c → at (m ∷ path) n ≡ meant_by (entered d c path ++ ps) n
 
   -- the nodes right below a node
-  below-node : (d : ℕ) (t : TreeOf Name) (ps : List (PlacedScope Name)) (at : MeantAt) → IsInScopes d t ps at → AreInScopes (d + 1) (children t) 0 (own_scope d t ++ ps) at
+  pub below-node : (d : ℕ) (t : TreeOf Name) (ps : List (PlacedScope Name)) (at : MeantAt) → IsInScopes d t ps at → AreInScopes (d + 1) (children t) 0 (own_scope d t ++ ps) at
   below-node d t ps at h j m c path n e q =
       let here : m ≡ j = omega (arith, e) in
       ap (λ x. at (x ∷ path) n) here ∙ h (j ∷ path) n
@@ -90,24 +63,24 @@ module _ (g : Name → MeaningOf Name) where
       ∙ ap (λ l. meant_by l n) (append_assoc (entered (d + 1) c path) (own_scope d t) ps)
 
   -- the first of nodes
-  first-node : (d : ℕ) (t : TreeOf Name) (ts : TreesOf Name) (k : ℕ) (ps : List (PlacedScope Name)) (at : MeantAt) → AreInScopes d (more_trees t ts) k ps at → IsInScopes d t ps (below k at)
+  pub first-node : (d : ℕ) (t : TreeOf Name) (ts : TreesOf Name) (k : ℕ) (ps : List (PlacedScope Name)) (at : MeantAt) → AreInScopes d (more_trees t ts) k ps at → IsInScopes d t ps (below k at)
   first-node d t ts k ps at h path n = h 0 k t path n (omega arith) refl
 
   -- the other nodes
-  other-nodes : (d : ℕ) (t : TreeOf Name) (ts : TreesOf Name) (k : ℕ) (ps : List (PlacedScope Name)) (at : MeantAt) → AreInScopes d (more_trees t ts) k ps at → AreInScopes d ts (suc k) ps at
+  pub other-nodes : (d : ℕ) (t : TreeOf Name) (ts : TreesOf Name) (k : ℕ) (ps : List (PlacedScope Name)) (at : MeantAt) → AreInScopes d (more_trees t ts) k ps at → AreInScopes d ts (suc k) ps at
   other-nodes d t ts k ps at h j m c path n e q = h (suc j) m c path n (omega (arith, e)) q
 
   -- the arguments of the first message
-  first-arguments : (d : ℕ) (ts us : TreesOf Name) (k : ℕ) (ps : List (PlacedScope Name)) (at : MeantAt) → AreInScopes d (append ts us) k ps at → AreInScopes d ts k ps at
+  pub first-arguments : (d : ℕ) (ts us : TreesOf Name) (k : ℕ) (ps : List (PlacedScope Name)) (at : MeantAt) → AreInScopes d (append ts us) k ps at → AreInScopes d ts k ps at
   first-arguments d ts us k ps at h j m c path n e q = h j m c path n e (nth-left ts us j c q)
 
   -- the arguments of the other messages
-  other-arguments : (d : ℕ) (ts us : TreesOf Name) (k : ℕ) (ps : List (PlacedScope Name)) (at : MeantAt) → AreInScopes d (append ts us) k ps at → AreInScopes d us (k + count ts) ps at
+  pub other-arguments : (d : ℕ) (ts us : TreesOf Name) (k : ℕ) (ps : List (PlacedScope Name)) (at : MeantAt) → AreInScopes d (append ts us) k ps at → AreInScopes d us (k + count ts) ps at
   other-arguments d ts us k ps at h j m c path n e q = h (count ts + j) m c path n (omega (arith, e)) (nth-right ts us j ∙ q)
 
   mutual
     -- a node resolved by what names mean is the node resolved by what is declared round it
-    resolved-tree : (t : TreeOf Name) (d : ℕ) (ps : List (PlacedScope Name)) (at : MeantAt) → IsInScopes d t ps at → resolved at t ≡ tree_in (declared_in ps) t
+    resolved-tree : (t : TreeOf Name) (d : ℕ) (ps : List (PlacedScope Name)) (at : MeantAt) → IsInScopes d t ps at → resolved at t ≡ tree_in g (declared_in ps) t
     resolved-tree (var n) d ps at h = ap (λ (m : Meant). reading (reference_of m.meaning m.place n)) (h [] n) ∙ ap reading (reference-scopes ps (g n) n)
     resolved-tree (literal l) d ps at h = refl
     resolved-tree (send r s args) d ps at h =
@@ -126,17 +99,17 @@ module _ (g : Name → MeaningOf Name) where
         let k = below-node d (return t) ps at h in
         ap returning (resolved-tree t (d + 1) ps (below 0 at) (first-node (d + 1) t no_trees 0 ps at k))
 
-    resolved-trees : (ts : TreesOf Name) (d k : ℕ) (ps : List (PlacedScope Name)) (at : MeantAt) → AreInScopes d ts k ps at → resolved_trees at k ts ≡ trees_in (declared_in ps) ts
+    resolved-trees : (ts : TreesOf Name) (d k : ℕ) (ps : List (PlacedScope Name)) (at : MeantAt) → AreInScopes d ts k ps at → resolved_trees at k ts ≡ trees_in g (declared_in ps) ts
     resolved-trees no_trees d k ps at h = refl
     resolved-trees (more_trees t ts) d k ps at h =
         λ i. more_nodes (resolved-tree t d ps (below k at) (first-node d t ts k ps at h) i) (resolved-trees ts d (suc k) ps at (other-nodes d t ts k ps at h) i)
 
-    resolved-messages : (ms : MessagesOf Name) (d k : ℕ) (ps : List (PlacedScope Name)) (at : MeantAt) → AreInScopes d (all_arguments ms) k ps at → resolved_messages at k ms ≡ messages_in (declared_in ps) ms
+    resolved-messages : (ms : MessagesOf Name) (d k : ℕ) (ps : List (PlacedScope Name)) (at : MeantAt) → AreInScopes d (all_arguments ms) k ps at → resolved_messages at k ms ≡ messages_in g (declared_in ps) ms
     resolved-messages no_messages d k ps at h = refl
     resolved-messages (more_messages s args ms) d k ps at h =
         λ i. more_sends s (resolved-trees args d k ps at (first-arguments d args (all_arguments ms) k ps at h) i) (resolved-messages ms d (k + count args) ps at (other-arguments d args (all_arguments ms) k ps at h) i)
 
-    resolved-statements : (ss : StatementsOf Name) (d k : ℕ) (ps : List (PlacedScope Name)) (at : MeantAt) → AreInScopes d (statement_trees ss) k ps at → resolved_statements at k ss ≡ statements_in (declared_in ps) ss
+    resolved-statements : (ss : StatementsOf Name) (d k : ℕ) (ps : List (PlacedScope Name)) (at : MeantAt) → AreInScopes d (statement_trees ss) k ps at → resolved_statements at k ss ≡ statements_in g (declared_in ps) ss
     resolved-statements no_statements d k ps at h = refl
     resolved-statements (more_statements c t ss) d k ps at h =
         λ i. more_lines (resolved-tree t d ps (below k at) (first-node d t (statement_trees ss) k ps at h) i) (resolved-statements ss d (suc k) ps at (other-nodes d t (statement_trees ss) k ps at h) i)
@@ -144,7 +117,7 @@ module _ (g : Name → MeaningOf Name) where
   -- the statements of a scope whose names mean what they mean in it
   scope-statements : (scope : ScopeOf Name) (at : MeantAt) →
       ((m : ℕ) (path : List ℕ) (n : Name) → at (m ∷ path) n ≡ meant_by (unwrap_or (option_map (λ c. entered 1 c path) (nth (statement_trees scope.statements) m)) [] ++ (0, scope) ∷ []) n) →
-      resolved_statements at 0 scope.statements ≡ statements_in (declared_in ((0, scope) ∷ [])) scope.statements
+      resolved_statements at 0 scope.statements ≡ statements_in g (declared_in ((0, scope) ∷ [])) scope.statements
   scope-statements scope at h =
       resolved-statements scope.statements 1 0 ((0, scope) ∷ []) at
       (λ j m c path n e q.

@@ -34,8 +34,9 @@ use Rattle.resolved_model.specs.ResolvedActs.{ResolvedFrame, ResolvedClosure, Re
 use Rattle.resolved_model.specs.ResolvedEval.{ResolvedTask, at_node, at_turn, values_held, cells_from, within, without_locals, first_frame, parameters_in, reads_super, ResolvedEvaluator, reads_local, reads_reference, assigns_local, assigns_target, lines, node_values, does_code, enters_closure_with, follows_on, does_primitive_of, runs_method, runs_one, sends_to, sends_to_super, sends_message, takes_branch, does_sending, sends_each, returns_to, does_resolved, resolved_step, resolved_eval}
 use Rattle.resolved_model.specs.ResolvedRuns.{runs_doit, runs_doits, resolved_run_to, resolved_run}
 use Rattle.resolved_model.proofs.ResolvedStores.{no_closures, same, apart, Resolves, gives-resolved, fails-resolved, goes_home-resolved, stops-resolved, then_resolved, memory-resolved, looks-resolved, keeps-resolved, tells-resolved, pays-resolved, home-resolved}
-use Rattle.resolved_model.proofs.Environments.{Declared, reference_by, target_by, reference_in, target_in, opened, kind_in, place_in, is_cell, slots_declare, slots_stand, by_slots, declare-inside, stand-inside}
-use Rattle.resolved_model.proofs.ResolvingLemmas.{tree_in, trees_in, messages_in, statements_in, code_in, method-resolved, doit-resolved}
+use Rattle.resolved_model.specs.Environments.{Declared, opened, kind_in, place_in, reference_by, target_by, reference_in, target_in, tree_in, trees_in, messages_in, statements_in, code_in}
+use Rattle.resolved_model.proofs.Environments.{is_cell, slots_declare, slots_stand, by_slots, declare-inside, stand-inside}
+use Rattle.resolved_model.proofs.ResolvingLemmas.{method-resolved, doit-resolved}
 use Rattle.resolved_model.proofs.LookupLemmas.{plain-hierarchy, finds-resolved, finds_above-resolved, doits-class}
 use Rattle.resolved_model.proofs.ShapeLemmas.{branch_in, shape_in, shape-in}
 

@@ -8,8 +8,7 @@ use Rattle.run_model.specs.Values.{Name}
 use Rattle.run_model.specs.Shapes.{Branch, runs, is_just, Shape, two_ways, loops, a_message, plain_block, one_block, with_block, with_blocks, with_loop, shape_of}
 use Rattle.resolved_model.specs.ResolvedTrees.{ResolvedCode}
 use Rattle.resolved_model.specs.ResolvedShapes.{ResolvedBranch, runs_code, gives_just, ResolvedShape, chooses_way, repeats, as_message, plain_code, one_code, with_code, with_codes, with_repeat, resolved_shape}
-use Rattle.resolved_model.proofs.Environments.{Declared}
-use Rattle.resolved_model.proofs.ResolvingLemmas.{tree_in, trees_in, code_in}
+use Rattle.resolved_model.specs.Environments.{Declared, tree_in, trees_in, code_in}
 
 module _ (g : Name → MeaningOf Name) (env : List Declared) where
   -- a block that is run in place, with its names resolved

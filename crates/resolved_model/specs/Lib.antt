@@ -1,5 +1,6 @@
 pub mod ResolvedTrees
 pub mod Resolving
+pub mod Environments
 pub mod ResolvedImages
 pub mod ResolvedActs
 pub mod ResolvedShapes

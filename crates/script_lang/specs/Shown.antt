@@ -14,41 +14,42 @@ use Rattle.script_lang.specs.declared.command.Argument.TheVariants as argument
 use Rattle.script_lang.specs.declared.command.Command.{Command}
 use Rattle.script_lang.specs.declared.fault.ScriptFault.{ScriptFault}
 use Rattle.script_lang.specs.declared.fault.ScriptFault.TheVariants as fault
+use Rattle.script_model.specs.Words.{rename_class, add_class, remove_class, add_inst_var, rename_inst_var, remove_inst_var, push_up_inst_var, push_down_inst_var, add_class_var, rename_class_var, remove_class_var, push_up_class_var, push_down_class_var, add_class_side_var, rename_class_side_var, remove_class_side_var, rename_selector, remove_method, push_up_method, push_down_method, remove_parameter, abstract_inst_var, extract_method, inline_method, extract_temp, inline_temp, rename_temp, undo, redo, create_accessors, extract_superclass, push_up_with_methods}
 
 -- the word of a command
 abbrev pub word_of : Verb → List ℕ
-word_of verb.RenameClass = codes "renameClass"
-word_of verb.AddClass = codes "addClass"
-word_of verb.RemoveClass = codes "removeClass"
-word_of verb.AddInstVar = codes "addInstVar"
-word_of verb.RenameInstVar = codes "renameInstVar"
-word_of verb.RemoveInstVar = codes "removeInstVar"
-word_of verb.PushUpInstVar = codes "pushUpInstVar"
-word_of verb.PushDownInstVar = codes "pushDownInstVar"
-word_of verb.AddClassVar = codes "addClassVar"
-word_of verb.RenameClassVar = codes "renameClassVar"
-word_of verb.RemoveClassVar = codes "removeClassVar"
-word_of verb.PushUpClassVar = codes "pushUpClassVar"
-word_of verb.PushDownClassVar = codes "pushDownClassVar"
-word_of verb.AddClassSideVar = codes "addClassSideVar"
-word_of verb.RenameClassSideVar = codes "renameClassSideVar"
-word_of verb.RemoveClassSideVar = codes "removeClassSideVar"
-word_of verb.RenameSelector = codes "renameSelector"
-word_of verb.RemoveMethod = codes "removeMethod"
-word_of verb.PushUpMethod = codes "pushUpMethod"
-word_of verb.PushDownMethod = codes "pushDownMethod"
-word_of verb.RemoveParameter = codes "removeParameter"
-word_of verb.AbstractInstVar = codes "abstractInstVar"
-word_of verb.ExtractMethod = codes "extractMethod"
-word_of verb.InlineMethod = codes "inlineMethod"
-word_of verb.ExtractTemp = codes "extractTemp"
-word_of verb.InlineTemp = codes "inlineTemp"
-word_of verb.RenameTemp = codes "renameTemp"
-word_of verb.Undo = codes "undo"
-word_of verb.Redo = codes "redo"
-word_of verb.CreateAccessors = codes "createAccessors"
-word_of verb.ExtractSuperclass = codes "extractSuperclass"
-word_of verb.PushUpWithMethods = codes "pushUpWithMethods"
+word_of verb.RenameClass = rename_class
+word_of verb.AddClass = add_class
+word_of verb.RemoveClass = remove_class
+word_of verb.AddInstVar = add_inst_var
+word_of verb.RenameInstVar = rename_inst_var
+word_of verb.RemoveInstVar = remove_inst_var
+word_of verb.PushUpInstVar = push_up_inst_var
+word_of verb.PushDownInstVar = push_down_inst_var
+word_of verb.AddClassVar = add_class_var
+word_of verb.RenameClassVar = rename_class_var
+word_of verb.RemoveClassVar = remove_class_var
+word_of verb.PushUpClassVar = push_up_class_var
+word_of verb.PushDownClassVar = push_down_class_var
+word_of verb.AddClassSideVar = add_class_side_var
+word_of verb.RenameClassSideVar = rename_class_side_var
+word_of verb.RemoveClassSideVar = remove_class_side_var
+word_of verb.RenameSelector = rename_selector
+word_of verb.RemoveMethod = remove_method
+word_of verb.PushUpMethod = push_up_method
+word_of verb.PushDownMethod = push_down_method
+word_of verb.RemoveParameter = remove_parameter
+word_of verb.AbstractInstVar = abstract_inst_var
+word_of verb.ExtractMethod = extract_method
+word_of verb.InlineMethod = inline_method
+word_of verb.ExtractTemp = extract_temp
+word_of verb.InlineTemp = inline_temp
+word_of verb.RenameTemp = rename_temp
+word_of verb.Undo = undo
+word_of verb.Redo = redo
+word_of verb.CreateAccessors = create_accessors
+word_of verb.ExtractSuperclass = extract_superclass
+word_of verb.PushUpWithMethods = push_up_with_methods
 
 -- whether the word is that of the command
 abbrev pub is_word_of : List ℕ → Verb → Bool

@@ -5,6 +5,7 @@ use Rattle.std.specs.Option.{option_map, option_map_or}
 use Rattle.rb_base.specs.Names.{text_eq}
 use Rattle.text_model.specs.Literals.{is_identifier, is_selector}
 use Rattle.command_words.specs.Spelling as decimal
+use Rattle.script_model.specs.Words.{rename_class, add_class, remove_class, add_inst_var, rename_inst_var, remove_inst_var, push_up_inst_var, push_down_inst_var, add_class_var, rename_class_var, remove_class_var, push_up_class_var, push_down_class_var, add_class_side_var, rename_class_side_var, remove_class_side_var, rename_selector, remove_method, push_up_method, push_down_method, remove_parameter, abstract_inst_var, extract_method, inline_method, extract_temp, inline_temp, rename_temp, undo, redo, create_accessors, extract_superclass, push_up_with_methods, add_method, add_parameter, apply_rule}
 
 -- what a word behind that of a command is
 pub data Place : Type 0 where
@@ -47,43 +48,43 @@ part_and ps = method_and (a_number ∷ a_number ∷ ps)
 -- the commands
 abbrev pub table : List Row
 table =
-    row (codes "renameClass") (takes (a_class ∷ a_class ∷ []))
-    ∷ row (codes "addClass") (takes_classes_behind (a_class ∷ a_class ∷ []))
-    ∷ row (codes "removeClass") (takes (a_class ∷ []))
-    ∷ row (codes "addInstVar") (takes (a_class ∷ a_variable ∷ []))
-    ∷ row (codes "renameInstVar") (takes (a_class ∷ a_variable ∷ a_variable ∷ []))
-    ∷ row (codes "removeInstVar") (takes (a_class ∷ a_variable ∷ []))
-    ∷ row (codes "pushUpInstVar") (takes (a_class ∷ a_variable ∷ []))
-    ∷ row (codes "pushDownInstVar") (takes (a_class ∷ a_variable ∷ []))
-    ∷ row (codes "addClassVar") (takes (a_class ∷ a_variable ∷ []))
-    ∷ row (codes "renameClassVar") (takes (a_class ∷ a_variable ∷ a_variable ∷ []))
-    ∷ row (codes "removeClassVar") (takes (a_class ∷ a_variable ∷ []))
-    ∷ row (codes "pushUpClassVar") (takes (a_class ∷ a_variable ∷ []))
-    ∷ row (codes "pushDownClassVar") (takes (a_class ∷ a_variable ∷ a_class ∷ []))
-    ∷ row (codes "addClassSideVar") (takes (a_class ∷ a_variable ∷ []))
-    ∷ row (codes "renameClassSideVar") (takes (a_class ∷ a_variable ∷ a_variable ∷ []))
-    ∷ row (codes "removeClassSideVar") (takes (a_class ∷ a_variable ∷ []))
-    ∷ row (codes "renameSelector") (takes (a_selector ∷ a_selector ∷ []))
-    ∷ row (codes "removeMethod") (takes (method_and []))
-    ∷ row (codes "pushUpMethod") (takes (method_and []))
-    ∷ row (codes "pushDownMethod") (takes (method_and []))
-    ∷ row (codes "removeParameter") (takes (a_selector ∷ a_number ∷ a_selector ∷ []))
-    ∷ row (codes "abstractInstVar") (takes (a_class ∷ a_variable ∷ []))
-    ∷ row (codes "extractMethod") (takes (part_and (a_selector ∷ [])))
-    ∷ row (codes "inlineMethod") (takes (part_and []))
-    ∷ row (codes "extractTemp") (takes (part_and (a_variable ∷ [])))
-    ∷ row (codes "inlineTemp") (takes (method_and (a_variable ∷ [])))
-    ∷ row (codes "renameTemp") (takes (method_and (a_variable ∷ a_variable ∷ [])))
-    ∷ row (codes "undo") (takes [])
-    ∷ row (codes "redo") (takes [])
-    ∷ row (codes "createAccessors") (takes (a_class ∷ a_variable ∷ []))
-    ∷ row (codes "extractSuperclass") (takes_classes_behind (a_class ∷ a_class ∷ a_class ∷ []))
-    ∷ row (codes "pushUpWithMethods") (takes (a_class ∷ a_variable ∷ []))
+    row rename_class (takes (a_class ∷ a_class ∷ []))
+    ∷ row add_class (takes_classes_behind (a_class ∷ a_class ∷ []))
+    ∷ row remove_class (takes (a_class ∷ []))
+    ∷ row add_inst_var (takes (a_class ∷ a_variable ∷ []))
+    ∷ row rename_inst_var (takes (a_class ∷ a_variable ∷ a_variable ∷ []))
+    ∷ row remove_inst_var (takes (a_class ∷ a_variable ∷ []))
+    ∷ row push_up_inst_var (takes (a_class ∷ a_variable ∷ []))
+    ∷ row push_down_inst_var (takes (a_class ∷ a_variable ∷ []))
+    ∷ row add_class_var (takes (a_class ∷ a_variable ∷ []))
+    ∷ row rename_class_var (takes (a_class ∷ a_variable ∷ a_variable ∷ []))
+    ∷ row remove_class_var (takes (a_class ∷ a_variable ∷ []))
+    ∷ row push_up_class_var (takes (a_class ∷ a_variable ∷ []))
+    ∷ row push_down_class_var (takes (a_class ∷ a_variable ∷ a_class ∷ []))
+    ∷ row add_class_side_var (takes (a_class ∷ a_variable ∷ []))
+    ∷ row rename_class_side_var (takes (a_class ∷ a_variable ∷ a_variable ∷ []))
+    ∷ row remove_class_side_var (takes (a_class ∷ a_variable ∷ []))
+    ∷ row rename_selector (takes (a_selector ∷ a_selector ∷ []))
+    ∷ row remove_method (takes (method_and []))
+    ∷ row push_up_method (takes (method_and []))
+    ∷ row push_down_method (takes (method_and []))
+    ∷ row remove_parameter (takes (a_selector ∷ a_number ∷ a_selector ∷ []))
+    ∷ row abstract_inst_var (takes (a_class ∷ a_variable ∷ []))
+    ∷ row extract_method (takes (part_and (a_selector ∷ [])))
+    ∷ row inline_method (takes (part_and []))
+    ∷ row extract_temp (takes (part_and (a_variable ∷ [])))
+    ∷ row inline_temp (takes (method_and (a_variable ∷ [])))
+    ∷ row rename_temp (takes (method_and (a_variable ∷ a_variable ∷ [])))
+    ∷ row undo (takes [])
+    ∷ row redo (takes [])
+    ∷ row create_accessors (takes (a_class ∷ a_variable ∷ []))
+    ∷ row extract_superclass (takes_classes_behind (a_class ∷ a_class ∷ a_class ∷ []))
+    ∷ row push_up_with_methods (takes (a_class ∷ a_variable ∷ []))
     ∷ []
 
 -- the words of commands that are still to come
 abbrev pub words_to_come : List (List ℕ)
-words_to_come = codes "addMethod" ∷ codes "addParameter" ∷ codes "applyRule" ∷ []
+words_to_come = add_method ∷ add_parameter ∷ apply_rule ∷ []
 
 abbrev pub row_of : List ℕ → Option Row
 row_of w = find (λ (r : Row). text_eq w r.word) table

@@ -65,7 +65,7 @@ end-returned n es h v m k true = refl
 end-returned n es h v m k false = refl
 
 -- a home that ends in a trace
-cut-home : (n : ℕ) (es : List Event) (ss : List Step) (e : End Value) (h : ℕ) → cut_at n es ss (end_of_home h e) ≡ out_of_home h (cut_at n es ss e)
+pub cut-home : (n : ℕ) (es : List Event) (ss : List Step) (e : End Value) (h : ℕ) → cut_at n es ss (end_of_home h e) ≡ out_of_home h (cut_at n es ss e)
 cut-home n es [] (gave v m) h = refl
 cut-home n es [] (returned k v m) h = end-returned n es h v m k (nat_eq k h)
 cut-home n es [] (failed_by x m) h = refl

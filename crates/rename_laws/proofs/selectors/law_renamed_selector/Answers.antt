@@ -9,7 +9,7 @@ use Rattle.mapped_model.specs.NamesOfImages.{names_in}
 use Rattle.rename_model.specs.Conditions.{is_selector_fresh}
 use Rattle.rename_model.specs.ClassRenamed.{WritingOf}
 use Rattle.rename_model.specs.SelectorRenamed.{selector_renamed}
-use Rattle.rename_laws.specs.OneRenamed.{one_selector}
+use Rattle.rename_model.specs.OneRenamed.{one_selector}
 use Rattle.rename_laws.proofs.RenamedSelector.{maps, changed, single, words-stay, as-renaming, control-apart}
 use Rattle.rename_laws.proofs.selectors.law_renamed_selector.Goals as goal
 

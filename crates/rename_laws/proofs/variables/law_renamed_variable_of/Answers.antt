@@ -7,7 +7,7 @@ use Rattle.resolved_model.proofs.LookupLemmas.{everywhere}
 use Rattle.mapped_model.specs.NamesOfImages.{names_in}
 use Rattle.mapped_model.specs.RenamedVariables.{with_instance_renamed, with_class_side_renamed}
 use Rattle.rename_model.specs.VariableRenamed.{variable_renamed}
-use Rattle.rename_laws.specs.OneRenamed.{one_variable}
+use Rattle.rename_model.specs.OneRenamed.{one_variable}
 use Rattle.rename_laws.proofs.VariableImages.{image-changed}
 use Rattle.rename_laws.proofs.SharedVariable.{shared_maps, exchanged-apart, shared-may}
 use Rattle.rename_laws.proofs.ClassesBelow.{called-below}

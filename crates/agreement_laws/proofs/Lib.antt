@@ -1,0 +1,13 @@
+pub mod Tests
+pub mod Filtered
+pub mod KnownNodes
+pub mod MethodsFound
+pub mod EntriesAgree
+pub mod SameTrees
+pub mod SameMethods
+pub mod CodeKnown
+pub mod SameAbove
+pub mod PlainChains
+pub mod SameFound
+pub mod KernelChains
+pub mod ImagesAgree

@@ -1,0 +1,4 @@
+pub mod Readings
+pub mod Lines
+pub mod Applied
+pub mod Promised

@@ -1,0 +1,48 @@
+-- What is promised of the file that `apply` prints.
+use Rattle.std.specs.Prelude.{◌≡◌, List, Ok}
+use Rattle.token_model.specs.declared.kind.Dialect.TheVariants.{Second}
+use Rattle.st_kernel.specs.KernelText.{prelude_text}
+use Rattle.image_model.specs.Image.{DoItOf, ImageOf, plus}
+use Rattle.run_model.specs.Matched.{AreMatched}
+use Rattle.file_model.specs.Reading.{IsImageOf}
+use Rattle.file_model.specs.Written.{file_of}
+use Rattle.file_rereading.specs.Rereading.{IsWithinLimits, with_heads}
+use Rattle.history_model.specs.Verdicts.{IsRefusedAt}
+use Rattle.session_model.specs.Admitted.{Admits, nil_doit}
+use Rattle.session_model.specs.Scripts.{Request, History, Refusal, rules, verdict_in}
+use Rattle.apply_model.specs.Readings.{Text}
+use Rattle.apply_model.specs.Lines.{refusal_line}
+use Rattle.apply_model.specs.Applied.{AsksFor}
+
+-- A start expression that a script admits is one more do-it of the image after, and the two images with it are matched up to what the script renames; so is the image with which the printed text is read again.
+pub record IsKeptWith (i : ImageOf Text) (requests : List Request) (h : History) (e : DoItOf Text) (a : Admits i requests e) : Type 0 where
+  pub last : DoItOf Text
+  pub added : a.history.now.image ≡ plus h.now.image last
+  pub renaming : a.history.now.renaming ≡ h.now.renaming
+  pub matched : AreMatched (plus i e) (plus h.now.image last) h.now.renaming
+  pub matched_again : AreMatched (plus i e) (plus (with_heads h.now.image) last) h.now.renaming
+
+-- The printed text is the file of the image that the script makes of the one that the first text makes. The two images are matched up to what the script renames, also with each start expression that the script admits; `nil` is one. Within the limits of a file the printed text is read again as the image after, with the do-its at its head counted anew, and the image that is read is matched too.
+pub record IsChangedFile (text script printed : Text) : Type 0 where
+  pub image : ImageOf Text
+  pub is_image : IsImageOf Second prelude_text text image
+  pub requests : List Request
+  pub asks : AsksFor script requests
+  pub history : History
+  pub accepted : verdict_in image requests ≡ Ok history
+  pub file : printed ≡ file_of history.now.image
+  pub matched : AreMatched image history.now.image history.now.renaming
+  pub read_again : IsWithinLimits history.now.image → IsImageOf Second prelude_text printed (with_heads history.now.image)
+  pub matched_again : AreMatched image (with_heads history.now.image) history.now.renaming
+  pub expressions : (e : DoItOf Text) (a : Admits image requests e) → IsKeptWith image requests history e a
+  pub nil_admitted : Admits image requests nil_doit
+
+-- The printed line tells the first command that is refused, with its first condition that is false; the commands before it are accepted.
+pub record IsRefusalOf (text script printed : Text) : Type 0 where
+  pub image : ImageOf Text
+  pub is_image : IsImageOf Second prelude_text text image
+  pub requests : List Request
+  pub asks : AsksFor script requests
+  pub refusal : Refusal
+  pub at : IsRefusedAt rules image requests refusal
+  pub file : printed ≡ refusal_line refusal

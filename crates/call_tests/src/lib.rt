@@ -1,0 +1,18 @@
+//! Tests of the calls that stand in no case of the program: that they succeed where there is memory, and what they answer. The
+//! crate has nothing else.
+#![tactic(auto)]
+
+#[cfg(test)]
+mod chunks;
+#[cfg(test)]
+mod classes;
+#[cfg(test)]
+mod outside;
+#[cfg(test)]
+mod parts;
+#[cfg(test)]
+mod places;
+#[cfg(test)]
+mod scopes;
+#[cfg(test)]
+mod scripts;

@@ -1,0 +1,10 @@
+pub mod WithinTraces
+pub mod SameActs
+pub mod EditedShapes
+pub mod FoundEdited
+pub mod EditedRuns
+pub mod LawActs
+pub mod LawsWithin
+pub mod EditedMatched
+pub mod RewrittenSides
+pub mod RewrittenImages

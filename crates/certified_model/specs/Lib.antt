@@ -1,0 +1,3 @@
+pub mod LawSteps
+pub mod Marks
+pub mod Certificates

@@ -1,0 +1,9 @@
+pub mod ChangedImages
+pub mod SameRule
+pub mod CertifiedRule
+pub mod MarkWords
+pub mod StepsAt
+pub mod LawTurns
+pub mod TableTurns
+pub mod FilledAlike
+pub mod DerivedSteps

@@ -1,0 +1,3 @@
+mod ExamplesJudged
+mod CodeJudged
+mod ScriptsJudged

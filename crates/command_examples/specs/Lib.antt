@@ -1,0 +1,10 @@
+pub mod ExampleImage
+pub mod Examples
+pub mod Refused
+pub mod Orders
+pub mod Listed
+pub mod Compared
+pub mod CodeImages
+pub mod CodeRows
+pub mod CodeLists
+pub mod Scripts

@@ -1,0 +1,9 @@
+mod JudgedBeside
+mod Accessors
+mod ScriptsKeep
+mod NilUses
+mod NilCode
+mod NilHolds
+mod NilNeeds
+mod NilAdmitted
+mod RenamingsSaid

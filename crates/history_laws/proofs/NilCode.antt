@@ -1,0 +1,91 @@
+-- With `nil` as one more do-it, conditions that only commands have which change code are as they are without it.
+use Rattle.std.proofs.Common.{◌≡◌, ℕ, Bool, true, false, ◌&&◌, ◌||◌, List, [], ◌∷◌, Option, Some, None, refl, ap, ◌∙◌}
+use Rattle.std.specs.Prelude.{◌-◌, nat_le, codes, option_map, if◌then◌else◌}
+use Rattle.std.specs.List.{AllByRecursion, list_all}
+use Rattle.std.specs.Option.{option_map_or}
+use Rattle.std.proofs.lemmas.List.Folds.{list_all-append}
+use Rattle.rb_base.specs.Names.{text_eq}
+use Rattle.tree_model.specs.Tree.{TreeOf, var, TreesOf, SequenceOf}
+use Rattle.tree_model.specs.Path.{nth}
+use Rattle.tree_model.specs.Measure.{sequence_height}
+use Rattle.scope_model.specs.SpecialNames.{is_pseudo_variable}
+use Rattle.image_model.specs.Image.{EntryOf, DoItOf, ImageOf, plus}
+use Rattle.image_model.specs.Words.{text_words}
+use Rattle.image_model.specs.Means.{means_in_doit}
+use Rattle.image_model.specs.Nodes.{in_doit, NodeOf, nodes_of, image_nodes}
+use Rattle.run_model.specs.Values.{Name}
+use Rattle.rename_model.specs.ClassRenamed.{WritingOf}
+use Rattle.command_model.specs.Asked.{text_asked}
+use Rattle.command_model.specs.Commands.{CommandOf, AbstractInstVar, InlineMethod}
+use Rattle.command_model.specs.Conditions.{Inlinable}
+use Rattle.command_model.specs.Walk.{rebuilt_sequence}
+use Rattle.command_model.specs.Accessors.{made}
+use Rattle.command_model.specs.CodeEffects.{code_effect}
+use Rattle.command_model.specs.ParameterConditions.{is_declared, passed_by, is_shallow, counts_argument, may_be_dropped, are_arguments_plain}
+use Rattle.command_model.specs.CodeHolds.{no_writing}
+use Rattle.command_model.specs.Holds.{holds}
+use Rattle.session_model.specs.Admitted.{nil_doit}
+use Rattle.command_model.proofs.CodeBeside.{last_after, code-beside}
+use Rattle.history_laws.proofs.NilUses.{and-false, all-implied, nodes-plus, MeansAsMuch, meanings-agree}
+
+-- a test and what is true
+true-too : (b : Bool) → (b && true) ≡ b
+true-too true = refl
+true-too false = refl
+
+-- tests that agree on each item
+same-all : {A : Type 0} (p q : A → Bool) (xs : List A) → AllByRecursion (λ x. p x ≡ q x) xs → list_all p xs ≡ list_all q xs
+same-all p q [] agree = refl
+same-all p q (x ∷ xs) agree = λ j. agree.0 j && same-all p q xs agree.1 j
+
+module _ (i : ImageOf Name) where
+  -- no command that changes code changes `nil`
+  pub last-same : (writing : WritingOf Name) (c : CommandOf Name) → last_after text_asked writing i nil_doit c ≡ nil_doit
+  unfolding is_pseudo_variable
+  last-same writing (AbstractInstVar c x setter given) =
+      let body : SequenceOf Name = rebuilt_sequence (made text_words writing (codes "self") c x setter given i (means_in_doit text_words i nil_doit)) nil_doit.body in
+      ap (λ b. let d : DoItOf Name = record { body = body; source = writing.doit_text body } in if b || false then d else nil_doit) (and-false (text_eq x (codes "nil")))
+  last-same writing c = refl
+
+  -- an image with `nil` has no higher trees
+  one-shallow : (j : ImageOf Name) → is_shallow (plus j nil_doit) ≡ is_shallow j
+  one-shallow j =
+      ap (λ b. list_all (λ (m : EntryOf Name). m.kernel || nat_le (sequence_height m.tree.body) 200) j.methods && b)
+      (list_all-append (λ (d : DoItOf Name). nat_le (sequence_height d.body) 200) j.doits (nil_doit ∷ [])
+      ∙ true-too (list_all (λ (d : DoItOf Name). nat_le (sequence_height d.body) 200) j.doits))
+
+  any-shallow : (o : Option (ImageOf Name)) → option_map_or is_shallow (option_map (λ j. plus j nil_doit) o) false ≡ option_map_or is_shallow o false
+  any-shallow None = refl
+  any-shallow (Some j) = one-shallow j
+
+  pub shallow-plus : (c : CommandOf Name) →
+      option_map_or is_shallow (code_effect text_asked (plus i nil_doit) no_writing c) false ≡ option_map_or is_shallow (code_effect text_asked i no_writing c) false
+  shallow-plus c =
+      ap (λ o. option_map_or is_shallow o false)
+      (code-beside text_asked no_writing i nil_doit c ∙ ap (λ d. option_map (λ j. plus j d) (code_effect text_asked i no_writing c)) (last-same no_writing c))
+      ∙ any-shallow (code_effect text_asked i no_writing c)
+
+  -- the target of a message
+  pub inlinable-plus : (c : CommandOf Name) (d : Name) (meta : Bool) (s : Name) → holds text_asked (plus i nil_doit) c (Inlinable d meta s) ≡ holds text_asked i c (Inlinable d meta s)
+  inlinable-plus (InlineMethod e side t from to) d meta s = refl
+  inlinable-plus c d meta s = refl
+
+  -- what may be left out of messages
+  dropped-plus : (e : NodeOf Name) → MeansAsMuch i e → (t : TreeOf Name) → may_be_dropped text_asked (plus i nil_doit) e t ≡ may_be_dropped text_asked i e t
+  dropped-plus e same (var n) = ap is_declared (same e.use_of.path n)
+  dropped-plus e same t = refl
+
+  abbrev drops : ImageOf Name → Name → ℕ → NodeOf Name → Bool
+  drops j s k e = list_all (λ (args : TreesOf Name). option_map_or (may_be_dropped text_asked j e) (nth args (k - 1)) false) (passed_by text_eq s e.tree)
+
+  pub arguments-plus : (s : Name) (k : ℕ) → are_arguments_plain text_asked (plus i nil_doit) s k ≡ are_arguments_plain text_asked i s k
+  arguments-plus s k =
+      let more = nodes-plus i in
+      ap (λ b. counts_argument text_asked s k && b)
+      (ap (list_all (drops (plus i nil_doit) s k)) more.1
+      ∙ list_all-append (drops (plus i nil_doit) s k) (image_nodes i) (nodes_of (in_doit more.0) nil_doit.body)
+      ∙ true-too (list_all (drops (plus i nil_doit) s k) (image_nodes i))
+      ∙ same-all (drops (plus i nil_doit) s k) (drops i s k) (image_nodes i)
+      (all-implied (MeansAsMuch i) (λ e. drops (plus i nil_doit) s k e ≡ drops i s k e)
+      (λ e same j. list_all (λ (args : TreesOf Name). option_map_or (λ t. dropped-plus e same t j) (nth args (k - 1)) false) (passed_by text_eq s e.tree))
+      (image_nodes i) (meanings-agree i)))

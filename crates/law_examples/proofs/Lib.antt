@@ -1,0 +1,5 @@
+mod PatternsMatched
+mod ImagesStripped
+mod ExampleInlined
+mod ExampleExtracted
+mod ExampleAccessed

@@ -1,0 +1,5 @@
+pub mod PatternExamples
+pub mod ParameterExamples
+pub mod StripExamples
+pub mod CertificateExamples
+pub mod UnfoldedExamples

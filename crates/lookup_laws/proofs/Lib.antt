@@ -1,0 +1,16 @@
+pub mod SameRuns
+pub mod MethodsApart
+pub mod OtherSelectors
+pub mod Unsent
+pub mod RemovedMethod
+pub mod Differences
+pub mod Removal
+pub mod Reached
+pub mod MovedMethods
+pub mod PushedDown
+pub mod MethodCommands
+pub mod SpreadChains
+pub mod ClassesApart
+pub mod RemovedClass
+pub mod AddedClass
+pub mod ClassCommands

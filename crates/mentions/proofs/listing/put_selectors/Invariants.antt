@@ -1,0 +1,8 @@
+use Rattle.std.proofs.Common.{◌≡◌, ◌++◌, drop}
+use Rattle.st_tree.specs.View.{messages_of}
+use Rattle.mentions.specs.Mentions.{selectors_of}
+use Rattle.mentions.proofs.listing.put_selectors.Given as goal
+
+abbrev pub invariant-loop-message : goal.invariant-loop-message
+invariant-loop-message l =
+    l.numbers.items ++ selectors_of (messages_of (drop l.message-index l.messages)) ≡ l.initial.numbers.items ++ selectors_of (messages_of l.messages)

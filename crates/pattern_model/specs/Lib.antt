@@ -1,0 +1,10 @@
+pub mod Patterns
+pub mod Words
+pub mod Bindings
+pub mod Fill
+pub mod Matches
+pub mod MatchTree
+pub mod Search
+pub mod Rewritten
+pub mod Named
+pub mod Spelled

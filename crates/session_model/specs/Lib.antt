@@ -1,0 +1,7 @@
+pub mod Actions
+pub mod Steps
+pub mod OwnConditions
+pub mod Scripts
+pub mod Admitted
+pub mod Lawful
+pub mod KeepsRuns

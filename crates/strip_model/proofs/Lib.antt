@@ -1,0 +1,6 @@
+pub mod Listed
+pub mod Least
+pub mod KnownNodes
+pub mod MappedReach
+pub mod NumberedReach
+pub mod Members

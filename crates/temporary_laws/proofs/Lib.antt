@@ -1,0 +1,3 @@
+mod Declarations
+mod Walk
+mod Images

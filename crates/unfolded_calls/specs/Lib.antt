@@ -1,0 +1,3 @@
+pub mod Unfolding
+pub mod SendsOnly
+pub mod SameContexts

@@ -1,0 +1,15 @@
+pub mod ShapePairs
+pub mod Congruence
+pub mod Unchanged
+pub mod Replaced
+pub mod Images
+pub mod NamesThere
+pub mod Filled
+pub mod Inlined
+pub mod OnePart
+pub mod InlinedOne
+pub mod Refilled
+pub mod SelfFilled
+pub mod ExtractedOne
+pub mod Stored
+pub mod AccessedBecomes

@@ -1,0 +1,9 @@
+pub mod Becoming
+pub mod PartsReplaced
+pub mod ImagesChanged
+pub mod Standing
+pub mod Inlining
+pub mod InlinedOnce
+pub mod Fillings
+pub mod ExtractedOnce
+pub mod Accessed

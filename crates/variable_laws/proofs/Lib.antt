@@ -1,0 +1,19 @@
+mod NamesPut
+mod ClassesChanged
+mod Alike
+mod Stays
+mod Links
+mod Definers
+pub mod Conditions
+mod AtNodes
+mod Added
+mod Removed
+mod ClassesThere
+mod PushedUp
+mod PushedDown
+mod Free
+mod Swapped
+mod SharedMoved
+mod SharedUp
+mod SharedDown
+mod Runs

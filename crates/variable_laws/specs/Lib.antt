@@ -1,0 +1,2 @@
+pub mod KernelDoIts
+pub mod OfVariables
