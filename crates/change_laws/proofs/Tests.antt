@@ -2,6 +2,7 @@
 use Rattle.std.proofs.Common.{◌≡◌, inl, inr, Bool, true, false, List, [], ◌∷◌, map, Option, Some, None, slice_get, refl, ap, sym, subst, ◌∙◌, arith, true≢false, ℕ, suc}
 use Rattle.std.specs.Prelude.{◌&&◌, option_map}
 use Rattle.std.specs.Bool.{beq}
+use Rattle.std.specs.Option.{option_eq}
 use Rattle.std.proofs.lemmas.Bool.{and_parts}
 use Rattle.std.proofs.lemmas.Option.{slice_get-map}
 use Rattle.rb_base.specs.Names.{text_eq}
@@ -16,7 +17,7 @@ use Rattle.file_model.specs.Written.{run_of}
 use Rattle.file_laws.proofs.Moves.{text_equal}
 use Rattle.file_laws.proofs.Methods.{beq_equal}
 use Rattle.file_laws.proofs.Redefined.{no_repeat_behind}
-use Rattle.change_model.specs.Equal.{names_eq, name_eq, is_namesake, is_counterpart, is_equal_class, is_equal_method}
+use Rattle.change_model.specs.Equal.{names_eq, is_namesake, is_counterpart, is_equal_class, is_equal_method}
 use Rattle.change_laws.specs.Merged.{Has, AreApart}
 use Rattle.change_laws.proofs.Placing.{all_from}
 
@@ -24,11 +25,11 @@ pub side_same : (b : Bool) → beq b b ≡ true
 side_same true = refl
 side_same false = refl
 
-pub name_same : (o : Option Text) → name_eq o o ≡ true
+pub name_same : (o : Option Text) → option_eq text_eq o o ≡ true
 name_same None = refl
 name_same (Some n) = text_eq-refl n
 
-name_equal : (o p : Option Text) → name_eq o p ≡ true → o ≡ p
+name_equal : (o p : Option Text) → option_eq text_eq o p ≡ true → o ≡ p
 name_equal None None h = refl
 name_equal None (Some n) h = absurd (true≢false (sym h))
 name_equal (Some m) None h = absurd (true≢false (sym h))
@@ -69,9 +70,9 @@ equal_classes c d h =
     let four = names_eq c.class_side d.class_side && five in
     let three = names_eq c.shared d.shared && four in
     let two = names_eq c.instance d.instance && three in
-    let one = name_eq c.superclass d.superclass && two in
+    let one = option_eq text_eq c.superclass d.superclass && two in
     let a = and_parts (text_eq c.name d.name) one h in
-    let b = and_parts (name_eq c.superclass d.superclass) two a.1 in
+    let b = and_parts (option_eq text_eq c.superclass d.superclass) two a.1 in
     let e = and_parts (names_eq c.instance d.instance) three b.1 in
     let f = and_parts (names_eq c.shared d.shared) four e.1 in
     let g = and_parts (names_eq c.class_side d.class_side) five f.1 in
