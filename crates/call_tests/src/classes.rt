@@ -7,7 +7,7 @@ use rb_base::{Ids, Memory, NameId, Text};
 use std::alloc::Global;
 
 /// A class of a name without variables.
-fn class(alloc: Global, name: usize, superclass: Option<ClassId>) -> ClassRec
+pub(crate) fn class(alloc: Global, name: usize, superclass: Option<ClassId>) -> ClassRec
     ensures { result.superclass ≡ superclass }
 {
     ClassRec {

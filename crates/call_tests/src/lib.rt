@@ -13,6 +13,8 @@ mod parts;
 #[cfg(test)]
 mod places;
 #[cfg(test)]
+mod rooms;
+#[cfg(test)]
 mod scopes;
 #[cfg(test)]
 mod scripts;

@@ -1,4 +1,6 @@
 // Texts, and where their nodes stand.
+ghost use Rattle.std.specs.Prelude.{◌≡◌, IfOk};
+
 use rb_base::{Memory, Span};
 use st_spans::{
     ParseFault, Spans, doit_spans, lend_part, part_of_span, span_of, span_of_doit, spans,
@@ -37,7 +39,9 @@ const DOIT_NODES: &[Row] = &[
 ];
 
 /// The path of these steps.
-pub fn path(alloc: Global, steps: &[usize]) -> Result<Path, Memory> {
+pub(crate) fn path(alloc: Global, steps: &[usize]) -> Result<Path, Memory>
+    ensures { IfOk result (λ path. path ≡ steps.now) }
+{
     Ok(Path::from_vec(Vec::from_slice(alloc, steps)?))
 }
 
