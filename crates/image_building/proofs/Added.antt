@@ -22,6 +22,8 @@ use Rattle.class_table.specs.View.{live, class_name, class_of, entry_of, number_
 use Rattle.class_table.specs.Valid.{IsLive, IsOrderly}
 use Rattle.class_table.specs.Finding.{is_named, named_in}
 use Rattle.class_table.proofs.Live.{live-same, find-agree, there}
+use Rattle.live_slots.specs.Live.{AllLive}
+use Rattle.live_slots.proofs.Keeping.{all-class, all-method}
 use Rattle.class_table.proofs.KeptLemmas.{method-added}
 use Rattle.class_table.proofs.ClassLemmas.{class-added}
 use Rattle.image_draft.specs.declared.method_draft.MethodDraft.{MethodDraft}
@@ -129,6 +131,7 @@ module _ (table : ClassTable) (s : Slots) (b : IsBuilt table s) where
       pub class_built : (k : ℕ) (noted : ClassTable) → k ≡ length s.classes → ((q : ℕ) → get nat_eq noted q ≡ (if nat_eq c.name q then Some k else get nat_eq table q)) → IsBuilt noted t
       class_built k noted at h = record {
         orderly = subst IsOrderly (sym same) class_orderly;
+        live = subst AllLive (sym same) (all-class s (rec_of c) b.live);
         by_name = λ q.
             h q
             ∙ (λ i. if nat_eq c.name q then Some (at i) else b.by_name q i)
@@ -159,4 +162,4 @@ module _ (table : ClassTable) (s : Slots) (b : IsBuilt table s) where
       method_image_added = ap (λ (x : Slots). (number_image x).methods) added ∙ method_image
 
       pub method_built : MethodNames (λ n. n < length s.names) (method_of m.tree) → IsBuilt table t
-      method_built known = subst (IsBuilt table) (sym added) (record { orderly = method_orderly known; by_name = b.by_name })
+      method_built known = subst (IsBuilt table) (sym added) (record { orderly = method_orderly known; live = all-method s (method_rec k m) b.live; by_name = b.by_name })

@@ -3,6 +3,7 @@ ghost use Rattle.std.specs.Prelude.{◌≡◌, ◌<◌, [], length, IfOk};
 ghost use Rattle.image_model.specs.ImageNames.{ImageNames};
 ghost use Rattle.class_table.specs.View.{number_image};
 ghost use Rattle.class_table.specs.Valid.{IsOrderly};
+ghost use Rattle.live_slots.specs.Live.{AllLive};
 ghost use Rattle.image_draft.specs.Drafted.{image_of, IsWhole};
 
 use crate::classes::add_classes;
@@ -18,6 +19,7 @@ use std::alloc::Global;
 fn image_with(alloc: Global, names: Names) -> Image
     ensures image { result ≡ record { names = names; classes = []; class_order = []; methods = []; method_order = []; doits = []; heads = 0 } }
     ensures orderly { IsOrderly result }
+    ensures live { AllLive result }
 {
     // The length is asked for, since it tells that no text stands twice among the names.
     let _ = names.len();
@@ -28,9 +30,11 @@ fn image_with(alloc: Global, names: Names) -> Image
 
 /// Says how many of the do-its stand before the definitions.
 fn count_heads(image: &mut Image, heads: usize)
-    requires { IsOrderly image.old }
+    requires orderly { IsOrderly image.old }
+    requires live { AllLive image.old }
     ensures image { image.new ≡ record image.old { heads = heads } }
     ensures orderly { IsOrderly image.new }
+    ensures live { AllLive image.new }
 {
     image.set_heads(heads);
 }
@@ -43,6 +47,7 @@ pub fn image_from(alloc: Global, names: Names, draft: Draft) -> Result<Image, Me
     ensures names { IfOk result (λ image. image.names ≡ names) }
     ensures image { IfOk result (λ image. number_image image ≡ image_of draft) }
     ensures orderly { IfOk result IsOrderly }
+    ensures live { IfOk result AllLive }
 {
     let parts = draft.into_parts()?;
     let mut image = image_with(alloc, names);

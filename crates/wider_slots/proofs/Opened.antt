@@ -15,7 +15,8 @@ use Rattle.class_table.specs.Slots.{Slots}
 use Rattle.class_table.specs.View.{class_of, entry_of, doit_of}
 use Rattle.class_table.specs.Valid.{IsOrderly}
 use Rattle.class_table.proofs.Live.{live-fact}
-use Rattle.wider_slots.specs.Closed.{ClassWithin, MethodWithin, DoItWithin, IsClosed, AllLive}
+use Rattle.wider_slots.specs.Closed.{ClassWithin, MethodWithin, DoItWithin, IsClosed}
+use Rattle.live_slots.specs.Live.{AllLive}
 use Rattle.wider_slots.specs.Wider.{More, MoreWithin, widened}
 use Rattle.wider_slots.proofs.Widening.{class-within, method-within, more-names, more-classes}
 use Rattle.wider_slots.proofs.Append.{further}

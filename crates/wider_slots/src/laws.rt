@@ -1,5 +1,5 @@
 // Laws of slots with further ones at the ends. Each function does nothing; its contract is the law.
-ghost use Rattle.std.specs.Prelude.{◌≡◌, ℕ, List, [], ◌∷◌, ◌++◌, length, slice_set, Ok, Err};
+ghost use Rattle.std.specs.Prelude.{◌≡◌, ℕ, List, [], ◌∷◌, ◌++◌, length, Ok, Err};
 ghost use Rattle.std.specs.List.{AllByRecursion};
 ghost use Rattle.image_model.specs.Image.{ImageOf};
 ghost use Rattle.class_table.specs.declared.record.ClassRec.{ClassRec};
@@ -19,7 +19,8 @@ ghost use Rattle.change_set.specs.Changes.{all_applied, inverses, CanApplyAll, a
 ghost use Rattle.history_model.specs.Rules.{RulesOf};
 ghost use Rattle.history_model.specs.History.{HistoryOf, opened, performed, undone, redone};
 ghost use Rattle.history_model.specs.Logs.{StandsFor, IsWidening};
-ghost use Rattle.wider_slots.specs.Closed.{ClassWithin, MethodWithin, DoItWithin, IsClosed, AllLive, FitsIn};
+ghost use Rattle.wider_slots.specs.Closed.{ClassWithin, MethodWithin, DoItWithin, IsClosed, FitsIn};
+ghost use Rattle.live_slots.specs.Live.{AllLive};
 ghost use Rattle.wider_slots.specs.Wider.{More, MoreWithin, widened, Wider, one_class, one_method};
 ghost use Rattle.wider_slots.specs.Logs.{slot_swaps, IsReady};
 
@@ -59,15 +60,6 @@ pub fn law_closed()
     ensures orderly { (s : Slots) → IsOrderly s → AllLive s → IsClosed s }
     ensures more { (more : More) (s : Slots) → IsClosed s → MoreWithin s more → IsClosed (widened more s) }
     ensures doit { (s : Slots) (d : DoIt) → IsClosed s → DoItWithin (length s.names) (length s.classes) d → IsClosed (record s { doits = s.doits ++ d ∷ [] }) }
-{}
-
-/// Each slot is live where there are no slots, and stays live where a class or a method is added or a method is replaced, as
-/// in the reading of a file.
-pub fn law_all_live()
-    ensures none { (s : Slots) → s.classes ≡ [] → s.methods ≡ [] → AllLive s }
-    ensures class { (s : Slots) (c : ClassRec) → AllLive s → AllLive (record s { classes = s.classes ++ c ∷ []; class_order = s.class_order ++ length s.classes ∷ [] }) }
-    ensures method { (s : Slots) (m : MethodRec) → AllLive s → AllLive (record s { methods = s.methods ++ m ∷ []; method_order = s.method_order ++ length s.methods ∷ [] }) }
-    ensures replaced { (s : Slots) (k : ℕ) (m : MethodRec) → AllLive s → AllLive (record s { methods = slice_set s.methods k m }) }
 {}
 
 /// A class or a method that fits slots with orders names what is there; and a class or a method that does, and names that

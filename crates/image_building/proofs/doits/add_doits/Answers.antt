@@ -11,6 +11,8 @@ use Rattle.class_table.specs.Slots.{Slots}
 use Rattle.class_table.specs.View.{doit_of}
 use Rattle.class_table.specs.Valid.{IsOrderly}
 use Rattle.class_table.proofs.KeptLemmas.{doit-added}
+use Rattle.live_slots.specs.Live.{AllLive}
+use Rattle.live_slots.proofs.Keeping.{all-doits}
 use Rattle.image_building.proofs.Turns.{at_turn, all_next_mapped}
 use Rattle.image_building.proofs.doits.add_doits.Goals as goal
 
@@ -31,4 +33,5 @@ loop-doit-preserved c =
       orderly =
           subst IsOrderly (sym c.in_ok-add_doit.ensures)
           (doit-added c.loop-doit.image c.loop-doit.invariant.orderly c.in-Some.doit (subst (λ (ns : List (List ℕ)). SequenceNames (λ n. n < length ns) (sequence_of c.in-Some.doit.body)) (sym names) known));
+      live = subst AllLive (sym c.in_ok-add_doit.ensures) (all-doits c.loop-doit.image (c.loop-doit.image.doits ++ c.in-Some.doit ∷ []) c.loop-doit.invariant.live);
     }
