@@ -1,0 +1,42 @@
+// Conditions of commands.
+
+use rb_base::NameId;
+
+/// What a new name is for.
+#[derive(Clone, Copy, Debug)]
+pub enum NameKind {
+    Class,
+    ClassVariable,
+    /// An instance variable or a class-instance variable.
+    Variable,
+    Selector,
+}
+
+/// A condition of a command, with what is printed of it. Which kind a variable has the command says.
+#[derive(Clone, Copy, Debug)]
+pub enum Condition {
+    /// No code of a user looks at the program itself.
+    NoReflection,
+    /// The class is one of the user.
+    IsUserClass { class: NameId },
+    /// The name may be given to such a thing; the kind is not printed.
+    GoodName { name: NameId, kind: NameKind },
+    /// No class and no variable has the name, and no code reads, assigns or declares it.
+    NameUnused { name: NameId },
+    /// No method has the selector, and no code sends it.
+    SelectorFresh { selector: NameId },
+    /// The kernel does not speak of the selector, and it has no meaning of its own.
+    NotKernelSelector { selector: NameId },
+    /// The selector takes so many arguments.
+    Arity { selector: NameId, count: usize },
+    /// The class itself defines the variable.
+    HasVariable { class: NameId, variable: NameId },
+    /// The variable can come into the class.
+    VariableFree { class: NameId, variable: NameId },
+    /// The user has a method of the selector.
+    KnownSelector { selector: NameId },
+    /// There is a command to undo.
+    UndoLeft,
+    /// There is a command to do again.
+    RedoLeft,
+}
