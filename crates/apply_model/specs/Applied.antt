@@ -1,42 +1,26 @@
 -- What `apply` answers to the text of an image and that of a script.
-use Rattle.std.specs.Prelude.{◌≡◌, ℕ, List, ◌∷◌, ◌++◌, map, Some, None, Ok, Err}
+use Rattle.std.specs.Prelude.{◌≡◌, ℕ, List, Ok, Err}
 use Rattle.token_model.specs.declared.kind.Dialect.TheVariants.{Second}
 use Rattle.st_kernel.specs.KernelText.{prelude_text}
 use Rattle.image_model.specs.Image.{ImageOf}
 use Rattle.file_model.specs.Causes.{Refusal as ImageRefusal}
 use Rattle.file_model.specs.Reading.{IsImageOf, HasRefusal}
 use Rattle.file_model.specs.Written.{file_of}
-use Rattle.script_model.specs.Commands.{Command, Cause}
+use Rattle.script_model.specs.Makers.{Text}
+use Rattle.script_model.specs.Commands.{Cause}
 use Rattle.script_model.specs.Scripts.{Says, IsRefused}
 use Rattle.session_model.specs.Scripts.{Request, History, Refusal, verdict_in}
 use Rattle.apply_model.specs.declared.status.Status.{Status}
 use Rattle.apply_model.specs.declared.status.Status.TheVariants as status
-use Rattle.apply_model.specs.Readings.{Text, asked_by}
 use Rattle.apply_model.specs.Lines.{script_line, refusal_line}
-
--- the lines of a script ask for this, one after the other
-pub record AsksFor (script : Text) (requests : List Request) : Type 0 where
-  pub commands : List Command
-  pub says : Says script commands
-  pub each : map asked_by commands ≡ map Some requests
 
 -- `apply` answers this script in an image with the status and the bytes: it is wrong at a line; or one of its commands is refused; or the image after all of them is written
 pub data AppliesIn (i : ImageOf Text) (script : Text) (s : Status) (sent : Text) : Type 0 where
   NoScript : (number : ℕ) (cause : Cause) → IsRefused script number cause → s ≡ status.ScriptText → sent ≡ script_line number cause → AppliesIn i script s sent
-  Refused : (requests : List Request) (r : Refusal) → AsksFor script requests → verdict_in i requests ≡ Err r → s ≡ status.Condition → sent ≡ refusal_line r → AppliesIn i script s sent
-  Accepted : (requests : List Request) (h : History) → AsksFor script requests → verdict_in i requests ≡ Ok h → s ≡ status.Done → sent ≡ file_of h.now.image → AppliesIn i script s sent
+  Refused : (requests : List Request) (r : Refusal) → Says script requests → verdict_in i requests ≡ Err r → s ≡ status.Condition → sent ≡ refusal_line r → AppliesIn i script s sent
+  Accepted : (requests : List Request) (h : History) → Says script requests → verdict_in i requests ≡ Ok h → s ≡ status.Done → sent ≡ file_of h.now.image → AppliesIn i script s sent
 
 -- `apply` answers these texts, where a refused image is told by such a line
 pub data Applies (image_line : ImageRefusal → Text) (text script : Text) (s : Status) (sent : Text) : Type 0 where
   NoImage : (r : ImageRefusal) → HasRefusal Second prelude_text text r → s ≡ status.ImageText → sent ≡ image_line r → Applies image_line text script s sent
   InImage : (i : ImageOf Text) → IsImageOf Second prelude_text text i → AppliesIn i script s sent → Applies image_line text script s sent
-
--- all lines of a script say commands, and one of these commands asks for nothing here: it is still to come
-pub record IsToCome (script : Text) : Type 0 where
-  pub commands : List Command
-  pub says : Says script commands
-  pub before : List Command
-  pub command : Command
-  pub after : List Command
-  pub parts : commands ≡ before ++ command ∷ after
-  pub unasked : asked_by command ≡ None

@@ -1,4 +1,3 @@
-pub mod Readings
 pub mod Lines
 pub mod Applied
 pub mod Promised

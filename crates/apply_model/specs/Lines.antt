@@ -2,10 +2,10 @@
 use Rattle.std.specs.Prelude.{ℕ, List, [], ◌∷◌, ◌++◌, Bool, if◌then◌else◌, codes}
 use Rattle.std.specs.Fmt.{decimal}
 use Rattle.text_model.specs.Pieces.{pieces_joined}
+use Rattle.script_model.specs.Makers.{Text}
 use Rattle.script_model.specs.Commands.{Cause, UnknownCommand, Unbuilt, BadArgument, TooMany}
 use Rattle.command_model.specs.Conditions.{ConditionOf, NoReflection, IsUserClass, GoodName, NameUnused, SelectorFresh, NotKernelSelector, Arity, Implements, NotImplements, Removable, NoSubclasses, NotReferenced, HasVariable, VariableFree, VariableUnused, ParentIsUser, NoSuper, MeansSame, Unreached, IsClass, ChildOf, LacksVariable, KnownSelector, SpotOf, AtPart, AtName, ParameterUnused, PlainArguments, AtomLiteral, PartIs, NoReturn, AssignsNoOuter, TempsSteady, ValueUnused, SelfSend, OneTarget, Inlinable, PlainActuals, NoCapture, NoNewControl, Declared, NotIn, LetForm, FirstEvaluated, Shallow, UndoLeft, RedoLeft}
 use Rattle.session_model.specs.Scripts.{Refusal}
-use Rattle.apply_model.specs.Readings.{Text}
 
 -- the text and a line feed
 abbrev pub line : Text → Text

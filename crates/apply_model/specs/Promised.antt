@@ -10,9 +10,9 @@ use Rattle.file_rereading.specs.Rereading.{IsWithinLimits, with_heads}
 use Rattle.history_model.specs.Verdicts.{IsRefusedAt}
 use Rattle.session_model.specs.Admitted.{Admits, nil_doit}
 use Rattle.session_model.specs.Scripts.{Request, History, Refusal, rules, verdict_in}
-use Rattle.apply_model.specs.Readings.{Text}
+use Rattle.script_model.specs.Makers.{Text}
+use Rattle.script_model.specs.Scripts.{Says}
 use Rattle.apply_model.specs.Lines.{refusal_line}
-use Rattle.apply_model.specs.Applied.{AsksFor}
 
 -- A start expression that a script admits is one more do-it of the image after, and the two images with it are matched up to what the script renames; so is the image with which the printed text is read again.
 pub record IsKeptWith (i : ImageOf Text) (requests : List Request) (h : History) (e : DoItOf Text) (a : Admits i requests e) : Type 0 where
@@ -27,7 +27,7 @@ pub record IsChangedFile (text script printed : Text) : Type 0 where
   pub image : ImageOf Text
   pub is_image : IsImageOf Second prelude_text text image
   pub requests : List Request
-  pub asks : AsksFor script requests
+  pub says : Says script requests
   pub history : History
   pub accepted : verdict_in image requests ≡ Ok history
   pub file : printed ≡ file_of history.now.image
@@ -42,7 +42,7 @@ pub record IsRefusalOf (text script printed : Text) : Type 0 where
   pub image : ImageOf Text
   pub is_image : IsImageOf Second prelude_text text image
   pub requests : List Request
-  pub asks : AsksFor script requests
+  pub says : Says script requests
   pub refusal : Refusal
   pub at : IsRefusedAt rules image requests refusal
   pub file : printed ≡ refusal_line refusal

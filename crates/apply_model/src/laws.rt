@@ -1,18 +1,11 @@
-// Laws of `apply`. Each function does nothing; its contract is the law.
-ghost use Rattle.std.specs.Prelude.{◌≡◌, ◌⊎◌, ℕ, List};
+// A law of `apply`. The function does nothing; its contract is the law.
+ghost use Rattle.std.specs.Prelude.{◌≡◌};
 ghost use Rattle.file_model.specs.Causes.{Refusal};
-ghost use Rattle.script_model.specs.Commands.{Command, Cause};
-ghost use Rattle.script_model.specs.Scripts.{Says, IsRefused};
+ghost use Rattle.script_model.specs.Makers.{Text};
 ghost use Rattle.apply_model.specs.declared.status.Status.{Status};
-ghost use Rattle.apply_model.specs.declared.status.Status.TheVariants as status;
-ghost use Rattle.apply_model.specs.Readings.{Text};
-ghost use Rattle.apply_model.specs.Applied.{Applies, IsToCome};
-ghost use Rattle.apply_model.specs.Promised.{IsChangedFile, IsRefusalOf};
+ghost use Rattle.apply_model.specs.Applied.{Applies};
 
-use command_laws::law_script_files;
 use file_model::has_one_image;
-use history_laws::law_nil_admitted;
-use kernel_image::every_text_is_read_or_refused;
 use script_model::has_one_reading;
 
 /// Two texts have at most one answer of `apply`.
@@ -22,26 +15,4 @@ pub fn has_one_answer()
 {
     has_one_image();
     has_one_reading();
-}
-
-/// Each text of a script says commands, or is wrong at a line; and two texts have an answer of `apply`, unless a command of the
-/// script is still to come.
-pub fn has_some_answer()
-    ensures script { (text : Text) → ((commands : List Command) × Says text commands) ⊎ ((number : ℕ) × (cause : Cause) × IsRefused text number cause) }
-    ensures answer { (image_line : Refusal → Text) (text script : Text) → ((s : Status) × (sent : Text) × Applies image_line text script s sent) ⊎ IsToCome script }
-{
-    every_text_is_read_or_refused();
-}
-
-/// Where `apply` is done, what it sends is the file of the image that the script makes, which keeps the runs of the image, with
-/// each start expression that the script admits, up to what is renamed, and is read again from that file; and where it ends by
-/// a condition, what it sends names the first command that is refused, and its first condition that is false.
-pub fn law_applied()
-    ensures done { (image_line : Refusal → Text) (text script : Text) (s : Status) (sent : Text) →
-        Applies image_line text script s sent → s ≡ status.Done → IsChangedFile text script sent }
-    ensures condition { (image_line : Refusal → Text) (text script : Text) (s : Status) (sent : Text) →
-        Applies image_line text script s sent → s ≡ status.Condition → IsRefusalOf text script sent }
-{
-    law_script_files();
-    law_nil_admitted();
 }

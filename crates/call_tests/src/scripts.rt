@@ -1,73 +1,77 @@
-// Scripts with their commands, and scripts that are refused.
+// Scripts with what they ask for, and scripts that are refused.
+use commands::{Command, Request};
+use name_meanings::VariableKind;
 use rb_base::{Memory, NameId, Names, Text};
-use script_lang::{Argument, Command, parse_script};
+use script_lang::parse_script;
 use std::alloc::Global;
 
-/// Appends the text of a name.
+/// Appends a blank and the text of a name.
 fn put_name(names: &Names, name: NameId, out: &mut Text) -> Result<(), Memory> {
+    out.push_slice(b" ")?;
     if name.0 < names.len() {
         out.push_slice(names.text_of(name))?;
     }
     Ok(())
 }
 
-/// Appends a number in decimal.
-fn put_number(alloc: Global, number: usize, out: &mut Text) -> Result<(), Memory> {
-    let digits = format!(in alloc; "{number}")?;
-    out.push_slice(digits.as_bytes())
-}
-
-/// Appends a blank and an argument.
-fn put_argument(
-    alloc: Global,
+/// Appends a line of a word and names.
+fn put_line(
     names: &Names,
-    argument: Argument,
+    word: &[u8],
+    arguments: &[NameId],
     out: &mut Text,
 ) -> Result<(), Memory> {
-    out.push_slice(b" ")?;
-    match argument {
-        Argument::Name(name) => put_name(names, name, out),
-        Argument::Side(true) => out.push_slice(b"class"),
-        Argument::Side(false) => out.push_slice(b"instance"),
-        Argument::Number(number) => put_number(alloc, number, out),
-    }
-}
-
-/// Appends a command as a line.
-fn put_command(
-    alloc: Global,
-    names: &Names,
-    command: &Command,
-    out: &mut Text,
-) -> Result<(), Memory> {
-    out.push_slice(command.verb.word())?;
-    for argument in command.arguments.as_slice() {
-        put_argument(alloc, names, *argument, out)?;
+    out.push_slice(word)?;
+    for name in arguments {
+        put_name(names, *name, out)?;
     }
     out.push_slice(b"\n")
 }
 
-/// Appends commands one a line.
-fn put_commands(
-    alloc: Global,
-    names: &Names,
-    commands: &[Command],
-    out: &mut Text,
-) -> Result<(), Memory> {
-    for command in commands {
-        put_command(alloc, names, command, out)?;
+/// The word of the renaming of a variable.
+fn variable_word(kind: VariableKind) -> &'static [u8] {
+    match kind {
+        VariableKind::Instance => b"renameInstVar",
+        VariableKind::ClassSide => b"renameClassSideVar",
+        VariableKind::Shared => b"renameClassVar",
+    }
+}
+
+/// Appends a command as a line.
+fn put_command(names: &Names, command: Command, out: &mut Text) -> Result<(), Memory> {
+    match command {
+        Command::RenameClass { class, to } => put_line(names, b"renameClass", &[class, to], out),
+        Command::RenameVariable {
+            kind,
+            class,
+            variable,
+            to,
+        } => put_line(names, variable_word(kind), &[class, variable, to], out),
+        Command::RenameSelector { selector, to } => {
+            put_line(names, b"renameSelector", &[selector, to], out)
+        }
+    }
+}
+
+/// Appends requests one a line.
+fn put_requests(names: &Names, requests: &[Request], out: &mut Text) -> Result<(), Memory> {
+    for request in requests {
+        match request {
+            Request::Perform(command) => put_command(names, *command, out)?,
+            Request::Undo => out.push_slice(b"undo\n")?,
+            Request::Redo => out.push_slice(b"redo\n")?,
+        }
     }
     Ok(())
 }
 
-/// Whether the commands of a script are written so.
+/// Whether what a script asks for is written so.
 fn is_read(alloc: Global, script: &[u8], wanted: &[u8]) -> bool {
     let mut names = Names::new(alloc);
     let mut out = Text::new(alloc);
     match parse_script(alloc, script, &mut names) {
-        Ok(commands) => {
-            put_commands(alloc, &names, commands.as_slice(), &mut out).is_ok()
-                && out.as_slice() == wanted
+        Ok(requests) => {
+            put_requests(&names, requests.as_slice(), &mut out).is_ok() && out.as_slice() == wanted
         }
         Err(_) => false,
     }
@@ -84,22 +88,18 @@ fn is_refused(alloc: Global, script: &[u8], wanted: &str) -> Result<bool, Memory
 
 /// A script with more blanks, line ends and comments than it needs.
 const WIDE: &[u8] =
-    b"\n \t\r\n--\n-- undo\n--undo x\nrenameClass A B\r\n\t addInstVar  A\x0cb2 \r\nundo ";
+    b"\n \t\r\n--\n-- undo\n--undo x\nrenameClass A B\r\n\t renameInstVar  A\x0cx b2 \r\nundo ";
 
-/// Its commands.
-const NARROW: &[u8] = b"renameClass A B\naddInstVar A b2\nundo\n";
+/// What it asks for.
+const NARROW: &[u8] = b"renameClass A B\nrenameInstVar A x b2\nundo\n";
 
-/// A script as its commands are written.
+/// A script as what it asks for is written.
 const SCRIPT: &[u8] = b"renameClass Account Ledger
-addClass C Object
-addClass C A B D
-extractSuperclass C A B D B
+renameInstVar A x x
+renameClassVar A X y
+renameClassSideVar A b C
 renameSelector at:put: put:
 renameSelector | size
-removeParameter at:put: 0 at:
-removeParameter a: 999999999 a
-extractMethod C class at: 0 10 to:
-inlineTemp C instance at: x
 undo
 redo
 ";
@@ -118,6 +118,11 @@ const REFUSED: &[(&str, &str)] = &[
     ("RenameClass A B", "line 1: unknown command"),
     ("undo\naddMethod A", "line 2: the command is not built yet"),
     ("undo\n\n-- a\nundo x\nredoes", "line 4: bad argument"),
+    ("renameClass A 1\ninlineTemp A", "line 1: bad argument"),
+    (
+        "inlineTemp A\nrenameClass A 1",
+        "line 1: the command is not built yet",
+    ),
 ];
 
 /// Lines with a bad argument.
@@ -128,20 +133,36 @@ const BAD_LINES: &[&str] = &[
     "renameClass A 1b",
     "renameClass A b:",
     "renameInstVar A x",
+    "renameInstVar A x y z",
     "renameClassVar A x_ y",
+    "renameClassSideVar 1 x y",
+    "renameSelector a",
     "renameSelector a 1",
     "renameSelector at: put:at",
     "renameSelector + +-",
     "renameSelector + +++",
-    "addClass A B :",
-    "extractSuperclass A B",
-    "removeMethod A instances at:",
-    "removeParameter at: 01 a",
-    "removeParameter at: 00 a",
-    "removeParameter at: 1000000000 a",
-    "removeParameter at: +1 a",
-    "extractTemp A class at: 1 x",
     "undo x",
+];
+
+/// Lines of commands that are still to come, with good arguments and with bad ones.
+const LINES_TO_COME: &[&str] = &[
+    "addClass C Object",
+    "addClass C A B D",
+    "addClass A B :",
+    "addInstVar A b2",
+    "removeMethod A instances at:",
+    "removeParameter at:put: 0 at:",
+    "removeParameter at: 01 a",
+    "extractMethod C class at: 0 10 to:",
+    "extractTemp A class at: 1 x",
+    "inlineTemp C instance at: x",
+    "inlineTemp A",
+    "extractSuperclass C A B D B",
+    "extractSuperclass A B",
+    "pushUpWithMethods C x",
+    "addMethod",
+    "addParameter",
+    "applyRule",
 ];
 
 #[test]
@@ -154,12 +175,26 @@ fn scripts_are_refused(rt: HostRuntime) {
     }
 }
 
+/// Whether each of these lines has the fault of these words.
+fn are_refused(alloc: Global, lines: &[&str], words: &str) -> Result<bool, Memory> {
+    for line in lines {
+        if !is_refused(alloc, line.as_bytes(), words)? {
+            return Ok(false);
+        }
+    }
+    Ok(true)
+}
+
 #[test]
 fn lines_are_refused(rt: HostRuntime) {
-    for line in BAD_LINES {
-        let refused = is_refused(rt.alloc(), line.as_bytes(), "line 1: bad argument");
-        assert!(rt; refused == Ok(true), "of {line}");
-    }
+    let bad = are_refused(rt.alloc(), BAD_LINES, "line 1: bad argument");
+    assert!(rt; bad == Ok(true));
+    let to_come = are_refused(
+        rt.alloc(),
+        LINES_TO_COME,
+        "line 1: the command is not built yet",
+    );
+    assert!(rt; to_come == Ok(true));
 }
 
 /// A script of 10,000 commands with these lines behind them.
@@ -190,5 +225,12 @@ fn scripts_have_a_limit(rt: HostRuntime) {
     assert!(rt; most_are_read(alloc) == Ok(true));
     assert!(rt; is_too_long(alloc, "undo", "line 10001: too many commands") == Ok(true));
     assert!(rt; is_too_long(alloc, "undo x", "line 10001: bad argument") == Ok(true));
+    assert!(rt;
+        is_too_long(
+            alloc,
+            "inlineTemp",
+            "line 10001: the command is not built yet"
+        ) == Ok(true)
+    );
     assert!(rt; is_too_long(alloc, "\n-- a\nredo", "line 10003: too many commands") == Ok(true));
 }

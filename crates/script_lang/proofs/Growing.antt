@@ -1,4 +1,4 @@
--- Commands over tables of names that grow.
+-- Requests over tables of names that grow.
 use Rattle.std.proofs.Common.{◌≡◌, ℕ, ◌<◌, List, [], ◌∷◌, length, Option, Some, Result, Ok, Err, get_or, unwrap_or, refl, sym, ap, subst, ◌∙◌, arith, length-append}
 use Rattle.std.specs.Prelude.{OnOk, OnErr}
 use Rattle.std.proofs.lemmas.List.Quantifiers.{position-Some}
@@ -7,50 +7,56 @@ use Rattle.grammar_model.specs.Terminal.{Text}
 use Rattle.rb_base.specs.Names.{text_eq, name_at, number_in, interned}
 use Rattle.event_trees.specs.Naming.{Grows}
 use Rattle.event_trees.proofs.Known.{Grows-none, Grows-Adds, Adds-number, text_of_number, text_stays}
-use Rattle.script_model.specs.Commands as script
-use Rattle.script_lang.specs.declared.command.Argument.{Argument}
-use Rattle.script_lang.specs.declared.command.Argument.TheVariants as argument
-use Rattle.script_lang.specs.declared.command.Command.{Command}
-use Rattle.script_lang.specs.Shown.{word_of, argument_in, arguments_in, commands_in, IsKnown, AreKnown, CommandsAreKnown}
+use Rattle.history_model.specs.Rules.{Perform}
+use Rattle.session_model.specs.Actions.{Single}
+use Rattle.command_model.specs.Commands.{RenameClass, RenameInstVar, RenameClassVar, RenameClassSideVar, RenameSelector}
+use Rattle.name_meanings.specs.declared.meaning.VariableKind.TheVariants as kind
+use Rattle.commands.specs.declared.command.Command.TheVariants as command
+use Rattle.commands.specs.declared.command.Request.{Request}
+use Rattle.commands.specs.declared.command.Request.TheVariants as request
+use Rattle.commands.specs.Views.{request_in, IsKnownRequest}
+use Rattle.script_lang.specs.Shown.{requests_in, AreKnown}
 
 module _ {names later : List Text} (g : Grows names later) where
   -- a number that has a text keeps it
-  name_at-grown : (n : ℕ) → n < length names → name_at later n ≡ name_at names n
+  pub name_at-grown : (n : ℕ) → n < length names → name_at later n ≡ name_at names n
   name_at-grown n h =
       let is = slice_get-get_or names n [] h in
       ap (λ (o : Option Text). unwrap_or o []) (text_stays n (get_or names n []) g is ∙ sym is)
 
-  number-grown : (n : ℕ) → n < length names → n < length later
+  pub number-grown : (n : ℕ) → n < length names → n < length later
   number-grown n h = omega (arith, h, ap length g.grown, length-append names g.more)
 
-  -- an argument
-  argument-grown : (a : Argument) → IsKnown names a → argument_in later a ≡ argument_in names a
-  argument-grown (argument.Name n) h = ap script.name (name_at-grown n h)
-  argument-grown (argument.Side meta) h = refl
-  argument-grown (argument.Number k) h = refl
+  -- a request
+  request-grown : (r : Request) → IsKnownRequest names r → request_in later r ≡ request_in names r
+  request-grown (request.Perform (command.RenameClass c d)) h = λ i. Perform (Single (RenameClass (name_at-grown c h.0 i) (name_at-grown d h.1 i)))
+  request-grown (request.Perform (command.RenameVariable kind.Instance c x y)) h =
+      λ i. Perform (Single (RenameInstVar (name_at-grown c h.0 i) (name_at-grown x h.1 i) (name_at-grown y h.2 i)))
+  request-grown (request.Perform (command.RenameVariable kind.ClassSide c x y)) h =
+      λ i. Perform (Single (RenameClassSideVar (name_at-grown c h.0 i) (name_at-grown x h.1 i) (name_at-grown y h.2 i)))
+  request-grown (request.Perform (command.RenameVariable kind.Shared c x y)) h =
+      λ i. Perform (Single (RenameClassVar (name_at-grown c h.0 i) (name_at-grown x h.1 i) (name_at-grown y h.2 i)))
+  request-grown (request.Perform (command.RenameSelector s t)) h = λ i. Perform (Single (RenameSelector (name_at-grown s h.0 i) (name_at-grown t h.1 i)))
+  request-grown request.Undo h = refl
+  request-grown request.Redo h = refl
 
-  known-grown : (a : Argument) → IsKnown names a → IsKnown later a
-  known-grown (argument.Name n) h = number-grown n h
-  known-grown (argument.Side meta) h = tt
-  known-grown (argument.Number k) h = tt
+  known-grown : (r : Request) → IsKnownRequest names r → IsKnownRequest later r
+  known-grown (request.Perform (command.RenameClass c d)) h = (number-grown c h.0, number-grown d h.1)
+  known-grown (request.Perform (command.RenameVariable kind.Instance c x y)) h = (number-grown c h.0, number-grown x h.1, number-grown y h.2)
+  known-grown (request.Perform (command.RenameVariable kind.ClassSide c x y)) h = (number-grown c h.0, number-grown x h.1, number-grown y h.2)
+  known-grown (request.Perform (command.RenameVariable kind.Shared c x y)) h = (number-grown c h.0, number-grown x h.1, number-grown y h.2)
+  known-grown (request.Perform (command.RenameSelector s t)) h = (number-grown s h.0, number-grown t h.1)
+  known-grown request.Undo h = tt
+  known-grown request.Redo h = tt
 
-  -- arguments
-  pub arguments-grown : (gs : List Argument) → AreKnown names gs → arguments_in later gs ≡ arguments_in names gs
-  arguments-grown [] h = refl
-  arguments-grown (a ∷ gs) h = λ i. argument-grown a h.0 i ∷ arguments-grown gs h.1 i
+  -- requests
+  pub requests-grown : (rs : List Request) → AreKnown names rs → requests_in later rs ≡ requests_in names rs
+  requests-grown [] h = refl
+  requests-grown (r ∷ rs) h = λ i. request-grown r h.0 i ∷ requests-grown rs h.1 i
 
-  pub all_known-grown : (gs : List Argument) → AreKnown names gs → AreKnown later gs
+  pub all_known-grown : (rs : List Request) → AreKnown names rs → AreKnown later rs
   all_known-grown [] h = tt
-  all_known-grown (a ∷ gs) h = (known-grown a h.0, all_known-grown gs h.1)
-
-  -- commands
-  pub commands-grown : (cs : List Command) → CommandsAreKnown names cs → commands_in later cs ≡ commands_in names cs
-  commands-grown [] h = refl
-  commands-grown (c ∷ cs) h = λ i. record { word = word_of c.verb; arguments = arguments-grown c.arguments.items h.0 i } ∷ commands-grown cs h.1 i
-
-  pub all_commands-grown : (cs : List Command) → CommandsAreKnown names cs → CommandsAreKnown later cs
-  all_commands-grown [] h = tt
-  all_commands-grown (c ∷ cs) h = (all_known-grown c.arguments.items h.0, all_commands-grown cs h.1)
+  all_known-grown (r ∷ rs) h = (known-grown r h.0, all_known-grown rs h.1)
 
 -- a text that was put into a table
 pub interned-text : (names : List Text) (t : Text) (n : ℕ) → Some n ≡ number_in names t → name_at names n ≡ t

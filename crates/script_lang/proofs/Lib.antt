@@ -1,7 +1,5 @@
 mod Growing
 mod Parts
-mod Words
-mod Verbs
 mod Reading
-mod Keywords
-mod Values
+mod Renamings
+mod Verbs

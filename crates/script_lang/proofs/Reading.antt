@@ -1,18 +1,20 @@
 -- Lines that are read one by one.
-use Rattle.std.proofs.Common.{◌≡◌, ℕ, ◌+◌, ◌<◌, Bool, true, false, not, List, [], ◌∷◌, ◌++◌, length, map, take, drop, get_or, Some, Ok, refl, sym, ap, subst, ◌∙◌, arith, length-append}
+use Rattle.std.proofs.Common.{◌≡◌, ℕ, ◌+◌, ◌<◌, Bool, true, false, not, List, [], ◌∷◌, ◌++◌, length, map, take, drop, get_or, Option, Some, None, Ok, refl, sym, ap, subst, ◌∙◌, arith, length-append}
 use Rattle.std.specs.Prelude.{cond}
 use Rattle.std.specs.Borrow.{Bor}
-use Rattle.std.proofs.lemmas.List.{map-append, length-map, append-nil, take-append-drop, drop_more, length-take-le}
+use Rattle.std.proofs.lemmas.List.{map-append, length-map, append-nil, take-append-drop, take_more, drop_more, length-take-le}
 use Rattle.std.proofs.lemmas.List.Elements.{filter-append}
 use Rattle.grammar_model.specs.Terminal.{Text}
 use Rattle.event_trees.specs.Naming.{Grows}
+use Rattle.session_model.specs.Scripts.{Request as Asked}
+use Rattle.commands.specs.declared.command.Request.{Request}
+use Rattle.commands.specs.Views.{request_in, IsKnownRequest}
 use Rattle.script_model.specs.Lines.{lines_of, is_skipped, spoken}
 use Rattle.script_model.specs.Commands as script
 use Rattle.script_model.specs.Scripts.{said, cause_of, IsRefused}
-use Rattle.script_lang.specs.declared.command.Command.{Command}
-use Rattle.script_lang.specs.Shown.{command_in, commands_in, AreKnown, CommandsAreKnown, texts}
-use Rattle.script_lang.specs.Read.{HasRead}
-use Rattle.script_lang.proofs.Growing.{commands-grown, all_commands-grown}
+use Rattle.script_lang.specs.Shown.{requests_in, AreKnown, texts}
+use Rattle.script_lang.specs.Read.{HasRead, LineSays}
+use Rattle.script_lang.proofs.Growing.{requests-grown, all_known-grown}
 
 -- one more line
 said-more : (lines : List Text) (line : Text) → map said (spoken (lines ++ line ∷ [])) ≡ map said (spoken lines) ++ map said (spoken (line ∷ []))
@@ -26,42 +28,49 @@ speaks : (line : Text) → is_skipped line ≡ false → spoken (line ∷ []) �
 speaks line h = ap (λ (b : Bool). cond (not b) (line ∷ []) []) h
 
 -- before the first line nothing is read
-pub read-none : (names : List Text) (cs : List Command) (lines : List Text) → cs ≡ [] → lines ≡ [] → HasRead names cs lines
+pub read-none : (names : List Text) (cs : List Request) (lines : List Text) → cs ≡ [] → lines ≡ [] → HasRead names cs lines
 read-none names cs lines none no_lines =
     let first : HasRead names [] [] = record { known = tt; say = record { each = refl; few = omega arith } } in
-    subst (λ (ls : List Text). HasRead names cs ls) (sym no_lines) (subst (λ (ds : List Command). HasRead names ds []) (sym none) first)
+    subst (λ (ls : List Text). HasRead names cs ls) (sym no_lines) (subst (λ (ds : List Request). HasRead names ds []) (sym none) first)
 
-module _ {names : List Text} {cs : List Command} {before : List Text} (read : HasRead names cs before) (line : Text) where
+module _ {names : List Text} {cs : List Request} {before : List Text} (read : HasRead names cs before) (line : Text) where
   -- behind a line that says nothing
-  pub read-skipped : is_skipped line ≡ true → HasRead names cs (before ++ line ∷ [])
-  read-skipped h = record {
-    known = read.known;
-    say = record {
-      each = said-more before line ∙ ap (λ (ls : List Text). map said (spoken before) ++ map said ls) (silent line h) ∙ append-nil (map said (spoken before)) ∙ read.say.each;
-      few = read.say.few;
-    };
-  }
-
-  -- behind a line that says a command
-  pub read-more : (later : List Text) (c : Command) (new : List Command) → Grows names later → is_skipped line ≡ false → said line ≡ Ok (command_in later c) → AreKnown later c.arguments.items → length cs < 10000 → new ≡ cs ++ c ∷ []
-      → HasRead later new (before ++ line ∷ [])
-  read-more later c new g h says known room more =
-      let list : commands_in later new ≡ commands_in names cs ++ command_in later c ∷ [] =
-      ap (commands_in later) more ∙ map-append (command_in later) cs (c ∷ []) ∙ ap (λ (ds : List script.Command). ds ++ command_in later c ∷ []) (commands-grown g cs read.known) in
+  read-skipped : (later : List Text) (new : List Request) → Grows names later → is_skipped line ≡ true → new ≡ cs → HasRead later new (before ++ line ∷ [])
+  read-skipped later new g h same =
+      let list : requests_in later new ≡ requests_in names cs = ap (requests_in later) same ∙ requests-grown g cs read.known in
       record {
-        known = subst (CommandsAreKnown later) (sym more) (both cs (all_commands-grown g cs read.known));
+        known = subst (AreKnown later) (sym same) (all_known-grown g cs read.known);
+        say = record {
+          each =
+              said-more before line
+              ∙ ap (λ (ls : List Text). map said (spoken before) ++ map said ls) (silent line h)
+              ∙ append-nil (map said (spoken before))
+              ∙ read.say.each
+              ∙ ap (map Ok) (sym list);
+          few = omega (arith, read.say.few, ap length list);
+        };
+      }
+
+  -- behind a line that asks for something
+  read-more : (later : List Text) (r : Request) (new : List Request) → Grows names later → is_skipped line ≡ false → said line ≡ Ok (request_in later r) → IsKnownRequest later r → length cs < 10000 → new ≡ cs ++ r ∷ []
+      → HasRead later new (before ++ line ∷ [])
+  read-more later r new g h says known room more =
+      let list : requests_in later new ≡ requests_in names cs ++ request_in later r ∷ [] =
+      ap (requests_in later) more ∙ map-append (request_in later) cs (r ∷ []) ∙ ap (λ (ds : List Asked). ds ++ request_in later r ∷ []) (requests-grown g cs read.known) in
+      record {
+        known = subst (AreKnown later) (sym more) (both cs (all_known-grown g cs read.known));
         say = record {
           each =
               said-more before line
               ∙ ap (λ (ls : List Text). map said (spoken before) ++ map said ls) (speaks line h)
               ∙ (λ i. read.say.each i ++ says i ∷ [])
-              ∙ sym (map-append Ok (commands_in names cs) (command_in later c ∷ []))
+              ∙ sym (map-append Ok (requests_in names cs) (request_in later r ∷ []))
               ∙ ap (map Ok) (sym list);
-          few = omega (arith, room, ap length list, length-append (commands_in names cs) (command_in later c ∷ []), length-map cs (command_in names));
+          few = omega (arith, room, ap length list, length-append (requests_in names cs) (request_in later r ∷ []), length-map cs (request_in names));
         };
       }
     where
-      both : (ds : List Command) → CommandsAreKnown later ds → CommandsAreKnown later (ds ++ c ∷ [])
+      both : (ds : List Request) → AreKnown later ds → AreKnown later (ds ++ r ∷ [])
       both [] k = (known, tt)
       both (d ∷ ds) k = (k.0, both ds k.1)
 
@@ -71,19 +80,35 @@ module _ {names : List Text} {cs : List Command} {before : List Text} (read : Ha
     before = before;
     line = line;
     after = after;
-    commands = commands_in names cs;
+    requests = requests_in names cs;
     parts = parts;
     numbered = numbered;
     said_before = read.say;
     says_something = h;
-    wrong = ap (λ (k : ℕ). cause_of k (said line)) (length-map cs (command_in names)) ∙ wrong;
+    wrong = ap (λ (k : ℕ). cause_of k (said line)) (length-map cs (request_in names)) ∙ wrong;
   }
 
+-- the lines as far as an index, and the one there
+taken : (ls : List (Bor Text)) (i : ℕ) (d : Bor Text) → i < length ls → texts (take (i + 1) ls) ≡ texts (take i ls) ++ (get_or ls i d).now ∷ []
+taken ls i d lt = ap texts (take_more ls i d lt) ∙ map-append (λ (w : Bor Text). w.now) (take i ls) (get_or ls i d ∷ [])
+
+module _ {names : List Text} {cs : List Request} (ls : List (Bor Text)) (i : ℕ) (d : Bor Text) (read : HasRead names cs (texts (take i ls))) (lt : i < length ls) (later : List Text) (g : Grows names later) (count : ℕ) (counted : count ≡ length cs) where
+  -- behind the line of an index that says nothing
+  pub skipped-at : (o : Option Request) → LineSays later (get_or ls i d).now count o → (new : List Request) → o ≡ None → new ≡ cs → HasRead later new (texts (take (i + 1) ls))
+  skipped-at o says new none same =
+      subst (HasRead later new) (sym (taken ls i d lt)) (read-skipped read (get_or ls i d).now later new g (subst (LineSays later (get_or ls i d).now count) none says) same)
+
+  -- behind one that asks for something
+  pub read-at : (o : Option Request) → LineSays later (get_or ls i d).now count o → (r : Request) (new : List Request) → o ≡ Some r → new ≡ cs ++ r ∷ [] → HasRead later new (texts (take (i + 1) ls))
+  read-at o says r new some more =
+      let h = subst (LineSays later (get_or ls i d).now count) some says in
+      subst (HasRead later new) (sym (taken ls i d lt)) (read-more read (get_or ls i d).now later r new g h.0 h.1 h.2 (omega (arith, h.3, counted)) more)
+
 -- the line of an index is wrong
-pub wrong-at : {names : List Text} {cs : List Command} (ls : List (Bor Text)) (i : ℕ) (d : Bor Text) → HasRead names cs (texts (take i ls)) → i < length ls
-    → (text : Text) (n : ℕ) (cause : script.Cause) → lines_of text ≡ texts ls → n ≡ i + 1 → is_skipped (get_or ls i d).now ≡ false → cause_of (length cs) (said (get_or ls i d).now) ≡ Some cause → IsRefused text n cause
-wrong-at ls i d read lt text n cause same number h wrong =
+pub wrong-at : {names : List Text} {cs : List Request} (ls : List (Bor Text)) (i : ℕ) (d : Bor Text) → HasRead names cs (texts (take i ls)) → i < length ls
+    → (text : Text) (n : ℕ) (cause : script.Cause) → lines_of text ≡ texts ls → n ≡ i + 1 → is_skipped (get_or ls i d).now ≡ false → (count : ℕ) → count ≡ length cs → cause_of count (said (get_or ls i d).now) ≡ Some cause → IsRefused text n cause
+wrong-at ls i d read lt text n cause same number h count counted wrong =
     let cut : texts ls ≡ texts (take i ls) ++ (get_or ls i d).now ∷ texts (drop (i + 1) ls) =
     ap texts (sym (take-append-drop i ls) ∙ ap (λ (ws : List (Bor Text)). take i ls ++ ws) (drop_more ls i d lt)) ∙ map-append (λ (w : Bor Text). w.now) (take i ls) (get_or ls i d ∷ drop (i + 1) ls) in
     let numbered : n ≡ length (texts (take i ls)) + 1 = omega (arith, number, length-map (take i ls) (λ (w : Bor Text). w.now), length-take-le i ls (omega (arith, lt))) in
-    read-wrong read (get_or ls i d).now text (texts (drop (i + 1) ls)) n cause (same ∙ cut) numbered h wrong
+    read-wrong read (get_or ls i d).now text (texts (drop (i + 1) ls)) n cause (same ∙ cut) numbered h (ap (λ (k : ℕ). cause_of k (said (get_or ls i d).now)) (sym counted) ∙ wrong)

@@ -1,16 +1,17 @@
 -- How far a script was read.
-use Rattle.std.specs.Prelude.{ℕ, List, ◌++◌, Option}
-use Rattle.std.specs.Option.{option_map}
-use Rattle.script_model.specs.Commands.{Argument}
-use Rattle.script_model.specs.Scripts.{Say}
-use Rattle.script_lang.specs.declared.command.Command.{Command}
-use Rattle.script_lang.specs.Shown.{commands_in, CommandsAreKnown}
+use Rattle.std.specs.Prelude.{◌≡◌, ℕ, ◌<◌, true, false, List, Option, Some, None, Ok}
+use Rattle.commands.specs.declared.command.Request.{Request}
+use Rattle.commands.specs.Views.{request_in, IsKnownRequest}
+use Rattle.script_model.specs.Lines.{is_skipped}
+use Rattle.script_model.specs.Scripts.{command_limit, said, Say}
+use Rattle.script_lang.specs.Shown.{requests_in, AreKnown}
 
--- arguments, and then what is said behind them
-abbrev pub behind : List Argument → Option (List Argument) → Option (List Argument)
-behind xs r = option_map (λ (ys : List Argument). xs ++ ys) r
+-- a line behind so many commands says nothing, or asks for this
+abbrev pub LineSays : List (List ℕ) → List ℕ → ℕ → Option Request → Type 0
+LineSays names line count None = is_skipped line ≡ true
+LineSays names line count (Some r) = (is_skipped line ≡ false) × (said line ≡ Ok (request_in names r)) × IsKnownRequest names r × (count < command_limit)
 
--- the commands are those that the lines say
-pub record HasRead (names : List (List ℕ)) (commands : List Command) (lines : List (List ℕ)) : Type 0 where
-  pub known : CommandsAreKnown names commands
-  pub say : Say lines (commands_in names commands)
+-- the requests are those of the lines
+pub record HasRead (names : List (List ℕ)) (requests : List Request) (lines : List (List ℕ)) : Type 0 where
+  pub known : AreKnown names requests
+  pub say : Say lines (requests_in names requests)

@@ -6,7 +6,7 @@ ghost use Rattle.std.specs.Str.Lines.{strip_carriage_return};
 ghost use Rattle.script_model.specs.Lines as script;
 ghost use Rattle.script_lang.specs.Shown.{texts, filled};
 
-use crate::spelling::is_blank;
+use crate::bytes::is_blank;
 use std::alloc::{AllocError, Global};
 
 /// Whether a line has nothing but blanks.

@@ -1,2 +1,3 @@
 mod ExamplesJudged
 mod OneReading
+mod SomeReading

@@ -4,26 +4,27 @@ use Rattle.std.specs.Prelude.{cond, nat_lt, if◌then◌else◌}
 use Rattle.std.proofs.lemmas.List.{map-append}
 use Rattle.std.proofs.lemmas.List.Elements.{filter-append}
 use Rattle.std.proofs.lemmas.Bool.{lt-ltb}
+use Rattle.session_model.specs.Scripts.{Request}
 use Rattle.script_model.specs.Lines.{lines_of, is_skipped, spoken}
-use Rattle.script_model.specs.Commands.{Command, Cause, TooMany}
+use Rattle.script_model.specs.Commands.{Cause, TooMany}
 use Rattle.script_model.specs.Scripts.{said, Say, Says, cause_of, IsRefused}
 
 abbrev Text : Type 0
 Text = List ℕ
 
--- the same results are those of the same commands
-same_commands : (cs ds : List Command) → map {B = Result Command Cause} Ok cs ≡ map Ok ds → cs ≡ ds
-same_commands [] [] e = refl
-same_commands [] (d ∷ ds) e = absurd (cc)
-same_commands (c ∷ cs) [] e = absurd (cc)
-same_commands (c ∷ cs) (d ∷ ds) e =
+-- the same results are those of the same requests
+same_requests : (cs ds : List Request) → map {B = Result Request Cause} Ok cs ≡ map Ok ds → cs ≡ ds
+same_requests [] [] e = refl
+same_requests [] (d ∷ ds) e = absurd (cc)
+same_requests (c ∷ cs) [] e = absurd (cc)
+same_requests (c ∷ cs) (d ∷ ds) e =
     let first : c ≡ d = cc in
-    let rest : map {B = Result Command Cause} Ok cs ≡ map Ok ds = cc in
-    λ i. first i ∷ same_commands cs ds rest i
+    let rest : map {B = Result Request Cause} Ok cs ≡ map Ok ds = cc in
+    λ i. first i ∷ same_requests cs ds rest i
 
--- a script says one list of commands
-pub says_once : (text : Text) (cs ds : List Command) → Says text cs → Says text ds → cs ≡ ds
-says_once text cs ds p q = same_commands cs ds (sym p.each ∙ q.each)
+-- a script asks for one list of commands
+pub says_once : (text : Text) (cs ds : List Request) → Says text cs → Says text ds → cs ≡ ds
+says_once text cs ds p q = same_requests cs ds (sym p.each ∙ q.each)
 
 -- what the lines say of which one says something
 said_parts : (before after : List Text) (line : Text) → is_skipped line ≡ false → map said (spoken (before ++ line ∷ after)) ≡ map said (spoken before) ++ said line ∷ map said (spoken after)
@@ -32,8 +33,8 @@ said_parts before after line h =
     ∙ map-append said (spoken before) (spoken (line ∷ after))
     ∙ ap (λ (b : Bool). map said (spoken before) ++ map said (cond (not b) (line ∷ spoken after) (spoken after))) h
 
--- a result among those of commands is that of one, and there are more commands than stand before it
-among : (bs cs : List Command) (r : Result Command Cause) (rs : List (Result Command Cause)) → map Ok bs ++ r ∷ rs ≡ map Ok cs → (c : Command) × (r ≡ Ok c) × (length bs < length cs)
+-- a result among those of requests is that of one, and there are more of them than stand before it
+among : (bs cs : List Request) (r : Result Request Cause) (rs : List (Result Request Cause)) → map Ok bs ++ r ∷ rs ≡ map Ok cs → (c : Request) × (r ≡ Ok c) × (length bs < length cs)
 among [] [] r rs e = absurd (cc)
 among [] (c ∷ cs) r rs e = let first : r ≡ Ok c = cc in (c, first, omega arith)
 among (b ∷ bs) [] r rs e = absurd (cc)
@@ -42,11 +43,11 @@ among (b ∷ bs) (c ∷ cs) r rs e =
     let found = among bs cs r rs rest in
     (found.0, found.1, omega (arith, found.2))
 
--- a line among lines that say commands is not wrong
-not_wrong : (lines before after : List Text) (line : Text) (bs cs : List Command) (cause : Cause) → lines ≡ before ++ line ∷ after → is_skipped line ≡ false → Say before bs → Say lines cs → cause_of (length bs) (said line) ≡ Some cause → ⊥
+-- a line among lines that ask for something is not wrong
+not_wrong : (lines before after : List Text) (line : Text) (bs cs : List Request) (cause : Cause) → lines ≡ before ++ line ∷ after → is_skipped line ≡ false → Say before bs → Say lines cs → cause_of (length bs) (said line) ≡ Some cause → ⊥
 not_wrong lines before after line bs cs cause parts h p q wrong =
     let all : map Ok bs ++ said line ∷ map said (spoken after) ≡ map Ok cs =
-    ap (λ (rs : List (Result Command Cause)). rs ++ said line ∷ map said (spoken after)) (sym p.each) ∙ sym (said_parts before after line h) ∙ ap (λ (ls : List Text). map said (spoken ls)) (sym parts) ∙ q.each in
+    ap (λ (rs : List (Result Request Cause)). rs ++ said line ∷ map said (spoken after)) (sym p.each) ∙ sym (said_parts before after line h) ∙ ap (λ (ls : List Text). map said (spoken ls)) (sym parts) ∙ q.each in
     let found = among bs cs (said line) (map said (spoken after)) all in
     let room : nat_lt (length bs) 10000 ≡ true = lt-ltb (length bs) 10000 (omega (arith, found.2, q.few)) in
     no_cause (sym wrong ∙ ap (cause_of (length bs)) found.1 ∙ ap (λ (b : Bool). let r : Option Cause = if b then None else Some TooMany in r) room)
@@ -74,9 +75,9 @@ parted (a ∷ xs) x bs (c ∷ cs) y ds e =
     by f (nearer es p) = nearer es (λ i. sym f i ∷ p i)
     by f (farther es p) = farther es (λ i. f i ∷ p i)
 
--- a script that says commands is not refused
-pub not_refused : (text : Text) (cs : List Command) (n : ℕ) (cause : Cause) → Says text cs → IsRefused text n cause → ⊥
-not_refused text cs n cause p r = not_wrong (lines_of text) r.before r.after r.line r.commands cs cause r.parts r.says_something r.said_before p r.wrong
+-- a script that asks for something is not refused
+pub not_refused : (text : Text) (cs : List Request) (n : ℕ) (cause : Cause) → Says text cs → IsRefused text n cause → ⊥
+not_refused text cs n cause p r = not_wrong (lines_of text) r.before r.after r.line r.requests cs cause r.parts r.says_something r.said_before p r.wrong
 
 -- a script is refused at one line with one cause
 pub refused_once : (text : Text) (n m : ℕ) (cause other : Cause) → IsRefused text n cause → IsRefused text m other → (n ≡ m) × (cause ≡ other)
@@ -84,8 +85,8 @@ refused_once text n m cause other p q = by (parted p.before p.line p.after q.bef
   where
     by : Parted p.before p.line p.after q.before q.line q.after → (n ≡ m) × (cause ≡ other)
     by (same e f) =
-        let commands : p.commands ≡ q.commands = same_commands p.commands q.commands (sym p.said_before.each ∙ ap (λ (ls : List Text). map said (spoken ls)) e ∙ q.said_before.each) in
-        let causes : Some cause ≡ Some other = sym p.wrong ∙ (λ i. cause_of (length (commands i)) (said (f i))) ∙ q.wrong in
+        let requests : p.requests ≡ q.requests = same_requests p.requests q.requests (sym p.said_before.each ∙ ap (λ (ls : List Text). map said (spoken ls)) e ∙ q.said_before.each) in
+        let causes : Some cause ≡ Some other = sym p.wrong ∙ (λ i. cause_of (length (requests i)) (said (f i))) ∙ q.wrong in
         (p.numbered ∙ ap (λ (ls : List Text). length ls + 1) e ∙ sym q.numbered, cc causes)
-    by (nearer es e) = absurd (not_wrong q.before p.before es p.line p.commands q.commands cause e p.says_something p.said_before q.said_before p.wrong)
-    by (farther es e) = absurd (not_wrong p.before q.before es q.line q.commands p.commands other e q.says_something q.said_before p.said_before q.wrong)
+    by (nearer es e) = absurd (not_wrong q.before p.before es p.line p.requests q.requests cause e p.says_something p.said_before q.said_before p.wrong)
+    by (farther es e) = absurd (not_wrong p.before q.before es q.line q.requests p.requests other e q.says_something q.said_before p.said_before q.wrong)

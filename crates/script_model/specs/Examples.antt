@@ -1,77 +1,107 @@
--- Some lines, and the commands that they say or why they say none.
-use Rattle.std.specs.Prelude.{◌≡◌, ℕ, true, false, List, [], ◌∷◌, ◌++◌, codes, map, Result, Ok, Err}
-use Rattle.script_model.specs.Lines.{lines_of, spoken}
-use Rattle.script_model.specs.Commands.{name, side, number, Command, Argument, Cause, UnknownCommand, Unbuilt, BadArgument}
-use Rattle.script_model.specs.Scripts.{said}
+-- Some lines, and what they ask for or why they ask for nothing.
+use Rattle.std.specs.Prelude.{◌≡◌, ℕ, true, false, List, [], ◌∷◌, ◌++◌, codes, map, Some, None, Result, Ok, Err}
+use Rattle.command_model.specs.Commands.{CommandOf, RenameClass, AddClass, RemoveClass, AddInstVar, RenameInstVar, RemoveInstVar, PushUpInstVar, PushDownInstVar, AddClassVar, RenameClassVar, RemoveClassVar, PushUpClassVar, PushDownClassVar, AddClassSideVar, RenameClassSideVar, RemoveClassSideVar, RenameSelector, RemoveMethod, PushUpMethod, PushDownMethod, RemoveParameter, AbstractInstVar, ExtractMethod, InlineMethod, ExtractTemp, InlineTemp, RenameTemp}
+use Rattle.history_model.specs.Rules.{Perform, Undo, Redo}
+use Rattle.session_model.specs.Actions.{ActionOf, CreateAccessors, ExtractSuperclass, PushUpWithMethods}
+use Rattle.session_model.specs.Scripts.{Request}
+use Rattle.script_model.specs.Lines.{lines_of, words_of, spoken}
+use Rattle.script_model.specs.Makers.{Text, single}
+use Rattle.script_model.specs.Commands.{Cause, UnknownCommand, Unbuilt, BadArgument, TooMany, rows_to_come, said_among}
+use Rattle.script_model.specs.Scripts.{said, cause_of, IsRefused}
 
--- a line, and what it says
+-- a line, and what it asks for
 pub record Row : Type 0 where
-  pub line : List ℕ
-  pub says : Result Command Cause
+  pub line : Text
+  pub says : Result Request Cause
 
 -- each row is as the definition has it
 abbrev pub AllSaid : List Row → Type 0
 AllSaid [] = Unit {0}
 AllSaid (r ∷ rs) = (said r.line ≡ r.says) × AllSaid rs
 
--- a line that says a command, and one that says none
-abbrev pub row : List ℕ → List ℕ → List Argument → Row
-row line w xs = record { line = line; says = Ok (record { word = w; arguments = xs }) }
+-- each row is one that is still to come, and is as the definition will have it
+abbrev pub AllToCome : List Row → Type 0
+AllToCome [] = Unit {0}
+AllToCome (r ∷ rs) = (said r.line ≡ Err Unbuilt) × (said_among rows_to_come (words_of r.line) ≡ r.says) × AllToCome rs
 
-abbrev pub wrong : List ℕ → Cause → Row
+-- a line that asks for something, for a command, and for a composite; and one that asks for nothing
+abbrev pub asks : Text → Request → Row
+asks line request = record { line = line; says = Ok request }
+
+abbrev pub performs : Text → CommandOf Text → Row
+performs line command = asks line (single command)
+
+abbrev pub composes : Text → ActionOf Text → Row
+composes line action = asks line (Perform action)
+
+abbrev pub wrong : Text → Cause → Row
 wrong line cause = record { line = line; says = Err cause }
 
 -- names
-abbrev pub c : Argument
-c = name (codes "C")
+abbrev pub c : Text
+c = codes "C"
 
-abbrev pub d : Argument
-d = name (codes "D")
+abbrev pub d : Text
+d = codes "D"
 
-abbrev pub x : Argument
-x = name (codes "x")
+abbrev pub x : Text
+x = codes "x"
 
-abbrev pub y : Argument
-y = name (codes "y")
+abbrev pub y : Text
+y = codes "y"
 
-abbrev pub put : Argument
-put = name (codes "at:put:")
+abbrev pub put : Text
+put = codes "at:put:"
 
 abbrev pub commands : List Row
 commands =
-    row (codes "renameClass C D") (codes "renameClass") (c ∷ d ∷ [])
-    ∷ row (codes "addClass C D") (codes "addClass") (c ∷ d ∷ [])
-    ∷ row (codes "addClass C D D C") (codes "addClass") (c ∷ d ∷ d ∷ c ∷ [])
-    ∷ row (codes " removeClass   C ") (codes "removeClass") (c ∷ [])
-    ∷ row (codes "addInstVar C x") (codes "addInstVar") (c ∷ x ∷ [])
-    ∷ row (codes "renameInstVar C x y") (codes "renameInstVar") (c ∷ x ∷ y ∷ [])
-    ∷ row (codes "removeInstVar C x") (codes "removeInstVar") (c ∷ x ∷ [])
-    ∷ row (codes "pushUpInstVar C x") (codes "pushUpInstVar") (c ∷ x ∷ [])
-    ∷ row (codes "pushDownInstVar C x") (codes "pushDownInstVar") (c ∷ x ∷ [])
-    ∷ row (codes "addClassVar C x") (codes "addClassVar") (c ∷ x ∷ [])
-    ∷ row (codes "renameClassVar C x y") (codes "renameClassVar") (c ∷ x ∷ y ∷ [])
-    ∷ row (codes "removeClassVar C x") (codes "removeClassVar") (c ∷ x ∷ [])
-    ∷ row (codes "pushUpClassVar C x") (codes "pushUpClassVar") (c ∷ x ∷ [])
-    ∷ row (codes "pushDownClassVar C x D") (codes "pushDownClassVar") (c ∷ x ∷ d ∷ [])
-    ∷ row (codes "addClassSideVar C x") (codes "addClassSideVar") (c ∷ x ∷ [])
-    ∷ row (codes "renameClassSideVar C x y") (codes "renameClassSideVar") (c ∷ x ∷ y ∷ [])
-    ∷ row (codes "removeClassSideVar C x") (codes "removeClassSideVar") (c ∷ x ∷ [])
-    ∷ row (codes "renameSelector at:put: +") (codes "renameSelector") (put ∷ name (codes "+") ∷ [])
-    ∷ row (codes "removeMethod C instance at:put:") (codes "removeMethod") (c ∷ side false ∷ put ∷ [])
-    ∷ row (codes "pushUpMethod C class x") (codes "pushUpMethod") (c ∷ side true ∷ x ∷ [])
-    ∷ row (codes "pushDownMethod C class at:put:") (codes "pushDownMethod") (c ∷ side true ∷ put ∷ [])
-    ∷ row (codes "removeParameter at:put: 2 x") (codes "removeParameter") (put ∷ number 2 ∷ x ∷ [])
-    ∷ row (codes "abstractInstVar C x") (codes "abstractInstVar") (c ∷ x ∷ [])
-    ∷ row (codes "extractMethod C instance x 0 12 at:put:") (codes "extractMethod") (c ∷ side false ∷ x ∷ number 0 ∷ number 12 ∷ put ∷ [])
-    ∷ row (codes "inlineMethod C instance x 8 999999999") (codes "inlineMethod") (c ∷ side false ∷ x ∷ number 8 ∷ number 999999999 ∷ [])
-    ∷ row (codes "extractTemp C instance x 8 13 y") (codes "extractTemp") (c ∷ side false ∷ x ∷ number 8 ∷ number 13 ∷ y ∷ [])
-    ∷ row (codes "inlineTemp C class x y") (codes "inlineTemp") (c ∷ side true ∷ x ∷ y ∷ [])
-    ∷ row (codes "renameTemp C instance at:put: x y") (codes "renameTemp") (c ∷ side false ∷ put ∷ x ∷ y ∷ [])
-    ∷ row (codes "undo") (codes "undo") []
-    ∷ row (codes "redo") (codes "redo") []
-    ∷ row (codes "createAccessors C x") (codes "createAccessors") (c ∷ x ∷ [])
-    ∷ row (codes "extractSuperclass C D C") (codes "extractSuperclass") (c ∷ d ∷ c ∷ [])
-    ∷ row (codes "pushUpWithMethods C x") (codes "pushUpWithMethods") (c ∷ x ∷ [])
+    performs (codes "renameClass C D") (RenameClass c d)
+    ∷ performs (codes "  renameClass   D C ") (RenameClass d c)
+    ∷ performs (codes "renameInstVar C x y") (RenameInstVar c x y)
+    ∷ performs (codes "renameClassVar C x y") (RenameClassVar c x y)
+    ∷ performs (codes "renameClassSideVar C x y") (RenameClassSideVar c x y)
+    ∷ performs (codes "renameSelector at:put: +") (RenameSelector put (codes "+"))
+    ∷ asks (codes "undo") Undo
+    ∷ asks (codes "redo") Redo
+    ∷ []
+
+-- lines of commands that are still to come
+abbrev pub lines_to_come : List Row
+lines_to_come =
+    performs (codes "addClass C D") (AddClass c d [])
+    ∷ performs (codes "addClass C D D C") (AddClass c d (d ∷ c ∷ []))
+    ∷ performs (codes " removeClass   C ") (RemoveClass c)
+    ∷ performs (codes "addInstVar C x") (AddInstVar c x)
+    ∷ performs (codes "removeInstVar C x") (RemoveInstVar c x)
+    ∷ performs (codes "pushUpInstVar C x") (PushUpInstVar c x)
+    ∷ performs (codes "pushDownInstVar C x") (PushDownInstVar c x)
+    ∷ performs (codes "addClassVar C x") (AddClassVar c x)
+    ∷ performs (codes "removeClassVar C x") (RemoveClassVar c x)
+    ∷ performs (codes "pushUpClassVar C x") (PushUpClassVar c x)
+    ∷ performs (codes "pushDownClassVar C x D") (PushDownClassVar c x d)
+    ∷ performs (codes "addClassSideVar C x") (AddClassSideVar c x)
+    ∷ performs (codes "removeClassSideVar C x") (RemoveClassSideVar c x)
+    ∷ performs (codes "removeMethod C instance at:put:") (RemoveMethod c false put)
+    ∷ performs (codes "pushUpMethod C class x") (PushUpMethod c true x)
+    ∷ performs (codes "pushDownMethod C class at:put:") (PushDownMethod c true put)
+    ∷ performs (codes "removeParameter at:put: 2 x") (RemoveParameter put 2 x)
+    ∷ performs (codes "abstractInstVar C x") (AbstractInstVar c x (codes "x:") (codes "anObject"))
+    ∷ performs (codes "extractMethod C instance x 0 12 at:put:") (ExtractMethod c false x 0 12 put)
+    ∷ performs (codes "inlineMethod C instance x 8 999999999") (InlineMethod c false x 8 999999999)
+    ∷ performs (codes "extractTemp C instance x 8 13 y") (ExtractTemp c false x 8 13 y)
+    ∷ performs (codes "inlineTemp C class x y") (InlineTemp c true x y)
+    ∷ performs (codes "renameTemp C instance at:put: x y") (RenameTemp c false put x y)
+    ∷ composes (codes "createAccessors C x") (CreateAccessors c x (codes "x:") (codes "anObject"))
+    ∷ composes (codes "extractSuperclass C D C") (ExtractSuperclass c d (c ∷ []))
+    ∷ composes (codes "pushUpWithMethods C x") (PushUpWithMethods c x)
+    ∷ wrong (codes "addClass C") BadArgument
+    ∷ wrong (codes "addClass C D 3") BadArgument
+    ∷ wrong (codes "addInstVar C x:") BadArgument
+    ∷ wrong (codes "extractSuperclass C D") BadArgument
+    ∷ wrong (codes "removeMethod C Instance x") BadArgument
+    ∷ wrong (codes "removeParameter x: 02 y") BadArgument
+    ∷ wrong (codes "removeParameter x: -2 y") BadArgument
+    ∷ wrong (codes "removeParameter x: 1000000000 y") BadArgument
     ∷ []
 
 abbrev pub wrong_lines : List Row
@@ -82,24 +112,47 @@ wrong_lines =
     ∷ wrong (codes "addMethod") Unbuilt
     ∷ wrong (codes "addParameter s") Unbuilt
     ∷ wrong (codes "applyRule") Unbuilt
+    ∷ wrong (codes "inlineTemp A") Unbuilt
     ∷ wrong (codes "renameClass C") BadArgument
     ∷ wrong (codes "renameClass C D C") BadArgument
     ∷ wrong (codes "renameClass C 1") BadArgument
-    ∷ wrong (codes "addInstVar C x:") BadArgument
-    ∷ wrong (codes "addClass C") BadArgument
-    ∷ wrong (codes "addClass C D 3") BadArgument
-    ∷ wrong (codes "extractSuperclass C D") BadArgument
+    ∷ wrong (codes "renameInstVar C x y:") BadArgument
     ∷ wrong (codes "renameSelector x +-") BadArgument
-    ∷ wrong (codes "removeMethod C Instance x") BadArgument
-    ∷ wrong (codes "removeParameter x: 02 y") BadArgument
-    ∷ wrong (codes "removeParameter x: -2 y") BadArgument
-    ∷ wrong (codes "removeParameter x: 1000000000 y") BadArgument
     ∷ wrong (codes "undo x") BadArgument
     ∷ []
 
 -- a script: lines that say nothing, one that ends with a carriage return, and a last one without a line feed
-abbrev pub example : List ℕ
+abbrev pub example : Text
 example = codes "-- first" ++ 10 ∷ 13 ∷ 10 ∷ codes "undo" ++ 13 ∷ 10 ∷ 9 ∷ 32 ∷ 10 ∷ codes "redo"
 
 abbrev pub IsExample : Type 0
-IsExample = map said (spoken (lines_of example)) ≡ Ok (record { word = codes "undo"; arguments = [] }) ∷ Ok (record { word = codes "redo"; arguments = [] }) ∷ []
+IsExample = map said (spoken (lines_of example)) ≡ Ok Undo ∷ Ok Redo ∷ []
+
+-- a script that is refused, with the number of its first wrong line and the cause
+pub record RefusedRow : Type 0 where
+  pub text : Text
+  pub number : ℕ
+  pub cause : Cause
+
+abbrev pub AllRefused : List RefusedRow → Type 0
+AllRefused [] = Unit {0}
+AllRefused (r ∷ rs) = IsRefused r.text r.number r.cause × AllRefused rs
+
+abbrev pub refused : Text → ℕ → Cause → RefusedRow
+refused text number cause = record { text = text; number = number; cause = cause }
+
+-- of several wrong lines the first is told, whatever its cause
+abbrev pub refused_scripts : List RefusedRow
+refused_scripts =
+    refused (codes "renameClass C 1" ++ 10 ∷ codes "inlineTemp C") 1 BadArgument
+    ∷ refused (codes "inlineTemp C" ++ 10 ∷ codes "renameClass C 1") 1 Unbuilt
+    ∷ refused (codes "undo" ++ 10 ∷ codes "--" ++ 10 ∷ codes "addClass C D" ++ 10 ∷ codes "rename") 3 Unbuilt
+    ∷ []
+
+-- behind 9,999 commands there is room for one; behind 10,000 a line that asks for something is one too many, and one that is wrong in another way is told so
+abbrev pub HasLimit : Type 0
+HasLimit =
+    (cause_of 9999 (said (codes "undo")) ≡ None)
+    × (cause_of 10000 (said (codes "undo")) ≡ Some TooMany)
+    × (cause_of 10000 (said (codes "undo x")) ≡ Some BadArgument)
+    × (cause_of 10000 (said (codes "addClass C D")) ≡ Some Unbuilt)

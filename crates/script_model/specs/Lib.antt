@@ -1,5 +1,7 @@
 pub mod Words
 pub mod Lines
+pub mod Arguments
+pub mod Makers
 pub mod Commands
 pub mod Scripts
 pub mod Examples

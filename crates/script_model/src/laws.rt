@@ -1,20 +1,27 @@
 // Laws of scripts. Each function does nothing; its contract is the law.
-ghost use Rattle.std.specs.Prelude.{◌≡◌, ℕ, List};
-ghost use Rattle.script_model.specs.Commands.{Command, Cause};
+ghost use Rattle.std.specs.Prelude.{◌≡◌, ◌⊎◌, ℕ, List};
+ghost use Rattle.session_model.specs.Scripts.{Request};
+ghost use Rattle.script_model.specs.Commands.{Cause};
 ghost use Rattle.script_model.specs.Scripts.{Says, IsRefused};
-ghost use Rattle.script_model.specs.Examples.{AllSaid, commands, wrong_lines, IsExample};
+ghost use Rattle.script_model.specs.Examples.{AllSaid, AllToCome, AllRefused, commands, lines_to_come, wrong_lines, IsExample, refused_scripts, HasLimit};
 
-/// Lines say the commands that stand beside them, each command once, or are wrong with the cause that stands beside
-/// them. A script with lines of all sorts says the commands that stand beside it.
+/// Lines ask for what stands beside them, those of each command that is performed once, or are wrong with the cause that
+/// stands beside them; those of commands that are still to come are told as such, and will ask for what stands beside
+/// them. A script with lines of all sorts asks for what stands beside it. Of scripts with several wrong lines the first is
+/// told; and there are at most 10,000 commands.
 pub fn judges_examples()
     ensures commands { AllSaid commands }
+    ensures to_come { AllToCome lines_to_come }
     ensures wrong_lines { AllSaid wrong_lines }
     ensures script { IsExample }
+    ensures refused { AllRefused refused_scripts }
+    ensures limit { HasLimit }
 {}
 
-/// A script says one list of commands, or is refused at one line with one cause; never both.
+/// A script asks for one list of commands, or is refused at one line with one cause; never both, and never neither.
 pub fn has_one_reading()
-    ensures commands { (text : List ℕ) (commands others : List Command) → Says text commands → Says text others → commands ≡ others }
-    ensures not_both { (text : List ℕ) (commands : List Command) (number : ℕ) (cause : Cause) → Says text commands → ¬ IsRefused text number cause }
+    ensures requests { (text : List ℕ) (requests others : List Request) → Says text requests → Says text others → requests ≡ others }
+    ensures not_both { (text : List ℕ) (requests : List Request) (number : ℕ) (cause : Cause) → Says text requests → ¬ IsRefused text number cause }
     ensures refusal { (text : List ℕ) (number other : ℕ) (cause another : Cause) → IsRefused text number cause → IsRefused text other another → (number ≡ other) × (cause ≡ another) }
+    ensures either { (text : List ℕ) → ((requests : List Request) × Says text requests) ⊎ ((number : ℕ) × (cause : Cause) × IsRefused text number cause) }
 {}

@@ -1,0 +1,69 @@
+-- What the answers of `apply` promise.
+use Rattle.std.proofs.Common.{◌≡◌, List, Ok, sym, subst}
+use Rattle.std.specs.List.{AllByRecursion}
+use Rattle.token_model.specs.declared.kind.Dialect.TheVariants.{Second}
+use Rattle.st_kernel.specs.KernelText.{prelude_text}
+use Rattle.image_model.specs.Image.{DoItOf, ImageOf, plus}
+use Rattle.run_model.specs.Matched.{AreMatched}
+use Rattle.file_model.specs.Causes.{Refusal as ImageRefusal}
+use Rattle.file_model.specs.Reading.{IsImageOf}
+use Rattle.file_model.specs.Written.{file_of}
+use Rattle.file_rereading.specs.Rereading.{IsWithinLimits, with_heads}
+use Rattle.history_model.specs.Rules.{Asks}
+use Rattle.history_model.proofs.Parts.{refused-at}
+use Rattle.session_model.specs.Admitted.{Admits, nil_doit}
+use Rattle.session_model.specs.Scripts.{Request, History, rules, verdict_in}
+use Rattle.session_model.specs.Lawful.{IsLawfulAction}
+use Rattle.script_model.specs.Makers.{Text}
+use Rattle.apply_model.specs.declared.status.Status.{Status}
+use Rattle.apply_model.specs.declared.status.Status.TheVariants as status
+use Rattle.apply_model.specs.Applied.{AppliesIn, NoScript, Refused, Accepted, Applies, NoImage, InImage}
+use Rattle.apply_model.specs.Promised.{IsChangedFile, IsRefusalOf}
+use Rattle.apply_laws.proofs.LawfulRequests.{requests-lawful}
+
+module _ (text script : Text)
+    (matched : (i : ImageOf Text) (requests : List Request) (h : History) → IsImageOf Second prelude_text text i → AllByRecursion (Asks IsLawfulAction) requests →
+    verdict_in i requests ≡ Ok h → AreMatched i h.now.image h.now.renaming)
+    (nil : (i : ImageOf Text) (requests : List Request) (h : History) → verdict_in i requests ≡ Ok h → Admits i requests nil_doit)
+    (again : (i : ImageOf Text) (requests : List Request) (h : History) → IsImageOf Second prelude_text text i → AllByRecursion (Asks IsLawfulAction) requests →
+    verdict_in i requests ≡ Ok h → IsWithinLimits h.now.image → IsImageOf Second prelude_text (file_of h.now.image) (with_heads h.now.image))
+    (matched_again : (i : ImageOf Text) (requests : List Request) (h : History) → IsImageOf Second prelude_text text i → AllByRecursion (Asks IsLawfulAction) requests →
+    verdict_in i requests ≡ Ok h → AreMatched i (with_heads h.now.image) h.now.renaming)
+    (admitted : (i : ImageOf Text) (requests : List Request) (h : History) (e : DoItOf Text) → IsImageOf Second prelude_text text i → AllByRecursion (Asks IsLawfulAction) requests →
+    verdict_in i requests ≡ Ok h → (a : Admits i requests e) →
+    (last : DoItOf Text) × (a.history.now.image ≡ plus h.now.image last) × (a.history.now.renaming ≡ h.now.renaming)
+    × AreMatched (plus i e) (plus h.now.image last) h.now.renaming × AreMatched (plus i e) (plus (with_heads h.now.image) last) h.now.renaming) where
+  done-in : (i : ImageOf Text) (s : Status) (sent : Text) → IsImageOf Second prelude_text text i → AppliesIn i script s sent → s ≡ status.Done → IsChangedFile text script sent
+  done-in i s sent is (NoScript n cause refused a b) e = absurd (cc)
+  done-in i s sent is (Refused rs r says v a b) e = absurd (cc)
+  done-in i s sent is (Accepted rs h says v a b) e =
+      let lawful = requests-lawful script rs says in
+      record {
+        image = i;
+        is_image = is;
+        requests = rs;
+        says = says;
+        history = h;
+        accepted = v;
+        file = b;
+        matched = matched i rs h is lawful v;
+        read_again = λ within. subst (λ t. IsImageOf Second prelude_text t (with_heads h.now.image)) (sym b) (again i rs h is lawful v within);
+        matched_again = matched_again i rs h is lawful v;
+        expressions = λ x ad. let all = admitted i rs h x is lawful v ad in record { last = all.0; added = all.1; renaming = all.2; matched = all.3; matched_again = all.4 };
+        nil_admitted = nil i rs h v;
+      }
+
+  pub done : (image_line : ImageRefusal → Text) (s : Status) (sent : Text) → Applies image_line text script s sent → s ≡ status.Done → IsChangedFile text script sent
+  done image_line s sent (NoImage r refused a b) e = absurd (cc)
+  done image_line s sent (InImage i is a) e = done-in i s sent is a e
+
+-- a command that is refused
+condition-in : (text script : Text) (i : ImageOf Text) (s : Status) (sent : Text) → IsImageOf Second prelude_text text i → AppliesIn i script s sent → s ≡ status.Condition → IsRefusalOf text script sent
+condition-in text script i s sent is (NoScript n cause refused a b) e = absurd (cc)
+condition-in text script i s sent is (Accepted rs h says v a b) e = absurd (cc)
+condition-in text script i s sent is (Refused rs r says v a b) e =
+    record { image = i; is_image = is; requests = rs; says = says; refusal = r; at = refused-at rules i rs r v; file = b }
+
+pub condition : (image_line : ImageRefusal → Text) (text script : Text) (s : Status) (sent : Text) → Applies image_line text script s sent → s ≡ status.Condition → IsRefusalOf text script sent
+condition image_line text script s sent (NoImage r refused a b) e = absurd (cc)
+condition image_line text script s sent (InImage i is a) e = condition-in text script i s sent is a e

@@ -1,0 +1,3 @@
+mod LawfulRequests
+mod Kept
+mod SomeAnswer

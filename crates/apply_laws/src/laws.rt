@@ -1,0 +1,34 @@
+// Laws of `apply`. Each function does nothing; its contract is the law.
+ghost use Rattle.std.specs.Prelude.{◌≡◌};
+ghost use Rattle.file_model.specs.Causes.{Refusal};
+ghost use Rattle.script_model.specs.Makers.{Text};
+ghost use Rattle.apply_model.specs.declared.status.Status.{Status};
+ghost use Rattle.apply_model.specs.declared.status.Status.TheVariants as status;
+ghost use Rattle.apply_model.specs.Applied.{Applies};
+ghost use Rattle.apply_model.specs.Promised.{IsChangedFile, IsRefusalOf};
+
+use command_laws::law_script_files;
+use history_laws::law_nil_admitted;
+use kernel_image::every_text_is_read_or_refused;
+use script_model::has_one_reading;
+
+/// Two texts have an answer of `apply`.
+pub fn has_some_answer()
+    ensures { (image_line : Refusal → Text) (text script : Text) → (s : Status) × (sent : Text) × Applies image_line text script s sent }
+{
+    every_text_is_read_or_refused();
+    has_one_reading();
+}
+
+/// Where `apply` is done, what it sends is the file of the image that the script makes, which keeps the runs of the image, with
+/// each start expression that the script admits, up to what is renamed, and is read again from that file; and where it ends by
+/// a condition, what it sends names the first command that is refused, and its first condition that is false.
+pub fn law_applied()
+    ensures done { (image_line : Refusal → Text) (text script : Text) (s : Status) (sent : Text) →
+        Applies image_line text script s sent → s ≡ status.Done → IsChangedFile text script sent }
+    ensures condition { (image_line : Refusal → Text) (text script : Text) (s : Status) (sent : Text) →
+        Applies image_line text script s sent → s ≡ status.Condition → IsRefusalOf text script sent }
+{
+    law_script_files();
+    law_nil_admitted();
+}

@@ -1,0 +1,8 @@
+//! The lines that say why a script or a command of it is refused (Roberts 1999).
+#![tactic(auto)]
+
+mod conditions;
+mod lines;
+mod words;
+
+pub use lines::{push_refusal, push_script_line};

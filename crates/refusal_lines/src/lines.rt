@@ -1,0 +1,55 @@
+// The lines of a refused script and of a refused command.
+ghost use Rattle.std.specs.Prelude.{◌≡◌, ◌++◌, codes, OnOk, MatchOption};
+ghost use Rattle.std.specs.Fmt.{decimal};
+ghost use Rattle.rb_base.specs.Names.{name_at};
+ghost use Rattle.command_numbers.specs.MappedCommands.{map_condition};
+ghost use Rattle.commands.specs.Views.{condition_of};
+ghost use Rattle.script_lang.specs.Shown.{fault_shown};
+ghost use Rattle.apply_model.specs.Lines.{line, refusal_line, script_line};
+
+use crate::conditions::push_condition;
+use crate::words::push_number;
+use commands::Condition;
+use rb_base::{Memory, Names, Text};
+use script_lang::ScriptFault;
+
+/// Appends the line of a command that is refused: its number in the script, from 1, and its first condition that is false.
+/// On want of memory a part of the line may be appended.
+pub fn push_refusal(
+    number: usize,
+    condition: &Condition,
+    names: &Names,
+    out: &mut Text,
+) -> Result<(), Memory>
+    ensures { OnOk result (out.new ≡ out.old ++ refusal_line (record { number = number; condition = map_condition (name_at names.now) (condition_of condition.now) })) }
+{
+    out.push_slice(b"refused ")?;
+    push_number(number, out)?;
+    push_condition(condition, names, out)?;
+    out.push_slice(b"\n")
+}
+
+/// Appends the line of a script whose line of this number is wrong, with the name of the cause.
+fn push_cause(number: usize, cause: &[u8], out: &mut Text) -> Result<(), Memory>
+    ensures { OnOk result (out.new ≡ out.old ++ line (codes "script line " ++ decimal number ++ codes " " ++ cause.now)) }
+{
+    out.push_slice(b"script line ")?;
+    push_number(number, out)?;
+    out.push_slice(b" ")?;
+    out.push_slice(cause)?;
+    out.push_slice(b"\n")
+}
+
+/// Appends the line of a script that is wrong: the number of its first wrong line, and why that is wrong. Want of memory is
+/// no fault of a script, and is given back. On want of memory a part of the line may be appended.
+pub fn push_script_line(fault: ScriptFault, out: &mut Text) -> Result<(), Memory>
+    ensures { OnOk result (MatchOption (fault_shown fault) ⊥ (λ f. out.new ≡ out.old ++ script_line f.0 f.1)) }
+{
+    match fault {
+        ScriptFault::UnknownCommand { line } => push_cause(line, b"UnknownCommand", out),
+        ScriptFault::Unbuilt { line } => push_cause(line, b"Unbuilt", out),
+        ScriptFault::BadArgument { line } => push_cause(line, b"BadArgument", out),
+        ScriptFault::TooMany { line } => push_cause(line, b"TooMany", out),
+        ScriptFault::Memory => Err(Memory),
+    }
+}

@@ -1,0 +1,81 @@
+// Words behind blanks, and numbers.
+ghost use Rattle.std.specs.Prelude.{◌≡◌, [], ◌∷◌, ◌++◌, List, ℕ, codes, flat_map, OnOk};
+ghost use Rattle.std.specs.Borrow.{Bor};
+ghost use Rattle.std.specs.Fmt.{decimal};
+ghost use Rattle.rb_base.specs.Names.{name_at};
+ghost use Rattle.text_model.specs.Pieces.{pieces_behind};
+
+use itoa::Buffer;
+use rb_base::{Memory, NameId, Names, Text};
+
+/// The text of a number, and the empty text where the table has no such number.
+fn text_of(names: &Names, name: NameId) -> &[u8]
+    ensures { result.now ≡ name_at names.now name }
+{
+    if name.0 < names.len() {
+        names.text_of(name)
+    } else {
+        &[]
+    }
+}
+
+/// Appends the words, each behind a blank.
+fn push_words(words: &[&[u8]], out: &mut Text) -> Result<(), Memory>
+    ensures { OnOk result (out.new ≡ out.old ++ flat_map (λ (w : Bor (List ℕ)). codes " " ++ w.now) words.now) }
+{
+    for word in words {
+        out.push_slice(b" ")?;
+        out.push_slice(word)?;
+    }
+    Ok(())
+}
+
+/// Appends the number of a condition and its name.
+pub(crate) fn push_title(number: &[u8], title: &[u8], out: &mut Text) -> Result<(), Memory>
+    ensures { OnOk result (out.new ≡ out.old ++ pieces_behind (codes " ") (number.now ∷ title.now ∷ [])) }
+{
+    push_words(&[number, title], out)
+}
+
+/// The same of a condition on a name.
+pub(crate) fn push_named(
+    number: &[u8],
+    title: &[u8],
+    name: NameId,
+    names: &Names,
+    out: &mut Text,
+) -> Result<(), Memory>
+    ensures { OnOk result (out.new ≡ out.old ++ pieces_behind (codes " ") (number.now ∷ title.now ∷ name_at names.now name ∷ [])) }
+{
+    push_words(&[number, title, text_of(names, name)], out)
+}
+
+/// The same of a condition on a class and a variable.
+pub(crate) fn push_placed(
+    number: &[u8],
+    title: &[u8],
+    class: NameId,
+    variable: NameId,
+    names: &Names,
+    out: &mut Text,
+) -> Result<(), Memory>
+    ensures { OnOk result (out.new ≡ out.old ++ pieces_behind (codes " ") (number.now ∷ title.now ∷ name_at names.now class ∷ name_at names.now variable ∷ [])) }
+{
+    push_words(
+        &[
+            number,
+            title,
+            text_of(names, class),
+            text_of(names, variable),
+        ],
+        out,
+    )
+}
+
+/// Appends a number in decimal.
+pub(crate) fn push_number(number: usize, out: &mut Text) -> Result<(), Memory>
+    ensures { OnOk result (out.new ≡ out.old ++ decimal number) }
+{
+    let mut buffer = Buffer::new();
+    out.push_slice(buffer.format(number).as_bytes())
+}

@@ -1,0 +1,2 @@
+mod Keywords
+mod Counts
