@@ -42,7 +42,7 @@ module _ {X : Type 0} where
   Contains-later x y xs h = let lt = h.1 in (suc h.0, omega arith, h.2)
 
   -- an item is the first, or behind it
-  Contains-cases : (x y : X) (xs : List X) → Contains (x ∷ xs) y → (x ≡ y) ⊎ Contains xs y
+  pub Contains-cases : (x y : X) (xs : List X) → Contains (x ∷ xs) y → (x ≡ y) ⊎ Contains xs y
   Contains-cases x y xs (zero, lt, e) = inl e
   Contains-cases x y xs (suc k, lt, e) = inr (k, omega arith, e)
 

@@ -9,5 +9,5 @@ mod tests;
 mod walk;
 
 pub use laws::{law_complete, law_listed, law_names_changed, law_unlisted, law_unmentioned};
-pub use listing::{doit_names, method_names};
+pub use listing::{doit_names, leave_once, method_names};
 pub use walk::nodes_of;

@@ -1,5 +1,5 @@
 // The names that a method or a do-it mentions, each once.
-ghost use Rattle.std.specs.Prelude.{◌≡◌, [], ◌∷◌, ◌++◌, IfOk, OnOk};
+ghost use Rattle.std.specs.Prelude.{◌≡◌, ◌≤◌, [], ◌∷◌, ◌++◌, length, IfOk, OnOk};
 ghost use Rattle.std.specs.List.{flat_map};
 ghost use Rattle.tree_model.specs.Tree.{literals_of};
 ghost use Rattle.st_tree.specs.View.{messages_of, sequence_of, method_of};
@@ -103,9 +103,10 @@ fn put_code(alloc: Global, body: &Sequence, numbers: &mut Vec<usize>) -> Result<
     put_all_own(nodes.as_slice(), numbers)
 }
 
-/// Leaves each number once.
-fn leave_once(numbers: &mut Vec<usize>)
-    ensures { ListsOnce numbers.old.items numbers.new.items }
+/// Leaves each number once, in order.
+pub fn leave_once(numbers: &mut Vec<usize>)
+    ensures once { ListsOnce numbers.old.items numbers.new.items }
+    ensures shorter { length numbers.new.items ≤ length numbers.old.items }
 {
     numbers.sort_unstable();
     numbers.dedup();

@@ -4,8 +4,8 @@ use Rattle.std.proofs.lemmas.List.Sorted.{Contains-permutation, IsPermutation-sy
 use Rattle.std.proofs.lemmas.Map.Keys.{IsStrictlyIncreasing-dedup}
 use Rattle.mentions.proofs.listing.leave_once.Goals as goal
 
-pub returns : goal.returns
-returns c =
+pub returns-clause-once : goal.returns-clause-once
+returns-clause-once c =
     let is = dedup_is _ _ _ c.dedup.ensures.filtered in
     let moved = c.sort_unstable.ensures.permutation in
     record {
