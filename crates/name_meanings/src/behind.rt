@@ -27,14 +27,15 @@ fn variables(rec: &ClassRec, kind: VariableKind) -> &Ids
     }
 }
 
-fn is_among(names: &[NameId], name: NameId) -> bool
+/// Whether the name is one of these.
+pub fn is_among(names: &[NameId], name: NameId) -> bool
     ensures { result ≡ list_any (nat_eq name) names.now }
 {
     names.iter().any(|other| name == *other)
 }
 
 /// Whether a class itself defines a variable of a kind.
-fn defines(rec: &ClassRec, kind: VariableKind, name: NameId) -> bool
+pub fn defines(rec: &ClassRec, kind: VariableKind, name: NameId) -> bool
     ensures { (classes : List ClassRec) → result ≡ list_any (nat_eq name) (variables (kind_of kind) (class_of classes rec.now)) }
 {
     is_among(variables(rec, kind).as_slice(), name)

@@ -5,5 +5,6 @@ mod behind;
 mod meaning;
 mod place;
 
+pub use behind::{defines, is_among};
 pub use meaning::{Meaning, VariableKind};
 pub use place::{doit_meaning, method_meaning};

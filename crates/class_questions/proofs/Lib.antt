@@ -1,0 +1,2 @@
+pub mod AnyLive
+pub mod ChainLaws

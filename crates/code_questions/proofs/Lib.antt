@@ -1,0 +1,3 @@
+pub mod Witnesses
+pub mod AtPlaces
+pub mod Mentioning

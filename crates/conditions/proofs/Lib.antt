@@ -1,0 +1,3 @@
+mod NamesKnown
+pub mod Reflecting
+pub mod CodeAsked

@@ -1,0 +1,10 @@
+//! The conditions of commands, judged by an index of the image (Roberts 1999).
+#![tactic(auto)]
+
+mod code;
+mod judged;
+mod needed;
+mod reflection;
+
+pub use judged::{first_false, holds};
+pub use needed::needs;
