@@ -1,0 +1,10 @@
+pub mod Loops
+pub mod Nodes
+pub mod Kept
+pub mod Known
+pub mod Meant
+pub mod Views
+pub mod After
+pub mod Changed
+pub mod Nowhere
+pub mod Made

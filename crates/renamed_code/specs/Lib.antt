@@ -1,0 +1,4 @@
+pub mod Anew
+pub mod ChangedCode
+pub mod Standing
+pub mod Renamings
