@@ -1,0 +1,62 @@
+-- A command that is judged over the numbers of names is judged so over their texts.
+use Rattle.std.proofs.Common.{◌≡◌, ◌<◌, ℕ, List, length, Option, None, Some, Ok, Err, sym, ap, ◌∙◌}
+use Rattle.std.specs.Option.{option_map_or}
+use Rattle.rb_base.specs.Names.{HasNoTwice, name_at}
+use Rattle.image_model.specs.Image.{ImageOf, map_image}
+use Rattle.image_model.specs.ImageNames.{ImageNames}
+use Rattle.class_table.specs.Slots.{Slots}
+use Rattle.class_table.specs.Valid.{IsOrderly}
+use Rattle.class_table.specs.View.{number_image, image_of}
+use Rattle.command_model.specs.Asked.{text_asked, no_parts}
+use Rattle.command_model.specs.Commands.{CommandOf, KeepsShape}
+use Rattle.command_model.specs.Conditions.{ConditionOf}
+use Rattle.command_model.specs.Effects.{effect}
+use Rattle.command_model.specs.Judged.{first_false, judged}
+use Rattle.command_model.specs.Located.{Locating}
+use Rattle.command_model.specs.Numbers.{number_asked, number_writing}
+use Rattle.rename_model.specs.ClassRenamed.{canonical}
+use Rattle.command_numbers.specs.CommandNames.{CommandNames}
+use Rattle.command_numbers.specs.MappedCommands.{map_command, map_condition}
+use Rattle.name_meanings.specs.declared.meaning.VariableKind.TheVariants as kind
+use Rattle.commands.specs.declared.command.Command.{Command}
+use Rattle.commands.specs.declared.command.Command.TheVariants as command
+use Rattle.commands.specs.Views.{command_of, asked_by}
+
+-- what is carried out keeps the shape of code
+pub keeps-shape : (c : Command) → KeepsShape (command_of c)
+keeps-shape (command.RenameClass c d) = tt
+keeps-shape (command.RenameVariable kind.Instance c x y) = tt
+keeps-shape (command.RenameVariable kind.ClassSide c x y) = tt
+keeps-shape (command.RenameVariable kind.Shared c x y) = tt
+keeps-shape (command.RenameSelector s t) = tt
+
+-- what is known of verdicts over the numbers of names
+abbrev pub Accepts : Type 0
+Accepts =
+    (names : List (List ℕ)) (self_number : ℕ) (part_of : Locating) (i j : ImageOf ℕ) (command : CommandOf ℕ) → HasNoTwice names → ImageNames (λ n. n < length names) i → CommandNames (λ n. n < length names) command → KeepsShape command
+    → judged (number_asked names self_number part_of) (number_writing names) i command ≡ Ok j → judged text_asked canonical (map_image (name_at names) i) (map_command (name_at names) command) ≡ Ok (map_image (name_at names) j)
+
+abbrev pub Refuses : Type 0
+Refuses =
+    (names : List (List ℕ)) (self_number : ℕ) (part_of : Locating) (i : ImageOf ℕ) (command : CommandOf ℕ) (condition : ConditionOf ℕ) → HasNoTwice names → ImageNames (λ n. n < length names) i → CommandNames (λ n. n < length names) command → KeepsShape command
+    → judged (number_asked names self_number part_of) (number_writing names) i command ≡ Err condition → judged text_asked canonical (map_image (name_at names) i) (map_command (name_at names) command) ≡ Err (map_condition (name_at names) condition)
+
+module _ (s : Slots) (c : Command) (orderly : IsOrderly s) (known : CommandNames (λ n. n < length s.names) (command_of c)) where
+  -- what becomes of it over numbers, by the first condition that is false
+  by_numbers : (o : Option (ConditionOf ℕ)) → first_false (asked_by s.names) (number_image s) (command_of c) ≡ o
+      → judged (asked_by s.names) (number_writing s.names) (number_image s) (command_of c)
+      ≡ option_map_or (λ condition. Err condition) o (Ok (effect (asked_by s.names) (number_writing s.names) (command_of c) (number_image s)))
+  by_numbers o e = ap (λ (p : Option (ConditionOf ℕ)). option_map_or (λ condition. Err condition) p (Ok (effect (asked_by s.names) (number_writing s.names) (command_of c) (number_image s)))) e
+
+  -- it is refused for the condition
+  pub refused-texts : Refuses → (q : ConditionOf ℕ) → first_false (asked_by s.names) (number_image s) (command_of c) ≡ Some q
+      → judged text_asked canonical (image_of s) (map_command (name_at s.names) (command_of c)) ≡ Err (map_condition (name_at s.names) q)
+  refused-texts law q e = law s.names 0 no_parts (number_image s) (command_of c) q orderly.names_distinct orderly.names_known known (keeps-shape c) (by_numbers (Some q) e)
+
+  -- or makes what its changes make
+  pub accepted-texts : Accepts → (t : Slots) → first_false (asked_by s.names) (number_image s) (command_of c) ≡ None
+      → number_image t ≡ effect (asked_by s.names) (number_writing s.names) (command_of c) (number_image s) → t.names ≡ s.names
+      → judged text_asked canonical (image_of s) (map_command (name_at s.names) (command_of c)) ≡ Ok (image_of t)
+  accepted-texts law t e made names =
+      law s.names 0 no_parts (number_image s) (number_image t) (command_of c) orderly.names_distinct orderly.names_known known (keeps-shape c) (by_numbers None e ∙ ap (λ (j : ImageOf ℕ). Ok j) (sym made))
+      ∙ ap (λ (ns : List (List ℕ)). Ok (map_image (name_at ns) (number_image t))) (sym names)

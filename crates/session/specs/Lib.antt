@@ -1,0 +1,4 @@
+pub mod Log
+pub mod LogCode
+pub mod History
+pub mod Stepping
