@@ -1,11 +1,7 @@
 -- No answer says that the output failed.
-use Rattle.std.proofs.Common.{◌≡◌, ℕ, List, inl, inr, ap, sym, ◌∙◌, arith, Option, Some, None}
-use Rattle.std.specs.Option.{option_map_or}
-use Rattle.first_path.specs.Images.{FileImage}
-use Rattle.first_path.specs.Texts.{file_of}
-use Rattle.first_path.specs.Commands.{first_false, renamed}
-use Rattle.first_path.specs.declared.command.Command.{Command}
-use Rattle.first_path.specs.declared.command.FalseCondition.{FalseCondition}
+use Rattle.std.proofs.Common.{◌≡◌, ℕ, List, inl, inr, ap, sym, ◌∙◌, arith}
+use Rattle.apply_model.specs.declared.status.Status as applied
+use Rattle.apply_model.specs.declared.status.Status.TheVariants as verdict
 use Rattle.image_model.specs.Image.{ImageOf}
 use Rattle.run_model.specs.Values.{Outcome, done, failed, spent}
 use Rattle.run_model.specs.Runs.{run}
@@ -15,7 +11,7 @@ use Rattle.browse.specs.declared.status.Status.{Status}
 use Rattle.browse.specs.declared.status.Status.TheVariants as status
 use Rattle.browse.specs.Statuses.{number_of}
 use Rattle.browse.specs.Loads.{World, Loads, Given, Refused, Refuses}
-use Rattle.browse.specs.Answers.{Answer, refusal, judged, Applies, Unread, Judged, Formats, Formatted, Refused as Stopped, status_of, RunsIn, NoDoIt, Ran, Runs, NoImage, InImage, Finds, NoImageThere, Found, AnswersForm, Answers, image_limit, script_limit}
+use Rattle.browse.specs.Answers.{status_applied, Applies, Formats, Formatted, Refused as Stopped, status_of, RunsIn, NoDoIt, Ran, Runs, NoImage, InImage, Finds, NoImageThere, Found, AnswersForm, Answers, image_limit, script_limit}
 
 -- the status does not say that the output failed
 abbrev IsOther : Status → Type 0
@@ -32,16 +28,14 @@ loads : (w : World) (name : List ℕ) (limit : ℕ) (s : Status) (x : List ℕ) 
 loads w name limit s x P next (Given bytes may p) = next bytes p
 loads w name limit s x P next (Refused r) = refuses w name limit s x r
 
-judged_other : (i : FileImage) (c : Command) → IsOther (judged i c).0
-judged_other i c = by (first_false i c)
-  where
-    by : (o : Option FalseCondition) → IsOther (option_map_or {U = Answer} (λ (f : FalseCondition). (status.Condition, refusal c f)) o (status.Done, file_of (renamed c i))).0
-    by None e = omega (arith, e)
-    by (Some f) e = omega (arith, e)
+verdict_other : (v : applied.Status) → IsOther (status_applied v)
+verdict_other verdict.Done e = omega (arith, e)
+verdict_other verdict.Condition e = omega (arith, e)
+verdict_other verdict.ImageText e = omega (arith, e)
+verdict_other verdict.ScriptText e = omega (arith, e)
 
-applies : (image script : List ℕ) (s : Status) (x : List ℕ) → Applies image script s x → IsOther s
-applies image script s x (Unread none is line) = other s status.Unbuilt is (λ e. omega (arith, e))
-applies image script s x (Judged i c reads is) = other s (judged i c).0 (ap (λ (a : Answer). a.0) is) (judged_other i c)
+applies : (text script : List ℕ) (s : Status) (x : List ℕ) → Applies text script s x → IsOther s
+applies text script s x a = other s (status_applied a.verdict) a.status (verdict_other a.verdict)
 
 formats : (text : List ℕ) (s : Status) (x : List ℕ) → Formats text s x → IsOther s
 formats text s x (Stopped r wrong is line) = other s status.ImageText is (λ e. omega (arith, e))

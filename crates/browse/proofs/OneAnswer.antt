@@ -1,10 +1,6 @@
 -- Where the outside tells of the files and no read fails, words have at most one answer.
 use Rattle.std.proofs.Common.{◌≡◌, ℕ, List, ◌<◌, length, inl, inr, ap, sym, subst, ◌∙◌, arith}
 use Rattle.rb_base.specs.Outside.{Told, Untold, NoFile, File, IsNoFile, OnFile, MayGive, Rose}
-use Rattle.first_path.specs.Images.{FileImage}
-use Rattle.first_path.specs.declared.command.Command.{Command}
-use Rattle.first_path.proofs.Once.{one_text}
-use Rattle.first_path.proofs.Scripts.{one_script}
 use Rattle.token_model.specs.declared.kind.Dialect.TheVariants.{Second}
 use Rattle.image_model.specs.Image.{ImageOf}
 use Rattle.st_kernel.specs.KernelText.{prelude_text}
@@ -23,8 +19,11 @@ use Rattle.run_model.specs.Runs.{run, printed_run}
 use Rattle.query_model.specs.Queries.{QueryOf}
 use Rattle.query_model.specs.Lines.{IsAnswer}
 use Rattle.query_model.proofs.OneAnswer.{one_answer}
+use Rattle.file_model.specs.Causes.{Refusal}
+use Rattle.apply_model.specs.declared.status.Status as applied
+use Rattle.apply_model.specs.Applied as model
 use Rattle.browse.specs.ImageLines.{image_refusal, expression_refusal}
-use Rattle.browse.specs.Answers.{Answer, Reads, Applies, Unread, Judged, judged, Formats, Formatted, Refused as Stopped, status_of, RunsIn, NoDoIt, Ran, Runs, NoImage, InImage, Finds, NoImageThere, Found, AnswersForm, Answers, image_limit, script_limit}
+use Rattle.browse.specs.Answers.{status_applied, Applies, Formats, Formatted, Refused as Stopped, status_of, RunsIn, NoDoIt, Ran, Runs, NoImage, InImage, Finds, NoImageThere, Found, AnswersForm, Answers, image_limit, script_limit}
 
 -- both answers are one
 abbrev pub SameAnswer : Status → Status → List ℕ → List ℕ → Type 0
@@ -73,20 +72,6 @@ loads_one w name limit s t x y P Q told fine step (Given a may p) (Refused r) = 
 loads_one w name limit s t x y P Q told fine step (Refused r) (Given b may q) = absurd (given-refused w name limit s b x told fine may r)
 loads_one w name limit s t x y P Q told fine step (Refused r) (Refused r') = refused_one w name limit s t x y fine r r'
 
-judged_one : (image script : List ℕ) (i j : FileImage) (c d : Command) → Reads image script i c → Reads image script j d → judged i c ≡ judged j d
-judged_one image script i j c d p q =
-    let same_image : i ≡ j = one_text i j p.is_image q.is_image (sym p.image_text ∙ q.image_text) in
-    let same_command : c ≡ d = one_script script c d p.is_command q.is_command p.script_text q.script_text in
-    λ k. judged (same_image k) (same_command k)
-
-applies_one : (image script : List ℕ) (s t : Status) (x y : List ℕ) → Applies image script s x → Applies image script t y → SameAnswer s t x y
-applies_one image script s t x y (Unread none is line) (Unread none' is' line') = (is ∙ sym is', line ∙ sym line')
-applies_one image script s t x y (Unread none is line) (Judged i c reads e) = absurd (none i c reads)
-applies_one image script s t x y (Judged i c reads e) (Unread none is line) = absurd (none i c reads)
-applies_one image script s t x y (Judged i c reads e) (Judged j d reads' e') =
-    let same : ◌≡◌ {A = Answer} (s, x) (t, y) = e ∙ judged_one image script i j c d reads reads' ∙ sym e' in
-    (ap (λ (a : Answer). a.0) same, ap (λ (a : Answer). a.1) same)
-
 -- a text that is formatted has one answer
 formats_one : (text : List ℕ) (s t : Status) (x y : List ℕ) → Formats text s x → Formats text t y → SameAnswer s t x y
 formats_one text s t x y (Stopped r wrong is line) (Stopped q wrong' is' line') =
@@ -130,18 +115,30 @@ finds_one text q s t x y (Found i read lines is) (NoImageThere r wrong is' line)
 finds_one text q s t x y (Found i read lines is) (Found j read' lines' is') =
     (is ∙ sym is', one_answer j q x y (subst (λ (k : ImageOf (List ℕ)). IsAnswer k q x) (one_image Second prelude_text text i j read read') lines) lines')
 
-form_one : (w : World) (form : Form) (s t : Status) (x y : List ℕ) → IsHonest w (files_of form) → AnswersForm w form s x → AnswersForm w form t y → SameAnswer s t x y
-form_one w (Apply image script) s t x y honest p q =
-    loads_one w image image_limit s t x y _ _ honest.told.0 honest.fine
-    (λ i p' q'. loads_one w script script_limit s t x y _ _ honest.told.1.0 honest.fine (λ c. applies_one i c s t x y) p' q') p q
-form_one w (Format image) s t x y honest p q =
-    loads_one w image image_limit s t x y _ _ honest.told.0 honest.fine (λ i. formats_one i s t x y) p q
-form_one w (Run image expression budget) s t x y honest p q =
-    loads_one w image image_limit s t x y _ _ honest.told.0 honest.fine (λ i. runs_one i expression budget s t x y) p q
-form_one w (Find image question) s t x y honest p q =
-    loads_one w image image_limit s t x y _ _ honest.told.0 honest.fine (λ i. finds_one i question s t x y) p q
-form_one w Later s t x y honest p q = (p.0 ∙ sym q.0, p.1 ∙ sym q.1)
-form_one w NoForm s t x y honest p q = (p.0 ∙ sym q.0, p.1 ∙ sym q.1)
+-- two answers of `apply` to the same texts are one
+abbrev pub AppliesOnce : Type 0
+AppliesOnce =
+    (image_line : Refusal → List ℕ) (text script : List ℕ) (v u : applied.Status) (x y : List ℕ) →
+    model.Applies image_line text script v x → model.Applies image_line text script u y → (v ≡ u) × (x ≡ y)
 
-pub answers_one : (w : World) (words : List (List ℕ)) (s t : Status) (x y : List ℕ) → IsHonest w (files_of (form_of words)) → Answers w words s x → Answers w words t y → (s ≡ t) × (x ≡ y)
-answers_one w words = form_one w (form_of words)
+module _ (once : AppliesOnce) where
+  applies_one : (text script : List ℕ) (s t : Status) (x y : List ℕ) → Applies text script s x → Applies text script t y → SameAnswer s t x y
+  applies_one text script s t x y a b =
+      let same = once image_refusal text script a.verdict b.verdict x y a.applies b.applies in
+      (a.status ∙ ap status_applied same.0 ∙ sym b.status, same.1)
+
+  form_one : (w : World) (form : Form) (s t : Status) (x y : List ℕ) → IsHonest w (files_of form) → AnswersForm w form s x → AnswersForm w form t y → SameAnswer s t x y
+  form_one w (Apply image script) s t x y honest p q =
+      loads_one w image image_limit s t x y _ _ honest.told.0 honest.fine
+      (λ i p' q'. loads_one w script script_limit s t x y _ _ honest.told.1.0 honest.fine (λ c. applies_one i c s t x y) p' q') p q
+  form_one w (Format image) s t x y honest p q =
+      loads_one w image image_limit s t x y _ _ honest.told.0 honest.fine (λ i. formats_one i s t x y) p q
+  form_one w (Run image expression budget) s t x y honest p q =
+      loads_one w image image_limit s t x y _ _ honest.told.0 honest.fine (λ i. runs_one i expression budget s t x y) p q
+  form_one w (Find image question) s t x y honest p q =
+      loads_one w image image_limit s t x y _ _ honest.told.0 honest.fine (λ i. finds_one i question s t x y) p q
+  form_one w Later s t x y honest p q = (p.0 ∙ sym q.0, p.1 ∙ sym q.1)
+  form_one w NoForm s t x y honest p q = (p.0 ∙ sym q.0, p.1 ∙ sym q.1)
+
+  pub answers_one : (w : World) (words : List (List ℕ)) (s t : Status) (x y : List ℕ) → IsHonest w (files_of (form_of words)) → Answers w words s x → Answers w words t y → (s ≡ t) × (x ≡ y)
+  answers_one w words = form_one w (form_of words)

@@ -1,12 +1,8 @@
 -- What the words are answered with: a status, and the bytes that are sent.
-use Rattle.std.specs.Prelude.{◌≡◌, ℕ, List, ◌++◌, codes}
-use Rattle.std.specs.Option.{option_map_or}
-use Rattle.first_path.specs.Images.{FileImage, IsImage}
-use Rattle.first_path.specs.Texts.{text_of, file_of}
-use Rattle.first_path.specs.Commands.{IsCommand, IsScript, first_false, renamed}
-use Rattle.first_path.specs.declared.command.Command.{Command}
-use Rattle.first_path.specs.declared.command.FalseCondition.{FalseCondition}
-use Rattle.first_path.specs.declared.command.FalseCondition.TheVariants as condition
+use Rattle.std.specs.Prelude.{◌≡◌, ℕ, List, codes}
+use Rattle.apply_model.specs.declared.status.Status as applied
+use Rattle.apply_model.specs.declared.status.Status.TheVariants as verdict
+use Rattle.apply_model.specs.Applied as model
 use Rattle.browse.specs.declared.status.Status.{Status}
 use Rattle.browse.specs.declared.status.Status.TheVariants as status
 use Rattle.token_model.specs.declared.kind.Dialect.TheVariants.{Second}
@@ -28,9 +24,6 @@ use Rattle.command_words.specs.Forms.{Form, Apply, Format, Run, Find, Later, NoF
 use Rattle.browse.specs.Loads.{World, Loads, line}
 use Rattle.browse.specs.ImageLines.{image_refusal, expression_refusal}
 
-abbrev pub Answer : Type 0
-Answer = Status × List ℕ
-
 -- the most bytes of a file with an image
 abbrev pub image_limit : ℕ
 image_limit = 4194304
@@ -45,31 +38,18 @@ unbuilt = line (codes "unbuilt")
 abbrev pub usage : List ℕ
 usage = line (codes "usage: browse COMMAND ARGUMENTS")
 
--- a condition's number and name, and the name that it judges
-abbrev pub condition_text : Command → FalseCondition → List ℕ
-condition_text c condition.IsUserClass = codes "C2 IsUserClass " ++ c.from
-condition_text c condition.GoodName = codes "C3 GoodName " ++ c.to
-condition_text c condition.NameUnused = codes "C4 NameUnused " ++ c.to
-
--- the line of a refusal: the first command of the script, and its first condition that is false
-abbrev pub refusal : Command → FalseCondition → List ℕ
-refusal c f = line (codes "refused 1 " ++ condition_text c f)
-
--- the texts are those of an image and of a script that is one command
-pub record Reads (image script : List ℕ) (i : FileImage) (c : Command) : Type 0 where
-  pub image_text : image ≡ text_of i
-  pub is_image : IsImage i
-  pub script_text : IsScript script c
-  pub is_command : IsCommand c
-
--- The command is refused by its first condition that is false; where all hold, the image is written as the command changes it.
-abbrev pub judged : FileImage → Command → Answer
-judged i c = option_map_or (λ f. (status.Condition, refusal c f)) (first_false i c) (status.Done, file_of (renamed c i))
+-- how a call ends whose files `apply` answers so
+abbrev pub status_applied : applied.Status → Status
+status_applied verdict.Done = status.Done
+status_applied verdict.Condition = status.Condition
+status_applied verdict.ImageText = status.ImageText
+status_applied verdict.ScriptText = status.ScriptText
 
 -- `apply` answers these two texts with the status and the bytes
-pub data Applies (image script : List ℕ) (s : Status) (sent : List ℕ) : Type 0 where
-  Unread : ((i : FileImage) (c : Command) → ¬ Reads image script i c) → s ≡ status.Unbuilt → sent ≡ unbuilt → Applies image script s sent
-  Judged : (i : FileImage) (c : Command) → Reads image script i c → (s, sent) ≡ judged i c → Applies image script s sent
+pub record Applies (text script : List ℕ) (s : Status) (sent : List ℕ) : Type 0 where
+  pub verdict : applied.Status
+  pub applies : model.Applies image_refusal text script verdict sent
+  pub status : s ≡ status_applied verdict
 
 -- `format` answers this text with the status and the bytes
 pub data Formats (text : List ℕ) (s : Status) (sent : List ℕ) : Type 0 where

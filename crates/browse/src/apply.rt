@@ -1,18 +1,21 @@
-// `apply IMAGE SCRIPT`: the image that the script's command changes, or the first condition that is false.
-ghost use Rattle.std.specs.Prelude.{◌≡◌, ◌++◌, [], IfOk, OnOk};
-ghost use Rattle.rb_base.specs.Outside.{MayGive};
+// `apply IMAGE SCRIPT`: the image after the commands of the script, or the first chunk of the image, line of the script or
+// command that is refused.
+ghost use Rattle.std.specs.Prelude.{◌≡◌, [], IfOk, OnOk};
 ghost use Rattle.command_words.specs.Forms.{Apply};
 ghost use Rattle.browse.specs.Loads.{world};
-ghost use Rattle.browse.specs.Answers.{AnswersForm, Applies, refusal, unbuilt};
+ghost use Rattle.browse.specs.Answers.{AnswersForm, Applies, status_applied, unbuilt};
 ghost use Rattle.browse.specs.declared.status.Status.{Status};
 
+use crate::image_lines::push_image_refusal;
 use crate::load::{IMAGE_LIMIT, load, push_line};
 use crate::status::Status;
-use first_path::{
-    Command, FalseCondition, first_false, read_command, read_image, renamed_image, write_image,
-};
+use applied_scripts::apply_script;
+use apply_model::Status as Verdict;
+use file_faults::ImageFault;
+use file_reading::read_image;
 use rb_base::{Memory, Shelf, Text};
 use std::alloc::Global;
+use std::mem::forget;
 
 /// The most bytes of a script.
 const SCRIPT_LIMIT: u32 = 1048576;
@@ -27,47 +30,35 @@ pub fn unbuilt(out: &mut Text) -> Result<Status, Memory>
     Ok(Status::Unbuilt)
 }
 
-/// The line of a refusal.
-fn push_refusal(command: &Command, condition: FalseCondition, out: &mut Text) -> Result<(), Memory>
-    requires { out.old ≡ [] }
-    ensures { OnOk result (out.new ≡ refusal command.now condition) }
+/// How a call ends whose files are answered so.
+fn status_of(verdict: Verdict) -> Status
+    ensures { result ≡ status_applied verdict }
 {
-    match condition {
-        FalseCondition::IsUserClass => push_line(
-            out,
-            "refused 1 C2 IsUserClass ",
-            command.from.as_slice(),
-        ),
-        FalseCondition::GoodName => push_line(out, "refused 1 C3 GoodName ", command.to.as_slice()),
-        FalseCondition::NameUnused => push_line(
-            out,
-            "refused 1 C4 NameUnused ",
-            command.to.as_slice(),
-        ),
+    match verdict {
+        Verdict::Done => Status::Done,
+        Verdict::Condition => Status::Condition,
+        Verdict::ImageText => Status::ImageText,
+        Verdict::ScriptText => Status::ScriptText,
     }
 }
 
 /// The answer to the two texts.
-fn apply_texts(alloc: Global, image: &[u8], script: &[u8], out: &mut Text) -> Result<Status, Memory>
+fn apply_texts(alloc: Global, text: &[u8], script: &[u8], out: &mut Text) -> Result<Status, Memory>
     requires { out.old ≡ [] }
-    ensures { IfOk result (λ status. Applies image.now script.now status out.new) }
+    ensures { IfOk result (λ status. Applies text.now script.now status out.new) }
 {
-    let Some(image) = read_image(alloc, image)? else {
-        return unbuilt(out);
-    };
-    let Some(command) = read_command(alloc, script)? else {
-        return unbuilt(out);
-    };
-    match first_false(&image, &command) {
-        Some(condition) => {
-            push_refusal(&command, condition, out)?;
-            Ok(Status::Condition)
+    match read_image(alloc, text) {
+        Ok(image) => {
+            let mut image = image;
+            let verdict = apply_script(alloc, &mut image, script, out)?;
+            forget(image);
+            Ok(status_of(verdict))
         }
-        None => {
-            let renamed = renamed_image(alloc, &image, &command)?;
-            write_image(&renamed, out)?;
-            Ok(Status::Done)
+        Err(ImageFault::Refused { chunk, at, cause }) => {
+            push_image_refusal(alloc, chunk, at, cause, out)?;
+            Ok(Status::ImageText)
         }
+        Err(ImageFault::Memory) => Err(Memory),
     }
 }
 

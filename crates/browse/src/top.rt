@@ -80,6 +80,7 @@ pub fn browse<F: Shelf, K: Sink>(
         × SendsPart bytes (K.sent out.old) (K.sent out.new)) }
     ensures same { F.told shelf.new ≡ F.told shelf.old }
 {
+    has_one_answer();
     let mut bytes = Text::new(alloc);
     let Ok(status) = answer(alloc, words, shelf, &mut bytes) else {
         return Status::Memory;
@@ -95,4 +96,6 @@ pub fn browse<F: Shelf, K: Sink>(
 pub fn has_one_answer()
     ensures { (w : World) (words : List (List ℕ)) (s t : Status) (x y : List ℕ) → IsHonest w (files_of (form_of words)) →
         Answers w words s x → Answers w words t y → (s ≡ t) × (x ≡ y) }
-{}
+{
+    apply_model::has_one_answer();
+}

@@ -1,21 +1,18 @@
-use Rattle.browse.specs.Answers.{Judged}
-use Rattle.browse.proofs.Judging.{judged-false, judged-true}
+use Rattle.std.proofs.Common.{refl}
+use Rattle.class_table.specs.View.{image_of}
+use Rattle.apply_model.specs.declared.status.Status.TheVariants as verdict
+use Rattle.apply_model.specs.Applied.{NoImage, InImage}
+use Rattle.browse.proofs.Refusing.{refusal_told}
 use Rattle.browse.proofs.apply.apply_texts.Goals as goal
 
-pub returns-in-Some-first_false : goal.returns-in-Some-first_false
-returns-in-Some-first_false c =
-    Judged c.in-Some.image c.in-Some-2.command record {
-      image_text = rw c.in-Some.is at c.in_ok-image.ensures.read;
-      is_image = rw c.in-Some.is at c.in_ok-image.ensures.image;
-      script_text = rw c.in-Some-2.is at c.in_ok-command.ensures.read;
-      is_command = rw c.in-Some-2.is at c.in_ok-command.ensures.command;
-    } (judged-false _ _ c.in-Some-first_false.condition _ c.in-Some-first_false.ensures c.in_ok-push_refusal-in-Some-first_false.ensures)
+pub returns-in_ok-verdict-in-Ok : goal.returns-in_ok-verdict-in-Ok
+returns-in_ok-verdict-in-Ok c = record {
+  verdict = c.in_ok-verdict-in-Ok.verdict;
+  applies = InImage (image_of c.in-Ok.image) c.in-Ok.ensures.ok.image c.in_ok-verdict-in-Ok.ensures;
+  status = c.status_of.ensures;
+}
 
-pub returns : goal.returns
-returns c =
-    Judged c.in-Some.image c.in-Some-2.command record {
-      image_text = rw c.in-Some.is at c.in_ok-image.ensures.read;
-      is_image = rw c.in-Some.is at c.in_ok-image.ensures.image;
-      script_text = rw c.in-Some-2.is at c.in_ok-command.ensures.read;
-      is_command = rw c.in-Some-2.is at c.in_ok-command.ensures.command;
-    } (judged-true _ _ _ c.in-None.ensures (rw (c.requires, c.in_ok-renamed-in-None.ensures) at c.in_ok-write_image-in-None.ensures.ok))
+pub returns-in_ok-push_image_refusal-in-Err-Refused : goal.returns-in_ok-push_image_refusal-in-Err-Refused
+returns-in_ok-push_image_refusal-in-Err-Refused c =
+    let told = refusal_told c.args.text.now c.in-Err-Refused.chunk c.in-Err-Refused.at c.in-Err-Refused.cause c.push_image_refusal.new.out (rw c.in-Err-Refused.field-0-is at c.in-Err-Refused.ensures.err) c.in_ok-push_image_refusal-in-Err-Refused.ensures in
+    record { verdict = verdict.ImageText; applies = NoImage told.0 told.1 refl told.2; status = refl }

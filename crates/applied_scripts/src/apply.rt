@@ -1,0 +1,96 @@
+// The answer to a script in an image.
+ghost use Rattle.std.specs.Prelude.{◌≡◌, ◌<◌, ℕ, List, [], IfOk};
+ghost use Rattle.class_table.specs.View.{image_of};
+ghost use Rattle.class_table.specs.Valid.{IsOrderly};
+ghost use Rattle.live_slots.specs.Live.{AllLive};
+ghost use Rattle.wider_slots.specs.Closed.{IsClosed};
+ghost use Rattle.script_model.specs.Scripts.{Says};
+ghost use Rattle.script_lang.specs.Shown.{requests_in, AreKnown};
+ghost use Rattle.apply_model.specs.Applied.{AppliesIn};
+
+use crate::requests::{Stop, perform_all, requests_of};
+use apply_model::Status;
+use class_table::Image;
+use commands::Request;
+use image_file::write_image;
+use rb_base::{Memory, Steps, Text};
+use refusal_lines::{push_refusal, push_script_line};
+use session::Session;
+use std::alloc::Global;
+use std::marker::Brand;
+use std::mem::forget;
+use std::sync::ledger::{Blank, Ledger};
+
+/// The answer to requests in the image, for which the session is opened: all are performed, or the first one that is refused
+/// is told.
+fn perform_counted<L: Ledger>(
+    alloc: Global,
+    session: &mut Session,
+    image: &mut Image,
+    requests: &[Request],
+    blank: Blank,
+    out: &mut Text,
+) -> Result<Status, Memory>
+    requires orderly { IsOrderly image.old }
+    requires closed { IsClosed image.old }
+    requires known { AreKnown image.old.names requests.now }
+    requires empty { out.old ≡ [] }
+    requires name { blank.name ≡ L.name }
+    requires parts { blank.parts ≡ L.parts }
+    requires some { 0 < L.parts }
+    ensures { IfOk result (λ status. (script : List ℕ) → Says script (requests_in image.old.names requests.now) → AppliesIn (image_of image.old) script status out.new) }
+{
+    let mut steps = Steps::<L>::new(blank);
+    image.reindex()?;
+    session.open(image, &mut steps)?;
+    match perform_all(session, image, requests, &mut steps) {
+        Ok(()) => {
+            write_image(alloc, image, out)?;
+            Ok(Status::Done)
+        }
+        Err(Stop::Refused { number, condition }) => {
+            push_refusal(number, &condition, image.names(), out)?;
+            Ok(Status::Condition)
+        }
+        Err(Stop::Memory) => Err(Memory),
+    }
+}
+
+/// Appends the answer of `apply` to a script in an image that was read: each command is performed in the image after those
+/// before it, and the file of the last image is written; or the first line that is wrong is told, or the first command that
+/// is refused.
+///
+/// The image is then the one after the commands that were performed. It, and what is kept of it, is not taken apart: the
+/// program is to end behind the answer. On want of memory `out` may hold a part of the answer.
+pub fn apply_script(
+    alloc: Global,
+    image: &mut Image,
+    script: &[u8],
+    out: &mut Text,
+) -> Result<Status, Memory>
+    requires orderly { IsOrderly image.old }
+    requires live { AllLive image.old }
+    requires empty { out.old ≡ [] }
+    ensures { IfOk result (λ status. AppliesIn (image_of image.old) script.now status out.new) }
+{
+    match requests_of(alloc, script, image) {
+        Ok(requests) => {
+            let mut session = Session::new(alloc);
+            let answer = perform_counted::<Brand>(
+                alloc,
+                &mut session,
+                image,
+                requests.as_slice(),
+                Blank::new(1),
+                out,
+            );
+            // The program ends behind this answer, so the session is not taken apart piece by piece.
+            forget(session);
+            answer
+        }
+        Err(fault) => {
+            push_script_line(fault, out)?;
+            Ok(Status::ScriptText)
+        }
+    }
+}

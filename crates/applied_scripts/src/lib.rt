@@ -1,0 +1,8 @@
+//! What `apply` answers to a script in an image that was read: the file of the image after its commands, or the first line or
+//! command that is refused.
+#![tactic(auto)]
+
+mod apply;
+mod requests;
+
+pub use apply::apply_script;

@@ -1,0 +1,60 @@
+-- Texts of scripts that end with a command and an undo, or with an undo and a redo.
+use Rattle.std.proofs.Common.{◌≡◌, ℕ, List, [], ◌∷◌, ◌++◌, Ok, refl, sym, ap, ◌∙◌}
+use Rattle.image_model.specs.Image.{ImageOf}
+use Rattle.file_model.specs.Written.{file_of}
+use Rattle.history_model.specs.Rules.{Perform, Undo, Redo}
+use Rattle.history_model.specs.History.{VersionOf}
+use Rattle.run_model.specs.Renamings.{Renaming}
+use Rattle.session_model.specs.Actions.{ActionOf}
+use Rattle.session_model.specs.Scripts.{Request, History, rules, verdict_in}
+use Rattle.script_model.specs.Scripts.{Says}
+use Rattle.apply_model.specs.declared.status.Status as applied
+use Rattle.apply_model.specs.declared.status.Status.TheVariants as verdict
+use Rattle.apply_model.specs.Applied.{AppliesIn, NoScript, Refused, Accepted}
+use Rattle.apply_model.specs.Applied as model
+use Rattle.browse.specs.declared.status.Status.{Status}
+use Rattle.browse.specs.declared.status.Status.TheVariants as status
+use Rattle.browse.specs.ImageLines.{image_refusal}
+use Rattle.browse.specs.Answers.{Applies, status_applied}
+use Rattle.browse_laws.proofs.Ends.{IsAcceptedSo, undo-end, redo-end}
+
+-- a script asks for one list of commands
+abbrev pub SaysOnce : Type 0
+SaysOnce = (text : List ℕ) (requests others : List Request) → Says text requests → Says text others → requests ≡ others
+
+module _ (says_once : SaysOnce) (text script longer sent : List ℕ) (requests more : List Request) (says : Says script requests) (says_more : Says longer (requests ++ more))
+    (end : (i : ImageOf (List ℕ)) (g : History) → verdict_in i (requests ++ more) ≡ Ok g → IsAcceptedSo rules i requests g) where
+  shorter : (i : ImageOf (List ℕ)) (said : List Request) (g : History) → Says longer said → verdict_in i said ≡ Ok g → sent ≡ file_of g.now.image → AppliesIn i script verdict.Done sent
+  shorter i said g says_said accepted file =
+      let same : said ≡ requests ++ more = says_once longer said (requests ++ more) says_said says_more in
+      let so = end i g (sym (ap (verdict_in i) same) ∙ accepted) in
+      Accepted requests so.history says so.accepted refl (file ∙ ap (λ (v : VersionOf (ImageOf (List ℕ)) Renaming). file_of v.image) so.now)
+
+  in-image : (i : ImageOf (List ℕ)) (v : applied.Status) → status.Done ≡ status_applied v → AppliesIn i longer v sent → AppliesIn i script verdict.Done sent
+  in-image i v done (NoScript n cause refused is line) = absurd (by (done ∙ ap status_applied is))
+    where
+      by : status.Done ≡ status.ScriptText → ⊥
+      by e = cc
+  in-image i v done (Refused said r says_said refused is line) = absurd (by (done ∙ ap status_applied is))
+    where
+      by : status.Done ≡ status.Condition → ⊥
+      by e = cc
+  in-image i v done (Accepted said g says_said accepted is file) = shorter i said g says_said accepted file
+
+  in-texts : (v : applied.Status) → status.Done ≡ status_applied v → model.Applies image_refusal text longer v sent → model.Applies image_refusal text script verdict.Done sent
+  in-texts v done (model.NoImage r refused is line) = absurd (by (done ∙ ap status_applied is))
+    where
+      by : status.Done ≡ status.ImageText → ⊥
+      by e = cc
+  in-texts v done (model.InImage i read a) = model.InImage i read (in-image i v done a)
+
+  pub without-end : Applies text longer status.Done sent → Applies text script status.Done sent
+  without-end a = record { verdict = verdict.Done; applies = in-texts a.verdict a.status a.applies; status = refl }
+
+pub without-undo : SaysOnce → (text script longer sent : List ℕ) (requests : List Request) (action : ActionOf (List ℕ)) → Says script requests → Says longer (requests ++ Perform action ∷ Undo ∷ []) →
+    Applies text longer status.Done sent → Applies text script status.Done sent
+without-undo once text script longer sent requests action says says_more = without-end once text script longer sent requests (Perform action ∷ Undo ∷ []) says says_more (λ i g. undo-end rules i requests action g)
+
+pub without-redo : SaysOnce → (text script longer sent : List ℕ) (requests : List Request) → Says script requests → Says longer (requests ++ Undo ∷ Redo ∷ []) →
+    Applies text longer status.Done sent → Applies text script status.Done sent
+without-redo once text script longer sent requests says says_more = without-end once text script longer sent requests (Undo ∷ Redo ∷ []) says says_more (λ i g. redo-end rules i requests g)

@@ -1,0 +1,37 @@
+// Laws of the program. Each function does nothing; its contract is the law.
+ghost use Rattle.std.specs.Prelude.{ℕ, List, [], ◌∷◌, ◌++◌};
+ghost use Rattle.history_model.specs.Rules.{Perform, Undo, Redo};
+ghost use Rattle.session_model.specs.Actions.{ActionOf};
+ghost use Rattle.session_model.specs.Scripts.{Request};
+ghost use Rattle.script_model.specs.Scripts.{Says};
+ghost use Rattle.apply_model.specs.Promised.{IsChangedFile, IsRefusalOf};
+ghost use Rattle.browse.specs.declared.status.Status.TheVariants as status;
+ghost use Rattle.browse.specs.Loads.{World};
+ghost use Rattle.browse.specs.Answers.{Applies, Answers};
+ghost use Rattle.browse_laws.specs.Given.{apply_words, AreGiven};
+
+/// Where `apply IMAGE SCRIPT` is answered with the status `Done`, what is sent is the changed file: that of the image that the
+/// script makes of the image of the first file. Its runs are those of the image before, up to what the script renames, and
+/// within the limits of a file it is read again as that image. Where the status is `Condition`, what is sent names the first
+/// command of the script that is refused, and its first condition that is false; the commands before it are accepted.
+pub fn law_applied()
+    ensures done { (w : World) (image script sent : List ℕ) → Answers w (apply_words image script) status.Done sent →
+        AreGiven w image script (λ text commands. IsChangedFile text commands sent) }
+    ensures condition { (w : World) (image script sent : List ℕ) → Answers w (apply_words image script) status.Condition sent →
+        AreGiven w image script (λ text commands. IsRefusalOf text commands sent) }
+{
+    apply_laws::law_applied();
+}
+
+/// A script that ends with a command and an `undo` sends what it sends without these two, byte for byte: the image is the one
+/// from before the command. So does a script that ends with an `undo` and a `redo`.
+pub fn law_undone()
+    ensures undo { (text script longer sent : List ℕ) (requests : List Request) (action : ActionOf (List ℕ)) →
+        Says script requests → Says longer (requests ++ Perform action ∷ Undo ∷ []) →
+        Applies text longer status.Done sent → Applies text script status.Done sent }
+    ensures redo { (text script longer sent : List ℕ) (requests : List Request) →
+        Says script requests → Says longer (requests ++ Undo ∷ Redo ∷ []) →
+        Applies text longer status.Done sent → Applies text script status.Done sent }
+{
+    script_model::has_one_reading();
+}

@@ -1,0 +1,8 @@
+//! What is promised of the answers of `apply`, over the bytes that the outside holds and those that are sent.
+//!
+//! The functions of this crate are laws on the definitions: they do nothing.
+#![tactic(auto)]
+
+mod laws;
+
+pub use laws::{law_applied, law_undone};
