@@ -1,18 +1,24 @@
 -- What commands and conditions of the program stand for, over the numbers of names.
 use Rattle.std.specs.Prelude.{ℕ, ◌<◌, List, length}
 use Rattle.rb_base.specs.Names.{name_at}
+use Rattle.st_tree.specs.View.{method_of}
 use Rattle.image_model.specs.Means.{VariableKind, of_instance, of_class_side, of_class}
-use Rattle.command_model.specs.Commands.{CommandOf, RenameClass, RenameInstVar, RenameClassVar, RenameClassSideVar, RenameSelector}
-use Rattle.command_model.specs.Conditions.{NameKind, of_a_class, of_a_class_variable, of_another_variable, of_methods, ConditionOf, NoReflection, IsUserClass, GoodName, NameUnused, SelectorFresh, NotKernelSelector, Arity, HasVariable, VariableFree, KnownSelector, UndoLeft, RedoLeft}
+use Rattle.command_model.specs.Commands.{CommandOf, RenameClass, AddClass, RemoveClass, AddInstVar, RenameInstVar, RemoveInstVar, PushUpInstVar, PushDownInstVar, AddClassVar, RenameClassVar, RemoveClassVar, PushUpClassVar, PushDownClassVar, AddClassSideVar, RenameClassSideVar, RemoveClassSideVar, RenameSelector, AddMethod, RemoveMethod, PushUpMethod, PushDownMethod}
+use Rattle.command_model.specs.Conditions.{NameKind, of_a_class, of_a_class_variable, of_another_variable, of_methods, ConditionOf, NoReflection, IsUserClass, GoodName, NameUnused, SelectorFresh, NotKernelSelector, Arity, Implements, NotImplements, Removable, NoSubclasses, NotReferenced, HasVariable, VariableFree, VariableUnused, ParentIsUser, NoSuper, MeansSame, Unreached, IsClass, ChildOf, LacksVariable, KnownSelector, UndoLeft, RedoLeft}
 use Rattle.command_model.specs.Asked.{AskedOf, no_parts}
 use Rattle.command_model.specs.Numbers.{number_asked}
-use Rattle.command_numbers.specs.MappedCommands.{map_command}
-use Rattle.command_numbers.specs.CommandNames.{CommandNames}
 use Rattle.history_model.specs.Rules.{RequestOf, Perform, Undo, Redo}
-use Rattle.session_model.specs.Actions.{ActionOf, Single}
+use Rattle.session_model.specs.Actions.{ActionOf, Single, CreateAccessors, ExtractSuperclass, PushUpWithMethods}
 use Rattle.name_meanings.specs.Meanings.{kind_of}
+use Rattle.commands.specs.Actions.{map_action, ActionNames}
+use Rattle.commands.specs.declared.command.Renaming.{Renaming}
+use Rattle.commands.specs.declared.command.Renaming.TheVariants as renaming
+use Rattle.commands.specs.declared.command.VariableMove.{VariableMove}
+use Rattle.commands.specs.declared.command.VariableMove.TheVariants as move
 use Rattle.commands.specs.declared.command.Command.{Command}
 use Rattle.commands.specs.declared.command.Command.TheVariants as command
+use Rattle.commands.specs.declared.command.Action.{Action}
+use Rattle.commands.specs.declared.command.Action.TheVariants as action
 use Rattle.commands.specs.declared.command.Request.{Request}
 use Rattle.commands.specs.declared.command.Request.TheVariants as request
 use Rattle.commands.specs.declared.condition.NameKind as declared
@@ -20,21 +26,58 @@ use Rattle.commands.specs.declared.condition.NameKind.TheVariants as kind
 use Rattle.commands.specs.declared.condition.Condition.{Condition}
 use Rattle.commands.specs.declared.condition.Condition.TheVariants as condition
 
--- the renaming of a variable of a kind
+-- the renaming, the addition and the removal of a variable of a kind
 abbrev pub renames_variable : VariableKind → (c x y : ℕ) → CommandOf ℕ
 renames_variable of_instance c x y = RenameInstVar c x y
 renames_variable of_class_side c x y = RenameClassSideVar c x y
 renames_variable of_class c x y = RenameClassVar c x y
 
+abbrev pub adds_variable : VariableKind → (c x : ℕ) → CommandOf ℕ
+adds_variable of_instance c x = AddInstVar c x
+adds_variable of_class_side c x = AddClassSideVar c x
+adds_variable of_class c x = AddClassVar c x
+
+abbrev pub removes_variable : VariableKind → (c x : ℕ) → CommandOf ℕ
+removes_variable of_instance c x = RemoveInstVar c x
+removes_variable of_class_side c x = RemoveClassSideVar c x
+removes_variable of_class c x = RemoveClassVar c x
+
+-- the command by which something gets another name
+abbrev pub renaming_command : Renaming → CommandOf ℕ
+renaming_command (renaming.Class c d) = RenameClass c d
+renaming_command (renaming.Variable kind c x y) = renames_variable (kind_of kind) c x y
+renaming_command (renaming.Selector s t) = RenameSelector s t
+
+-- the command by which a variable comes or goes
+abbrev pub move_command : VariableMove → CommandOf ℕ
+move_command (move.Add kind c x) = adds_variable (kind_of kind) c x
+move_command (move.Remove kind c x) = removes_variable (kind_of kind) c x
+move_command (move.InstanceUp c x) = PushUpInstVar c x
+move_command (move.InstanceDown c x) = PushDownInstVar c x
+move_command (move.SharedUp c x) = PushUpClassVar c x
+move_command (move.SharedDown c x d) = PushDownClassVar c x d
+
 -- the command
 abbrev pub command_of : Command → CommandOf ℕ
-command_of (command.RenameClass c d) = RenameClass c d
-command_of (command.RenameVariable kind c x y) = renames_variable (kind_of kind) c x y
-command_of (command.RenameSelector s t) = RenameSelector s t
+command_of (command.Rename r) = renaming_command r
+command_of (command.AddClass n) = AddClass n.name n.superclass n.under
+command_of (command.RemoveClass c) = RemoveClass c
+command_of (command.Variable m) = move_command m
+command_of (command.AddMethod n) = AddMethod n.class n.meta n.protocol n.source (method_of n.tree)
+command_of (command.RemoveMethod m) = RemoveMethod m.class m.meta m.selector
+command_of (command.PushUpMethod m) = PushUpMethod m.class m.meta m.selector
+command_of (command.PushDownMethod m) = PushDownMethod m.class m.meta m.selector
+
+-- the action
+abbrev pub action_of : Action → ActionOf ℕ
+action_of (action.Single c) = Single (command_of c)
+action_of (action.CreateAccessors c x setter parameter) = CreateAccessors c x setter parameter
+action_of (action.ExtractSuperclass n) = ExtractSuperclass n.name n.superclass n.under
+action_of (action.PushUpWithMethods c x) = PushUpWithMethods c x
 
 -- what is asked for
 abbrev pub request_of : Request → RequestOf (ActionOf ℕ)
-request_of (request.Perform c) = Perform (Single (command_of c))
+request_of (request.Perform a) = Perform (action_of a)
 request_of request.Undo = Undo
 request_of request.Redo = Redo
 
@@ -54,24 +97,37 @@ condition_of (condition.NameUnused n) = NameUnused n
 condition_of (condition.SelectorFresh s) = SelectorFresh s
 condition_of (condition.NotKernelSelector s) = NotKernelSelector s
 condition_of (condition.Arity s count) = Arity s count
+condition_of (condition.Implements m) = Implements m.class m.meta m.selector
+condition_of (condition.NotImplements m) = NotImplements m.class m.meta m.selector
+condition_of (condition.Removable m) = Removable m.class m.meta m.selector
+condition_of (condition.NoSubclasses c) = NoSubclasses c
+condition_of (condition.NotReferenced c) = NotReferenced c
 condition_of (condition.HasVariable c x) = HasVariable c x
 condition_of (condition.VariableFree c x) = VariableFree c x
+condition_of (condition.VariableUnused c x) = VariableUnused c x
+condition_of (condition.ParentIsUser c) = ParentIsUser c
+condition_of (condition.NoSuper m) = NoSuper m.class m.meta m.selector
+condition_of (condition.MeansSame m d) = MeansSame m.class m.meta m.selector d
+condition_of (condition.Unreached s) = Unreached s
+condition_of (condition.IsClass c) = IsClass c
+condition_of (condition.ChildOf d c) = ChildOf d c
+condition_of (condition.LacksVariable c x) = LacksVariable c x
 condition_of (condition.KnownSelector s) = KnownSelector s
 condition_of condition.UndoLeft = UndoLeft
 condition_of condition.RedoLeft = RedoLeft
 
--- what commands ask of the numbers of a table of names; those that are carried out neither send to `self` nor name a part
+-- what commands ask of the names of a table; those that are carried out neither send to `self` nor name a part
 abbrev pub asked_by : List (List ℕ) → AskedOf ℕ
 asked_by names = number_asked names 0 no_parts
 
 -- each name of what is asked for is in the table
 abbrev pub IsKnownRequest : List (List ℕ) → Request → Type 0
-IsKnownRequest names (request.Perform c) = CommandNames (λ n. n < length names) (command_of c)
+IsKnownRequest names (request.Perform a) = ActionNames (λ n. n < length names) (action_of a)
 IsKnownRequest names request.Undo = Unit {0}
 IsKnownRequest names request.Redo = Unit {0}
 
 -- what is asked for, over the texts of the names
 abbrev pub request_in : List (List ℕ) → Request → RequestOf (ActionOf (List ℕ))
-request_in names (request.Perform c) = Perform (Single (map_command (name_at names) (command_of c)))
+request_in names (request.Perform a) = Perform (map_action (name_at names) (action_of a))
 request_in names request.Undo = Undo
 request_in names request.Redo = Redo

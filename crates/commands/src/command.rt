@@ -1,34 +1,142 @@
 // Commands, and what the lines of a script ask for.
 
 use name_meanings::VariableKind;
-use rb_base::NameId;
+use rb_base::{Ids, NameId, Text};
+use st_tree::Method;
 
-/// A command. Each name is a number of the image's table of names.
+/// What gets another name. Each name is a number of the image's table of names, here and in all commands.
 #[derive(Clone, Copy, Debug)]
-pub enum Command {
+pub enum Renaming {
     /// The class is called `to`.
-    RenameClass {
+    Class {
         class: NameId,
         to: NameId,
     },
     /// The variable of a kind that the class defines is called `to`.
-    RenameVariable {
+    Variable {
         kind: VariableKind,
         class: NameId,
         variable: NameId,
         to: NameId,
     },
     /// The selector becomes `to` in each method that has it and each message of it.
-    RenameSelector {
+    Selector {
         selector: NameId,
         to: NameId,
     },
 }
 
-/// What a line of a script asks for.
+/// Where a variable comes or goes.
 #[derive(Clone, Copy, Debug)]
+pub enum VariableMove {
+    /// The class has one more variable of the kind, its last.
+    Add {
+        kind: VariableKind,
+        class: NameId,
+        variable: NameId,
+    },
+    /// The variable of the kind leaves the class.
+    Remove {
+        kind: VariableKind,
+        class: NameId,
+        variable: NameId,
+    },
+    /// The instance variable leaves each direct subclass of the superclass, and is the superclass's last.
+    InstanceUp {
+        class: NameId,
+        variable: NameId,
+    },
+    /// The instance variable leaves the class, and is the last of each direct subclass.
+    InstanceDown {
+        class: NameId,
+        variable: NameId,
+    },
+    /// The class variable leaves the class, and is the last of the superclass.
+    SharedUp {
+        class: NameId,
+        variable: NameId,
+    },
+    /// The class variable leaves the class, and is the last of the direct subclass `to`.
+    SharedDown {
+        class: NameId,
+        variable: NameId,
+        to: NameId,
+    },
+}
+
+/// A method by its class, its side and its selector.
+#[derive(Clone, Copy, Debug)]
+pub struct MethodName {
+    pub class: NameId,
+    /// Whether it is a method of the class side.
+    pub meta: bool,
+    pub selector: NameId,
+}
+
+/// A class that comes under another one, and the direct subclasses of that one that come under it.
+#[derive(Drop)]
+pub struct NewClass {
+    pub name: NameId,
+    pub superclass: NameId,
+    pub under: Ids,
+}
+
+/// A method that a class gets, with the text that spells it.
+#[derive(Drop)]
+pub struct NewMethod {
+    pub class: NameId,
+    /// Whether it is a method of the class side.
+    pub meta: bool,
+    pub protocol: Text,
+    pub source: Text,
+    pub tree: Method,
+}
+
+/// A command.
+#[derive(Drop)]
+pub enum Command {
+    /// Something gets another name.
+    Rename(Renaming),
+    /// There is one more class.
+    AddClass(NewClass),
+    /// The class goes with its methods.
+    RemoveClass { class: NameId },
+    /// A variable comes or goes.
+    Variable(VariableMove),
+    /// There is one more method.
+    AddMethod(NewMethod),
+    /// The method goes.
+    RemoveMethod(MethodName),
+    /// The method goes up to the superclass.
+    PushUpMethod(MethodName),
+    /// The method goes down to the direct subclasses.
+    PushDownMethod(MethodName),
+}
+
+/// A single command, or a composite, which is several of them.
+#[derive(Drop)]
+pub enum Action {
+    Single(Command),
+    /// The class gets a getter and a setter of its instance variable, with the setter's selector and the name of its parameter.
+    CreateAccessors {
+        class: NameId,
+        variable: NameId,
+        setter: NameId,
+        parameter: NameId,
+    },
+    /// There is one more class, and what instance variables the classes under it all have go up to it.
+    ExtractSuperclass(NewClass),
+    /// The instance variable goes up, and with it the instance methods of the class that name it.
+    PushUpWithMethods {
+        class: NameId,
+        variable: NameId,
+    },
+}
+
+/// What a line of a script asks for.
+#[derive(Drop)]
 pub enum Request {
-    Perform(Command),
+    Perform(Action),
     /// The command that was done last is undone.
     Undo,
     /// The command that was undone last is done again.

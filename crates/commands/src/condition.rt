@@ -1,5 +1,6 @@
 // Conditions of commands.
 
+use crate::command::MethodName;
 use rb_base::NameId;
 
 /// What a new name is for.
@@ -12,7 +13,8 @@ pub enum NameKind {
     Selector,
 }
 
-/// A condition of a command, with what is printed of it. Which kind a variable has the command says.
+/// A condition of a command, with what is printed of it. Which kind a variable has, and which classes and methods are looked
+/// at, the command says.
 #[derive(Clone, Copy, Debug)]
 pub enum Condition {
     /// No code of a user looks at the program itself.
@@ -29,10 +31,36 @@ pub enum Condition {
     NotKernelSelector { selector: NameId },
     /// The selector takes so many arguments.
     Arity { selector: NameId, count: usize },
+    /// The user has the method.
+    Implements(MethodName),
+    /// There is no such method.
+    NotImplements(MethodName),
+    /// The method may go.
+    Removable(MethodName),
+    /// No class is under the class.
+    NoSubclasses { class: NameId },
+    /// Nothing but its own methods means the class.
+    NotReferenced { class: NameId },
     /// The class itself defines the variable.
     HasVariable { class: NameId, variable: NameId },
     /// The variable can come into the class.
     VariableFree { class: NameId, variable: NameId },
+    /// The methods that are looked at do not mean the variable.
+    VariableUnused { class: NameId, variable: NameId },
+    /// The superclass of the class is one of the user.
+    ParentIsUser { class: NameId },
+    /// The method does not name `super`.
+    NoSuper(MethodName),
+    /// Each name in the method means the same in the class `to`.
+    MeansSame { method: MethodName, to: NameId },
+    /// The selector is sent nowhere, or no class that finds another method for it than before is reached.
+    Unreached { selector: NameId },
+    /// There is such a class.
+    IsClass { class: NameId },
+    /// The class is one of the user, directly under the superclass.
+    ChildOf { class: NameId, superclass: NameId },
+    /// The class itself defines no variable of the name, of any kind.
+    LacksVariable { class: NameId, variable: NameId },
     /// The user has a method of the selector.
     KnownSelector { selector: NameId },
     /// There is a command to undo.

@@ -5,5 +5,7 @@
 mod command;
 mod condition;
 
-pub use command::{Command, Request};
+pub use command::{
+    Action, Command, MethodName, NewClass, NewMethod, Renaming, Request, VariableMove,
+};
 pub use condition::{Condition, NameKind};
