@@ -8,9 +8,9 @@ use Rattle.class_table.specs.View.{number_image}
 use Rattle.command_model.specs.Commands.{CommandOf}
 use Rattle.command_model.specs.Judged.{first_false}
 use Rattle.command_numbers.specs.CommandNames.{CommandNames}
-use Rattle.commands.specs.Views.{asked_by, command_of}
-use Rattle.commands.specs.declared.command.Command.{Command}
-use Rattle.commands.specs.declared.command.Command.TheVariants as command
+use Rattle.commands.specs.Views.{asked_by, renaming_command}
+use Rattle.commands.specs.declared.command.Renaming.{Renaming}
+use Rattle.commands.specs.declared.command.Renaming.TheVariants as renames
 use Rattle.name_meanings.specs.declared.meaning.VariableKind.{VariableKind}
 use Rattle.name_meanings.specs.declared.meaning.VariableKind.TheVariants as kind
 use Rattle.rename_plans.specs.Given.{renamed_by, new_name}
@@ -23,7 +23,7 @@ use Rattle.command_model.specs.Effects.{effect}
 use Rattle.command_model.specs.Numbers.{number_writing}
 use Rattle.renamed_code.specs.ChangedCode.{change_at}
 use Rattle.plan_laws.specs.Planned.{class_changes, renaming, planned, touched, MayBePlanned}
-use Rattle.rename_plans.specs.Plan.{IsPlan}
+use Rattle.plans.specs.Plan.{IsPlan}
 
 pub may_be : (s : Slots) (x : Mentioned) (what : RenamedOf ℕ) (to : ℕ) (command : CommandOf ℕ) (places : List Place) → renaming what to ≡ command → IsOrderly s → IsIndexOf s x
     → CommandNames (λ n. n < length s.names) command → first_false (asked_by s.names) (number_image s) command ≡ None → ListsPlaces x (name_before what) places → MayBePlanned s what to places
@@ -35,41 +35,41 @@ may_be s x what to command places is o index known holds lists = record {
 }
 
 -- the command is the renaming
-pub one_command : (command : Command) → renaming (renamed_by command) (new_name command) ≡ command_of command
-one_command (command.RenameClass c to) = refl
-one_command (command.RenameVariable kind c x to) = refl
-one_command (command.RenameSelector s to) = refl
+pub one_command : (command : Renaming) → renaming (renamed_by command) (new_name command) ≡ renaming_command command
+one_command (renames.Class c to) = refl
+one_command (renames.Variable kind c x to) = refl
+one_command (renames.Selector s to) = refl
 
 -- the new name is known
-pub new_known : (names : ℕ) (command : Command) → CommandNames (λ n. n < names) (command_of command) → new_name command < names
-new_known names (command.RenameClass c to) h = h.1
-new_known names (command.RenameVariable k c x to) h = by k h
+pub new_known : (names : ℕ) (command : Renaming) → CommandNames (λ n. n < names) (renaming_command command) → new_name command < names
+new_known names (renames.Class c to) h = h.1
+new_known names (renames.Variable k c x to) h = by k h
   where
-    by : (j : VariableKind) → CommandNames (λ n. n < names) (command_of (command.RenameVariable j c x to)) → to < names
+    by : (j : VariableKind) → CommandNames (λ n. n < names) (renaming_command (renames.Variable j c x to)) → to < names
     by kind.Instance g = g.2
     by kind.ClassSide g = g.2
     by kind.Shared g = g.2
-new_known names (command.RenameSelector s to) h = h.1
+new_known names (renames.Selector s to) h = h.1
 
 -- the changes that were found first and behind them
-pub planned_same : (s : Slots) (command : Command) (places : List Place) (none first changes : List Change)
+pub planned_same : (s : Slots) (command : Renaming) (places : List Place) (none first changes : List Change)
     → none ≡ [] → first ≡ none ++ class_changes s (renamed_by command) (new_name command)
     → changes ≡ first ++ filter_map (change_at s (renamed_by command) (new_name command)) places → changes ≡ planned s (renamed_by command) (new_name command) places
 planned_same s command places none first changes e f g =
     g ∙ ap (λ (cs : List Change). cs ++ filter_map (change_at s (renamed_by command) (new_name command)) places) (f ∙ ap (λ (cs : List Change). cs ++ class_changes s (renamed_by command) (new_name command)) e)
 
 -- the places that were found
-pub touched_same : (s : Slots) (command : Command) (places none now : List Place) → none ≡ [] → now ≡ none ++ touched s (renamed_by command) (new_name command) places → now ≡ touched s (renamed_by command) (new_name command) places
+pub touched_same : (s : Slots) (command : Renaming) (places none now : List Place) → none ≡ [] → now ≡ none ++ touched s (renamed_by command) (new_name command) places → now ≡ touched s (renamed_by command) (new_name command) places
 touched_same s command places none now e f = f ∙ ap (λ (ps : List Place). ps ++ touched s (renamed_by command) (new_name command) places) e
 
 -- the changes and the places are those of the law
-pub is_plan : (s : Slots) (command : Command) (places : List Place) (changes : List Change) (now : List Place)
+pub is_plan : (s : Slots) (command : Renaming) (places : List Place) (changes : List Change) (now : List Place)
     → changes ≡ planned s (renamed_by command) (new_name command) places → now ≡ touched s (renamed_by command) (new_name command) places
     → CanApplyAll s (planned s (renamed_by command) (new_name command) places) → AllByRecursion (FitsIn s) (planned s (renamed_by command) (new_name command) places)
     → number_image (all_applied s (planned s (renamed_by command) (new_name command) places)) ≡ effect (asked_by s.names) (number_writing s.names) (renaming (renamed_by command) (new_name command)) (number_image s)
     → (all_applied s (planned s (renamed_by command) (new_name command) places)).names ≡ s.names → IsOrderly (all_applied s (planned s (renamed_by command) (new_name command) places))
     → DiffersAtMost s (all_applied s (planned s (renamed_by command) (new_name command) places)) (touched s (renamed_by command) (new_name command) places)
-    → IsPlan s (command_of command) changes now
+    → IsPlan s (renaming_command command) changes now
 is_plan s command places changes now same there can fit is names orderly differs = record {
   can = subst (CanApplyAll s) (sym same) can;
   fit = subst (AllByRecursion (FitsIn s)) (sym same) fit;

@@ -7,17 +7,17 @@ use Rattle.std.proofs.lemmas.List.Elements.{filter_map-append, filter-append}
 use Rattle.class_table.specs.declared.record.Place.{Place}
 use Rattle.class_table.specs.Slots.{Slots}
 use Rattle.change_set.specs.declared.change.Change.{Change}
-use Rattle.commands.specs.declared.command.Command.{Command}
+use Rattle.commands.specs.declared.command.Renaming.{Renaming}
 use Rattle.renamed_code.specs.ChangedCode.{change_at}
 use Rattle.plan_laws.specs.Planned.{touched}
 use Rattle.rename_plans.specs.Given.{renamed_by, new_name}
 
 -- behind what there was stand the changes of these places, and the places
-pub record SoFar (s : Slots) (command : Command) (places : List Place) (changes_before : List Change) (touched_before : List Place) (changes : List Change) (touched_now : List Place) : Type 0 where
+pub record SoFar (s : Slots) (command : Renaming) (places : List Place) (changes_before : List Change) (touched_before : List Place) (changes : List Change) (touched_now : List Place) : Type 0 where
   pub changes_are : changes ≡ changes_before ++ filter_map (change_at s (renamed_by command) (new_name command)) places
   pub touched_are : touched_now ≡ touched_before ++ touched s (renamed_by command) (new_name command) places
 
-pub one_more : (s : Slots) (command : Command) (places : List Place) (i : ℕ) (p : Place) (changes_before : List Change) (touched_before : List Place) (changes : List Change) (touched_now : List Place) (change : Option Change) (changes_after : List Change) (touched_after : List Place)
+pub one_more : (s : Slots) (command : Renaming) (places : List Place) (i : ℕ) (p : Place) (changes_before : List Change) (touched_before : List Place) (changes : List Change) (touched_now : List Place) (change : Option Change) (changes_after : List Change) (touched_after : List Place)
     → i < length places → p ≡ get_or places i p → change ≡ change_at s (renamed_by command) (new_name command) p
     → changes_after ≡ changes ++ cons_option change [] → touched_after ≡ touched_now ++ (if is_some change then p ∷ [] else [])
     → SoFar s command (take i places) changes_before touched_before changes touched_now → SoFar s command (take (i + 1) places) changes_before touched_before changes_after touched_after

@@ -6,7 +6,7 @@ ghost use Rattle.rename_plans.specs.Given.{renamed_by, new_name};
 
 use change_set::{Change, Changes};
 use class_table::{ClassRec, Image};
-use commands::Command;
+use commands::Renaming;
 use name_meanings::VariableKind;
 use rb_base::{Ids, Memory, NameId};
 use std::alloc::Global;
@@ -64,18 +64,18 @@ fn rename_variable(
 }
 
 /// Gives what the command renames its new name in the record of its class.
-fn rename_in(alloc: Global, rec: &mut ClassRec, command: &Command) -> Result<(), Memory>
+fn rename_in(alloc: Global, rec: &mut ClassRec, command: &Renaming) -> Result<(), Memory>
     ensures { OnOk result (rec.new ≡ planned.class_rec_after (renamed_by command.now) (new_name command.now) rec.old) }
 {
     match *command {
-        Command::RenameClass { to, .. } => rec.name = to,
-        Command::RenameVariable {
+        Renaming::Class { to, .. } => rec.name = to,
+        Renaming::Variable {
             kind,
             variable,
             to,
             ..
         } => rename_variable(alloc, rec, kind, variable, to)?,
-        Command::RenameSelector { .. } => {}
+        Renaming::Selector { .. } => {}
     }
     Ok(())
 }
@@ -85,15 +85,15 @@ fn rename_in(alloc: Global, rec: &mut ClassRec, command: &Command) -> Result<(),
 pub fn put_class_change(
     alloc: Global,
     image: &Image,
-    command: &Command,
+    command: &Renaming,
     changes: &mut Changes,
 ) -> Result<(), Memory>
     ensures { OnOk result (changes.new ≡ changes.old ++ planned.class_changes image.now (renamed_by command.now) (new_name command.now)) }
 {
     let class = match *command {
-        Command::RenameClass { class, .. } => class,
-        Command::RenameVariable { class, .. } => class,
-        Command::RenameSelector { .. } => return Ok(()),
+        Renaming::Class { class, .. } => class,
+        Renaming::Variable { class, .. } => class,
+        Renaming::Selector { .. } => return Ok(()),
     };
     let Some(id) = image.class_named(class) else {
         return Ok(());

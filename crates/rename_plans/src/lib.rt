@@ -2,9 +2,7 @@
 //! speaks of it (Roberts 1999).
 #![tactic(auto)]
 
-mod changes;
 mod class_change;
 mod planning;
 
-pub use changes::Plan;
 pub use planning::plan;

@@ -5,20 +5,20 @@ ghost use Rattle.class_table.specs.Valid.{IsOrderly};
 ghost use Rattle.class_table.specs.View.{number_image};
 ghost use Rattle.command_model.specs.Judged.{first_false};
 ghost use Rattle.command_numbers.specs.CommandNames.{CommandNames};
-ghost use Rattle.commands.specs.Views.{asked_by, command_of};
+ghost use Rattle.commands.specs.Views.{asked_by, renaming_command};
 ghost use Rattle.reference_index.specs.Mentioned.{IsIndexOf};
 ghost use Rattle.renamed_code.specs.Anew.{name_before};
 ghost use Rattle.renamed_code.specs.ChangedCode.{renamed_of, change_at};
 ghost use Rattle.plan_laws.specs.Planned as planned;
 ghost use Rattle.rename_plans.specs.Given as given;
-ghost use Rattle.rename_plans.specs.Plan.{IsPlan};
+ghost use Rattle.plans.specs.Plan.{IsPlan};
 
-use crate::changes::Plan;
 use crate::class_change::put_class_change;
 use change_set::{Change, Changes};
 use class_table::{Image, Place};
-use commands::Command;
+use commands::Renaming;
 use plan_laws::law_planned;
+use plans::Plan;
 use rb_base::{Memory, NameId, Steps};
 use reference_index::Index;
 use renamed_code::{Renamed, code_change};
@@ -26,12 +26,12 @@ use std::alloc::Global;
 use std::sync::ledger::Ledger;
 
 /// What the command renames.
-fn renamed_by(command: &Command) -> Renamed
+fn renamed_by(command: &Renaming) -> Renamed
     ensures { renamed_of result ≡ given.renamed_by command.now }
 {
     match *command {
-        Command::RenameClass { class, .. } => Renamed::Class(class),
-        Command::RenameVariable {
+        Renaming::Class { class, .. } => Renamed::Class(class),
+        Renaming::Variable {
             kind,
             class,
             variable,
@@ -41,29 +41,29 @@ fn renamed_by(command: &Command) -> Renamed
             class,
             variable,
         },
-        Command::RenameSelector { selector, .. } => Renamed::Selector(selector),
+        Renaming::Selector { selector, .. } => Renamed::Selector(selector),
     }
 }
 
 /// The name that it gives.
-fn new_name(command: &Command) -> NameId
+fn new_name(command: &Renaming) -> NameId
     ensures { result ≡ given.new_name command.now }
 {
     match *command {
-        Command::RenameClass { to, .. } => to,
-        Command::RenameVariable { to, .. } => to,
-        Command::RenameSelector { to, .. } => to,
+        Renaming::Class { to, .. } => to,
+        Renaming::Variable { to, .. } => to,
+        Renaming::Selector { to, .. } => to,
     }
 }
 
 /// The name that what it renames has.
-fn old_name(command: &Command) -> NameId
+fn old_name(command: &Renaming) -> NameId
     ensures { result ≡ name_before (given.renamed_by command.now) }
 {
     match *command {
-        Command::RenameClass { class, .. } => class,
-        Command::RenameVariable { variable, .. } => variable,
-        Command::RenameSelector { selector, .. } => selector,
+        Renaming::Class { class, .. } => class,
+        Renaming::Variable { variable, .. } => variable,
+        Renaming::Selector { selector, .. } => selector,
     }
 }
 
@@ -89,7 +89,7 @@ fn put_code_changes<L: Ledger>(
     alloc: Global,
     image: &Image,
     places: &[Place],
-    command: &Command,
+    command: &Renaming,
     changes: &mut Changes,
     touched: &mut Vec<Place>,
     steps: &mut Steps<L>,
@@ -119,14 +119,14 @@ pub fn plan<L: Ledger>(
     alloc: Global,
     image: &Image,
     index: &Index,
-    command: &Command,
+    command: &Renaming,
     steps: &mut Steps<L>,
 ) -> Result<Plan, Memory>
     requires orderly { IsOrderly image.now }
     requires index { IsIndexOf image.now index.now }
-    requires known { CommandNames (λ n. n < length image.now.names) (command_of command.now) }
-    requires holds { first_false (asked_by image.now.names) (number_image image.now) (command_of command.now) ≡ None }
-    ensures { IfOk result (λ found. IsPlan image.now (command_of command.now) found.changes found.touched.items) }
+    requires known { CommandNames (λ n. n < length image.now.names) (renaming_command command.now) }
+    requires holds { first_false (asked_by image.now.names) (number_image image.now) (renaming_command command.now) ≡ None }
+    ensures { IfOk result (λ found. IsPlan image.now (renaming_command command.now) found.changes found.touched.items) }
 {
     law_planned();
     let places = index.listed(old_name(command));

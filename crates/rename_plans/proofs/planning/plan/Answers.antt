@@ -1,5 +1,5 @@
 use Rattle.std.proofs.Common.{ℕ, subst}
-use Rattle.commands.specs.Views.{command_of}
+use Rattle.commands.specs.Views.{renaming_command}
 use Rattle.plan_laws.specs.Planned.{MayBePlanned}
 use Rattle.reference_index.specs.Mentioned.{ListsPlaces}
 use Rattle.rename_plans.specs.Given.{renamed_by, new_name}
@@ -12,7 +12,7 @@ returns g c =
     let command = c.args.command.now in
     let places = c.listed-places.result.now in
     let may : MayBePlanned s (renamed_by command) (new_name command) places =
-    may_be s c.args.index.now (renamed_by command) (new_name command) (command_of command) places (one_command command) c.requires.orderly c.requires.index c.requires.known c.requires.holds (
+    may_be s c.args.index.now (renamed_by command) (new_name command) (renaming_command command) places (one_command command) c.requires.orderly c.requires.index c.requires.known c.requires.holds (
     subst (λ (n : ℕ). ListsPlaces c.args.index.now n places) c.old_name.ensures c.listed-places.ensures) in
     let law = c.law_planned.ensures in
     is_plan s command places c.put_code_changes.new.changes c.put_code_changes.new.touched.items

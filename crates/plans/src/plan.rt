@@ -1,4 +1,4 @@
-// What a plan is.
+// Changes, and the places of the code that they change.
 
 use change_set::Changes;
 use class_table::Place;
