@@ -1,0 +1,13 @@
+use Rattle.class_table.specs.View.{number_image}
+use Rattle.command_model.specs.Asked.{no_parts}
+use Rattle.commands.specs.Views.{move_command}
+use Rattle.variable_plans.proofs.Moved.{is-plan, shape-kept}
+use Rattle.variable_plans.proofs.planning.plan_move.Goals as goal
+
+pub returns : goal.returns
+returns c =
+    let s = c.args.image.now in
+    let m = c.args.change.now in
+    is-plan s c.requires.orderly m c.in_ok-changes.changes c.new.result.items
+    (c.numbers_of_commands.ensures.effect s.names 0 no_parts (number_image s) (move_command m) c.requires.orderly.names_known c.requires.known (shape-kept m))
+    c.in_ok-changes.ensures c.new.ensures.items
