@@ -1,0 +1,6 @@
+//! The changes by which commands are carried out, with the room that they need (Roberts 1999).
+#![tactic(auto)]
+
+mod planning;
+
+pub use planning::plan;
