@@ -1,0 +1,4 @@
+pub mod Parents
+pub mod OwnMethods
+pub mod Children
+pub mod Arrivals
