@@ -1,0 +1,8 @@
+use Rattle.std.proofs.Common.{◌≡◌, drop}
+use Rattle.std.specs.List.{list_any}
+use Rattle.use_questions.specs.Questions.{is_place_found}
+use Rattle.use_questions.proofs.places.is_found_at.Given as goal
+
+abbrev pub invariant-loop-place : goal.invariant-loop-place
+invariant-loop-place g l =
+    list_any (is_place_found l.image l.question) (drop l.place-index l.places) ≡ list_any (is_place_found l.image l.question) l.places
