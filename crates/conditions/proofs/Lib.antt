@@ -1,3 +1,4 @@
+pub mod Shape
 mod NamesKnown
 pub mod Reflecting
 pub mod CodeAsked

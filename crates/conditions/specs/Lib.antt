@@ -1,1 +1,2 @@
 pub mod Reflection
+pub mod Concerns

@@ -1,6 +1,7 @@
 //! The conditions of commands, judged by an index of the image (Roberts 1999).
 #![tactic(auto)]
 
+mod added;
 mod code;
 mod judged;
 mod needed;
@@ -8,3 +9,4 @@ mod reflection;
 
 pub use judged::{first_false, holds};
 pub use needed::needs;
+pub use reflection::has_no_reflection;

@@ -124,7 +124,7 @@ fn uses_reflective<L: Ledger>(
 
 /// Whether no code of the user looks at the program itself, and no method of the user is the one for messages that are not
 /// understood.
-pub(crate) fn has_no_reflection<L: Ledger>(
+pub fn has_no_reflection<L: Ledger>(
     alloc: Global,
     image: &Image,
     index: &Index,

@@ -1,22 +1,28 @@
+use Rattle.std.proofs.Common.{ℕ, ◌<◌, length}
 use Rattle.std.proofs.lemmas.Result.{IfOk-weaker}
-use Rattle.commands.specs.Views.{asked_by}
-use Rattle.conditions.proofs.NamesKnown.{found_names, no_image}
+use Rattle.class_table.specs.View.{number_image}
+use Rattle.command_model.specs.Asked.{no_parts}
+use Rattle.command_model.specs.Conditions.{ConditionOf}
+use Rattle.command_model.specs.Needs.{needs}
+use Rattle.command_numbers.specs.CommandNames.{ConditionNames}
+use Rattle.commands.specs.Views.{asked_by, command_of}
+use Rattle.conditions.specs.Concerns.{Concerns}
+use Rattle.conditions.proofs.NamesKnown.{found-all, concerned}
+use Rattle.conditions.proofs.Shape.{keeps-shape}
 use Rattle.conditions.proofs.needed.needs.Goals as goal
 
-pub returns-in-RenameClass-clause-needed : goal.returns-in-RenameClass-clause-needed
-returns-in-RenameClass-clause-needed c i = rw c.in-RenameClass.is (c.needs_of_class.ensures (asked_by c.args.names.now) i)
+pub returns-clause-known : goal.returns-clause-known
+returns-clause-known c =
+    let s = c.args.image.now in
+    let command = c.args.command.now in
+    IfOk-weaker _ _ _ (λ found. found-all (ConditionNames (λ n. n < length s.names)) (needs (asked_by s.names) (number_image s) (command_of command)) found.items
+    (c.numbers_of_commands.ensures.needs s.names 0 no_parts (number_image s) (command_of command) (c.requires.orderly).names_known c.requires.known (keeps-shape command)))
+    c.listed.ensures
 
-pub returns-in-RenameClass-clause-known : goal.returns-in-RenameClass-clause-known
-returns-in-RenameClass-clause-known c = IfOk-weaker _ _ _ (λ found. found_names _ (asked_by c.args.names.now) no_image c.args.command.now found.items c.requires.known) (returns-in-RenameClass-clause-needed c no_image)
-
-pub returns-in-RenameSelector-clause-needed : goal.returns-in-RenameSelector-clause-needed
-returns-in-RenameSelector-clause-needed c i = rw c.in-RenameSelector.is (c.needs_of_selector.ensures (asked_by c.args.names.now) i c.arity_of.ensures)
-
-pub returns-in-RenameSelector-clause-known : goal.returns-in-RenameSelector-clause-known
-returns-in-RenameSelector-clause-known c = IfOk-weaker _ _ _ (λ found. found_names _ (asked_by c.args.names.now) no_image c.args.command.now found.items c.requires.known) (returns-in-RenameSelector-clause-needed c no_image)
-
-pub returns-in-RenameVariable-clause-needed : goal.returns-in-RenameVariable-clause-needed
-returns-in-RenameVariable-clause-needed c i = rw c.in-RenameVariable.is (c.needs_of_variable.ensures (asked_by c.args.names.now) i)
-
-pub returns-in-RenameVariable-clause-known : goal.returns-in-RenameVariable-clause-known
-returns-in-RenameVariable-clause-known c = IfOk-weaker _ _ _ (λ found. found_names _ (asked_by c.args.names.now) no_image c.args.command.now found.items c.requires.known) (returns-in-RenameVariable-clause-needed c no_image)
+pub returns-clause-concern : goal.returns-clause-concern
+returns-clause-concern c =
+    let s = c.args.image.now in
+    let command = c.args.command.now in
+    IfOk-weaker _ _ _ (λ found. found-all (Concerns (command_of command)) (needs (asked_by s.names) (number_image s) (command_of command)) found.items
+    (concerned (asked_by s.names) (number_image s) command))
+    c.listed.ensures
