@@ -1,0 +1,3 @@
+mod Upwards
+mod Lists
+mod Listed
