@@ -18,17 +18,37 @@ use Rattle.rename_model.specs.ClassRenamed.{canonical}
 use Rattle.command_numbers.specs.CommandNames.{CommandNames}
 use Rattle.command_numbers.specs.MappedCommands.{map_command, map_condition}
 use Rattle.name_meanings.specs.declared.meaning.VariableKind.TheVariants as kind
+use Rattle.commands.specs.declared.command.Renaming.TheVariants as renaming
+use Rattle.commands.specs.declared.command.VariableMove.TheVariants as move
 use Rattle.commands.specs.declared.command.Command.{Command}
 use Rattle.commands.specs.declared.command.Command.TheVariants as command
 use Rattle.commands.specs.Views.{command_of, asked_by}
+use Rattle.wider_slots.proofs.Images.{numbers-still}
+use Rattle.session.specs.Stepping.{IsRoom}
 
 -- what is carried out keeps the shape of code
 pub keeps-shape : (c : Command) → KeepsShape (command_of c)
-keeps-shape (command.RenameClass c d) = tt
-keeps-shape (command.RenameVariable kind.Instance c x y) = tt
-keeps-shape (command.RenameVariable kind.ClassSide c x y) = tt
-keeps-shape (command.RenameVariable kind.Shared c x y) = tt
-keeps-shape (command.RenameSelector s t) = tt
+keeps-shape (command.Rename (renaming.Class c d)) = tt
+keeps-shape (command.Rename (renaming.Variable kind.Instance c x y)) = tt
+keeps-shape (command.Rename (renaming.Variable kind.ClassSide c x y)) = tt
+keeps-shape (command.Rename (renaming.Variable kind.Shared c x y)) = tt
+keeps-shape (command.Rename (renaming.Selector s t)) = tt
+keeps-shape (command.AddClass n) = tt
+keeps-shape (command.RemoveClass c) = tt
+keeps-shape (command.Variable (move.Add kind.Instance c x)) = tt
+keeps-shape (command.Variable (move.Add kind.ClassSide c x)) = tt
+keeps-shape (command.Variable (move.Add kind.Shared c x)) = tt
+keeps-shape (command.Variable (move.Remove kind.Instance c x)) = tt
+keeps-shape (command.Variable (move.Remove kind.ClassSide c x)) = tt
+keeps-shape (command.Variable (move.Remove kind.Shared c x)) = tt
+keeps-shape (command.Variable (move.InstanceUp c x)) = tt
+keeps-shape (command.Variable (move.InstanceDown c x)) = tt
+keeps-shape (command.Variable (move.SharedUp c x)) = tt
+keeps-shape (command.Variable (move.SharedDown c x d)) = tt
+keeps-shape (command.AddMethod n) = tt
+keeps-shape (command.RemoveMethod m) = tt
+keeps-shape (command.PushUpMethod m) = tt
+keeps-shape (command.PushDownMethod m) = tt
 
 -- what is known of verdicts over the numbers of names
 abbrev pub Accepts : Type 0
@@ -53,10 +73,13 @@ module _ (s : Slots) (c : Command) (orderly : IsOrderly s) (known : CommandNames
       → judged text_asked canonical (image_of s) (map_command (name_at s.names) (command_of c)) ≡ Err (map_condition (name_at s.names) q)
   refused-texts law q e = law s.names 0 no_parts (number_image s) (command_of c) q orderly.names_distinct orderly.names_known known (keeps-shape c) (by_numbers (Some q) e)
 
-  -- or makes what its changes make
-  pub accepted-texts : Accepts → (t : Slots) → first_false (asked_by s.names) (number_image s) (command_of c) ≡ None
-      → number_image t ≡ effect (asked_by s.names) (number_writing s.names) (command_of c) (number_image s) → t.names ≡ s.names
+  -- or makes what its changes make of slots with room for them
+  pub accepted-texts : Accepts → (p t : Slots) → IsRoom s p → first_false (asked_by s.names) (number_image s) (command_of c) ≡ None
+      → number_image t ≡ effect (asked_by p.names) (number_writing p.names) (command_of c) (number_image p) → t.names ≡ p.names
       → judged text_asked canonical (image_of s) (map_command (name_at s.names) (command_of c)) ≡ Ok (image_of t)
-  accepted-texts law t e made names =
-      law s.names 0 no_parts (number_image s) (number_image t) (command_of c) orderly.names_distinct orderly.names_known known (keeps-shape c) (by_numbers None e ∙ ap (λ (j : ImageOf ℕ). Ok j) (sym made))
-      ∙ ap (λ (ns : List (List ℕ)). Ok (map_image (name_at ns) (number_image t))) (sym names)
+  accepted-texts law p t room e made names =
+      let numbers : number_image p ≡ number_image s = ap number_image room.wider.state ∙ numbers-still s room.wider.closed room.wider.more in
+      let there : number_image t ≡ effect (asked_by s.names) (number_writing s.names) (command_of c) (number_image s) =
+      made ∙ (λ i. effect (asked_by (room.names i)) (number_writing (room.names i)) (command_of c) (numbers i)) in
+      law s.names 0 no_parts (number_image s) (number_image t) (command_of c) orderly.names_distinct orderly.names_known known (keeps-shape c) (by_numbers None e ∙ ap (λ (j : ImageOf ℕ). Ok j) (sym there))
+      ∙ ap (λ (ns : List (List ℕ)). Ok (map_image (name_at ns) (number_image t))) (sym (names ∙ room.names))

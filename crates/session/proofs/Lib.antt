@@ -1,5 +1,12 @@
 pub mod Kept
-pub mod Moves
+pub mod Room
+pub mod Logs
+pub mod UnderWay
 pub mod Judging
+pub mod Planned
+pub mod Each
 pub mod Entries
+pub mod Renamed
+pub mod Superclass
 pub mod Steps
+pub mod Loops

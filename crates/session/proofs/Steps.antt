@@ -1,44 +1,52 @@
 -- Each way in which a step ends.
-use Rattle.std.proofs.Common.{◌≡◌, ◌<◌, ◌≤◌, ℕ, ◌+◌, List, [], ◌∷◌, ◌++◌, length, take, drop, reverse, get_or, set, None, Some, Ok, Err, refl, sym, ap, subst, ◌∙◌}
+use Rattle.std.proofs.Common.{◌≡◌, ◌<◌, ◌≤◌, ℕ, ◌+◌, List, [], ◌∷◌, ◌++◌, length, take, drop, reverse, get_or, set, Option, None, Some, Result, Ok, Err, refl, sym, ap, subst, ◌∙◌}
+use Rattle.std.specs.Option.{option_map_or}
 use Rattle.std.proofs.lemmas.List.{drop_all, set-get_or}
-use Rattle.rb_base.specs.Names.{name_at}
+use Rattle.rb_base.specs.Names.{name_at, text_eq}
+use Rattle.run_model.specs.Values.{Name}
 use Rattle.class_table.specs.Slots.{Slots}
-use Rattle.class_table.specs.View.{number_image}
+use Rattle.class_table.specs.Valid.{IsOrderly}
+use Rattle.class_table.specs.View.{image_of}
 use Rattle.class_table.specs.declared.record.Place.{Place}
-use Rattle.change_set.specs.Changes.{all_applied, CanApplyAll, all_undone, CanUndoAll}
 use Rattle.history_model.specs.Rules.{Perform, Undo, Redo}
-use Rattle.history_model.specs.History.{stepped}
-use Rattle.command_model.specs.Judged.{first_false}
-use Rattle.command_numbers.specs.CommandNames.{CommandNames}
-use Rattle.command_numbers.specs.MappedCommands.{map_command, map_condition}
-use Rattle.session_model.specs.Actions.{Single}
-use Rattle.session_model.specs.Scripts.{Request, rules}
-use Rattle.commands.specs.declared.command.Command.{Command}
+use Rattle.history_model.specs.History.{stepped, by_result, after_all, appended}
+use Rattle.rename_model.specs.ClassRenamed.{canonical}
+use Rattle.command_model.specs.Asked.{text_asked}
+use Rattle.command_model.specs.Commands.{CommandOf}
+use Rattle.command_model.specs.Conditions.{ConditionOf}
+use Rattle.command_numbers.specs.MappedCommands.{map_condition}
+use Rattle.session_model.specs.Actions.{ActionOf}
+use Rattle.session_model.specs.OwnConditions.{first_own_false}
+use Rattle.session_model.specs.Steps.{steps_of}
+use Rattle.session_model.specs.Scripts.{Version, History, rules}
+use Rattle.commands.specs.Views.{condition_of}
 use Rattle.commands.specs.declared.condition.Condition.{Condition}
 use Rattle.commands.specs.declared.condition.Condition.TheVariants as condition
-use Rattle.commands.specs.Views.{command_of, condition_of, asked_by}
-use Rattle.reference_index.specs.Mentioned.{Mentioned, IsIndexOf, DiffersAtMost}
-use Rattle.rename_plans.specs.Plan.{IsPlan}
-use Rattle.session.specs.Log.{Done, Log, log_at, IsLogOf}
-use Rattle.session.specs.History.{history_of}
-use Rattle.session.specs.Stepping.{IsStepped}
-use Rattle.session.specs.declared.session.StepRefusal.TheVariants as refusal
-use Rattle.session.proofs.Kept.{done_again, taken_back, applied-names, undone-names, log-again, log-back}
-use Rattle.session.proofs.Moves.{history-again, history-back, history-performed, history-refused}
-use Rattle.session.proofs.Judging.{Accepts, Refuses, refused-texts, accepted-texts}
+use Rattle.reference_index.specs.Mentioned.{Mentioned, IsIndexOf}
+use Rattle.wider_slots.proofs.Orderly.{orderly-wider}
+use Rattle.wider_slots.specs.Closed.{IsClosed}
+use Rattle.session.specs.Log.{Done, Log, log_at, taken_back, done_again, CanGoBack, CanGoForth, IsLogOf}
+use Rattle.session.specs.History.{renamed_back, renaming_at, history_of}
+use Rattle.session.specs.Stepping.{IsUnderWay, IsCarriedOut, IsStepped, after_commands}
+use Rattle.session.specs.declared.refusal.StepRefusal.{StepRefusal}
+use Rattle.session.specs.declared.refusal.StepRefusal.TheVariants as refusal
+use Rattle.session.proofs.Kept.{again-names, back-names}
+use Rattle.session.proofs.Room.{room-same, room-back, room-forth, room-version, room-before, room-history}
+use Rattle.session.proofs.Logs.{again, back_again, renewed, is-index, log-again, log-back, history-again, history-back}
+use Rattle.session.proofs.UnderWay.{Follows}
 use Rattle.session.proofs.Entries.{last-done, first-undone, last-done-set, first-undone-set, last-pushed}
 
--- the index goes with the code
-abbrev pub Follows : Slots → Mentioned → Mentioned → List Place → Type 0
-Follows t x y touched = (z : Slots) → IsIndexOf z x → DiffersAtMost z t touched → IsIndexOf t y
+-- what becomes of a step
+abbrev pub Outcome : Type 0
+Outcome = Result History (ConditionOf Name)
 
-module _ (s : Slots) (log : Log) (asked : Request) (is : IsLogOf s log) where
+module _ (s : Slots) (log : Log) (wanted : Outcome) (is : IsLogOf s log) where
   -- nothing is changed for want of memory
-  pub stays : IsStepped s log asked s log (Err refusal.Memory)
+  pub stays : IsStepped s log wanted s log (Err refusal.Memory)
   stays = record { log = is; names = refl; done = tt; same = refl; refused = λ c e. cc }
 
   -- or for a condition
-  pub refuses : (c : Condition) → stepped rules (history_of s log) asked ≡ Err (map_condition (name_at s.names) (condition_of c)) → IsStepped s log asked s log (Err (refusal.Condition c))
+  pub refuses : (c : Condition) → wanted ≡ Err (map_condition (name_at s.names) (condition_of c)) → IsStepped s log wanted s log (Err (refusal.Condition c))
   refuses c e = record {
     log = is;
     names = refl;
@@ -46,64 +54,45 @@ module _ (s : Slots) (log : Log) (asked : Request) (is : IsLogOf s log) where
     same = refl;
     refused = λ d same.
         let one : c ≡ d = cc in
-        subst (λ (b : Condition). stepped rules (history_of s log) asked ≡ Err (map_condition (name_at s.names) (condition_of b))) one e;
+        subst (λ (b : Condition). wanted ≡ Err (map_condition (name_at s.names) (condition_of b))) one e;
   }
 
 -- where the slots, the index and the entry are as before
-pub stays-with : (s t : Slots) (x y : Mentioned) (es : List Done) (k n : ℕ) (d e : Done) (asked : Request) → IsLogOf s (log_at x es n) → t ≡ s → e ≡ d → y ≡ x → d ≡ get_or es k d
-    → IsStepped s (log_at x es n) asked t (log_at y (set es k e) n) (Err refusal.Memory)
-stays-with s t x y es k n d e asked is image entry index at =
-    let same : log_at y (set es k e) n ≡ log_at x es n = λ i. log_at (index i) ((ap (set es k) (entry ∙ at) ∙ set-get_or es k d) i) n in
-    subst (λ (l : Log). IsStepped s (log_at x es n) asked t l (Err refusal.Memory)) (sym same) (
-    subst (λ (z : Slots). IsStepped s (log_at x es n) asked z (log_at x es n) (Err refusal.Memory)) (sym image) (stays s (log_at x es n) asked is))
+pub stays-with : (s t : Slots) (x y : Mentioned) (stale : List Place) (es : List Done) (k n : ℕ) (d e : Done) (wanted : Outcome) → IsLogOf s (log_at x stale es n) → t ≡ s → e ≡ d → y ≡ x → d ≡ get_or es k d
+    → IsStepped s (log_at x stale es n) wanted t (log_at y stale (set es k e) n) (Err refusal.Memory)
+stays-with s t x y stale es k n d e wanted is image entry index at =
+    let same : log_at y stale (set es k e) n ≡ log_at x stale es n = λ i. log_at (index i) stale ((ap (set es k) (entry ∙ at) ∙ set-get_or es k d) i) n in
+    subst (λ (l : Log). IsStepped s (log_at x stale es n) wanted t l (Err refusal.Memory)) (sym same) (
+    subst (λ (z : Slots). IsStepped s (log_at x stale es n) wanted z (log_at x stale es n) (Err refusal.Memory)) (sym image) (stays s (log_at x stale es n) wanted is))
 
-module _ (s : Slots) (x y : Mentioned) (d : Done) (back forth : List Done) where
+module _ (s : Slots) (x y : Mentioned) (e : Done) (back forth : List Done) where
+  abbrev undone_from : Log
+  undone_from = record { index = x; stale = []; back = e ∷ back; forth = forth }
+
+  abbrev redone_from : Log
+  redone_from = record { index = x; stale = []; back = back; forth = e ∷ forth }
+
   -- the nearest entry is taken back
-  back-made : IsLogOf s (record { index = x; back = d ∷ back; forth = forth }) → Follows (all_undone s d.changes) x y d.touched
-      → IsStepped s (record { index = x; back = d ∷ back; forth = forth }) Undo (all_undone s d.changes) (record { index = y; back = back; forth = taken_back s d ∷ forth }) (Ok tt)
+  back-made : IsLogOf s undone_from → Follows (taken_back s e.commands) x y e.touched
+      → IsStepped s undone_from (stepped rules (history_of s undone_from) Undo) (taken_back s e.commands) (record { index = y; stale = []; back = back; forth = back_again s e ∷ forth }) (Ok tt)
   back-made is follows = record {
-    log = log-back s d x y back forth is (follows s is.index is.back.1);
-    names = undone-names s d.changes;
-    done = history-back s x y d back forth is.closed is.back.0;
+    log = log-back s e x y [] back forth is (follows s (is-index s x [] refl is.index) is.back.1);
+    names = back-names s e.commands;
+    done = history-back s e x y [] back forth is;
     same = tt;
     refused = tt;
   }
 
   -- the nearest entry is done again
-  again-made : IsLogOf s (record { index = x; back = back; forth = d ∷ forth }) → Follows (all_applied s d.changes) x y d.touched
-      → IsStepped s (record { index = x; back = back; forth = d ∷ forth }) Redo (all_applied s d.changes) (record { index = y; back = done_again s d ∷ back; forth = forth }) (Ok tt)
+  again-made : IsLogOf s redone_from → Follows (done_again s e.commands) x y e.touched
+      → IsStepped s redone_from (stepped rules (history_of s redone_from) Redo) (done_again s e.commands) (record { index = y; stale = []; back = again s e ∷ back; forth = forth }) (Ok tt)
   again-made is follows = record {
-    log = log-again s d x y back forth is (follows s is.index is.forth.1);
-    names = applied-names s d.changes;
-    done = history-again s x y d back forth is.closed is.forth.0;
+    log = log-again s e x y [] back forth is (follows s (is-index s x [] refl is.index) is.forth.1);
+    names = again-names s e.commands;
+    done = history-again s e x y [] back forth is;
     same = tt;
     refused = tt;
   }
-
-  -- the log with the entry of a plan as the nearest that is to be done
-  planned : IsLogOf s (record { index = x; back = back; forth = forth }) → CommandNames (λ n. n < length s.names) (command_of d.command) → IsPlan s (command_of d.command) d.changes d.touched
-      → IsLogOf s (record { index = x; back = back; forth = d ∷ [] })
-  planned is known plan = record {
-    closed = is.closed;
-    orderly = is.orderly;
-    index = is.index;
-    back = is.back;
-    forth = (record { can = plan.can; fit = plan.fit; orderly = plan.orderly }, plan.touched, known, tt);
-  }
-
-  -- the plan of a command is carried out
-  plan-made : Accepts → IsLogOf s (record { index = x; back = back; forth = forth }) → CommandNames (λ n. n < length s.names) (command_of d.command) → IsPlan s (command_of d.command) d.changes d.touched
-      → first_false (asked_by s.names) (number_image s) (command_of d.command) ≡ None → Follows (all_applied s d.changes) x y d.touched
-      → IsStepped s (record { index = x; back = back; forth = forth }) (Perform (Single (map_command (name_at s.names) (command_of d.command)))) (all_applied s d.changes) (record { index = y; back = done_again s d ∷ back; forth = [] }) (Ok tt)
-  plan-made law is known plan none follows =
-      let to_do = planned is known plan in
-      record {
-        log = log-again s d x y back [] to_do (follows s is.index plan.touched);
-        names = applied-names s d.changes;
-        done = history-performed s x y d back forth is.closed to_do.forth.0 (accepted-texts s d.command is.orderly known law (all_applied s d.changes) none plan.effect plan.names);
-        same = tt;
-        refused = tt;
-      }
 
 -- the same of a list of entries
 module _ (s t : Slots) (x y : Mentioned) (es : List Done) (k : ℕ) (d e : Done) (h : k < length es) (at : d ≡ get_or es k d) where
@@ -113,64 +102,181 @@ module _ (s t : Slots) (x y : Mentioned) (es : List Done) (k : ℕ) (d e : Done)
   abbrev after : List Done
   after = drop (k + 1) es
 
-  pub back-can : IsLogOf s (log_at x es (k + 1)) → CanUndoAll s d.changes
-  back-can is = (subst (IsLogOf s) (last-done x es k h d at) is).back.0.can
-
-  pub again-can : IsLogOf s (log_at x es k) → CanApplyAll s d.changes
-  again-can is = (subst (IsLogOf s) (first-undone x es k h d at) is).forth.0.can
-
-  pub back-stepped : IsLogOf s (log_at x es (k + 1)) → t ≡ all_undone s d.changes → e ≡ taken_back s d → Follows t x y d.touched
-      → IsStepped s (log_at x es (k + 1)) Undo t (log_at y (set es k e) k) (Ok tt)
+  pub back-stepped : IsLogOf s (log_at x [] es (k + 1)) → t ≡ taken_back s d.commands → e ≡ back_again s d → Follows t x y d.touched
+      → IsStepped s (log_at x [] es (k + 1)) (stepped rules (history_of s (log_at x [] es (k + 1))) Undo) t (log_at y [] (set es k e) k) (Ok tt)
   back-stepped is made left follows =
-      let first : IsStepped s (record { index = x; back = d ∷ before; forth = after }) Undo (all_undone s d.changes) (record { index = y; back = before; forth = taken_back s d ∷ after }) (Ok tt) =
-      back-made s x y d before after (subst (IsLogOf s) (last-done x es k h d at) is) (subst (λ (z : Slots). Follows z x y d.touched) made follows) in
-      subst (λ (l : Log). IsStepped s l Undo t (log_at y (set es k e) k) (Ok tt)) (sym (last-done x es k h d at)) (
-      subst (λ (l : Log). IsStepped s (record { index = x; back = d ∷ before; forth = after }) Undo t l (Ok tt)) (sym (first-undone-set y es k h e)) (
-      subst (λ (b : Done). IsStepped s (record { index = x; back = d ∷ before; forth = after }) Undo t (record { index = y; back = before; forth = b ∷ after }) (Ok tt)) (sym left) (
-      subst (λ (z : Slots). IsStepped s (record { index = x; back = d ∷ before; forth = after }) Undo z (record { index = y; back = before; forth = taken_back s d ∷ after }) (Ok tt)) (sym made) first)))
+      let first =
+      back-made s x y d before after (subst (IsLogOf s) (last-done x [] es k h d at) is) (subst (λ (z : Slots). Follows z x y d.touched) made follows) in
+      subst (λ (l : Log). IsStepped s l (stepped rules (history_of s l) Undo) t (log_at y [] (set es k e) k) (Ok tt)) (sym (last-done x [] es k h d at)) (
+      subst (λ (l : Log). IsStepped s (undone_from s x y d before after) (stepped rules (history_of s (undone_from s x y d before after)) Undo) t l (Ok tt)) (sym (first-undone-set y [] es k h e)) (
+      subst (λ (b : Done). IsStepped s (undone_from s x y d before after) (stepped rules (history_of s (undone_from s x y d before after)) Undo) t (record { index = y; stale = []; back = before; forth = b ∷ after }) (Ok tt)) (sym left) (
+      subst (λ (z : Slots). IsStepped s (undone_from s x y d before after) (stepped rules (history_of s (undone_from s x y d before after)) Undo) z (record { index = y; stale = []; back = before; forth = back_again s d ∷ after }) (Ok tt)) (sym made) first)))
 
-  pub again-stepped : IsLogOf s (log_at x es k) → t ≡ all_applied s d.changes → e ≡ done_again s d → Follows t x y d.touched
-      → IsStepped s (log_at x es k) Redo t (log_at y (set es k e) (k + 1)) (Ok tt)
+  pub again-stepped : IsLogOf s (log_at x [] es k) → t ≡ done_again s d.commands → e ≡ again s d → Follows t x y d.touched
+      → IsStepped s (log_at x [] es k) (stepped rules (history_of s (log_at x [] es k)) Redo) t (log_at y [] (set es k e) (k + 1)) (Ok tt)
   again-stepped is made left follows =
-      let first : IsStepped s (record { index = x; back = before; forth = d ∷ after }) Redo (all_applied s d.changes) (record { index = y; back = done_again s d ∷ before; forth = after }) (Ok tt) =
-      again-made s x y d before after (subst (IsLogOf s) (first-undone x es k h d at) is) (subst (λ (z : Slots). Follows z x y d.touched) made follows) in
-      subst (λ (l : Log). IsStepped s l Redo t (log_at y (set es k e) (k + 1)) (Ok tt)) (sym (first-undone x es k h d at)) (
-      subst (λ (l : Log). IsStepped s (record { index = x; back = before; forth = d ∷ after }) Redo t l (Ok tt)) (sym (last-done-set y es k h e)) (
-      subst (λ (b : Done). IsStepped s (record { index = x; back = before; forth = d ∷ after }) Redo t (record { index = y; back = b ∷ before; forth = after }) (Ok tt)) (sym left) (
-      subst (λ (z : Slots). IsStepped s (record { index = x; back = before; forth = d ∷ after }) Redo z (record { index = y; back = done_again s d ∷ before; forth = after }) (Ok tt)) (sym made) first)))
+      let first =
+      again-made s x y d before after (subst (IsLogOf s) (first-undone x [] es k h d at) is) (subst (λ (z : Slots). Follows z x y d.touched) made follows) in
+      subst (λ (l : Log). IsStepped s l (stepped rules (history_of s l) Redo) t (log_at y [] (set es k e) (k + 1)) (Ok tt)) (sym (first-undone x [] es k h d at)) (
+      subst (λ (l : Log). IsStepped s (redone_from s x y d before after) (stepped rules (history_of s (redone_from s x y d before after)) Redo) t l (Ok tt)) (sym (last-done-set y [] es k h e)) (
+      subst (λ (b : Done). IsStepped s (redone_from s x y d before after) (stepped rules (history_of s (redone_from s x y d before after)) Redo) t (record { index = y; stale = []; back = b ∷ before; forth = after }) (Ok tt)) (sym left) (
+      subst (λ (z : Slots). IsStepped s (redone_from s x y d before after) (stepped rules (history_of s (redone_from s x y d before after)) Redo) z (record { index = y; stale = []; back = again s d ∷ before; forth = after }) (Ok tt)) (sym made) first)))
 
-module _ (s t : Slots) (x y : Mentioned) (es : List Done) (n : ℕ) (d e : Done) where
-  pub plan-stepped : Accepts → IsLogOf s (log_at x es n) → CommandNames (λ n. n < length s.names) (command_of d.command) → IsPlan s (command_of d.command) d.changes d.touched
-      → first_false (asked_by s.names) (number_image s) (command_of d.command) ≡ None → t ≡ all_applied s d.changes → e ≡ done_again s d → Follows t x y d.touched
-      → IsStepped s (log_at x es n) (Perform (Single (map_command (name_at s.names) (command_of d.command)))) t (log_at y (take n es ++ e ∷ []) (length (take n es ++ e ∷ []))) (Ok tt)
-  plan-stepped law is known plan none made left follows =
-      let first : IsStepped s (log_at x es n) (Perform (Single (map_command (name_at s.names) (command_of d.command)))) (all_applied s d.changes) (record { index = y; back = done_again s d ∷ reverse (take n es); forth = [] }) (Ok tt) =
-      plan-made s x y d (reverse (take n es)) (drop n es) law is known plan none (subst (λ (z : Slots). Follows z x y d.touched) made follows) in
-      let asked : Request = Perform (Single (map_command (name_at s.names) (command_of d.command))) in
-      subst (λ (l : Log). IsStepped s (log_at x es n) asked t l (Ok tt)) (sym (last-pushed y es n e)) (
-      subst (λ (b : Done). IsStepped s (log_at x es n) asked t (record { index = y; back = b ∷ reverse (take n es); forth = [] }) (Ok tt)) (sym left) (
-      subst (λ (z : Slots). IsStepped s (log_at x es n) asked z (record { index = y; back = done_again s d ∷ reverse (take n es); forth = [] }) (Ok tt)) (sym made) first))
+-- what the entries are that can be taken
+module _ (s : Slots) (x : Mentioned) (stale : List Place) (es : List Done) (k : ℕ) (d : Done) (h : k < length es) (at : d ≡ get_or es k d) where
+  pub back-can : IsLogOf s (log_at x stale es (k + 1)) → CanGoBack s d.commands
+  back-can is = (subst (IsLogOf s) (last-done x stale es k h d at) is).back.0
 
-  -- where the list has the entry, and as many are done as it is long
-  pub plan-noted : (items : List Done) (len : ℕ) → items ≡ take n es ++ e ∷ [] → len ≡ length items
-      → IsStepped s (log_at x es n) (Perform (Single (map_command (name_at s.names) (command_of d.command)))) t (log_at y (take n es ++ e ∷ []) (length (take n es ++ e ∷ []))) (Ok tt)
-      → IsStepped s (log_at x es n) (Perform (Single (map_command (name_at s.names) (command_of d.command)))) t (log_at y items len) (Ok tt)
-  plan-noted items len noted is_len stepped =
-      subst (λ (l : Log). IsStepped s (log_at x es n) (Perform (Single (map_command (name_at s.names) (command_of d.command)))) t l (Ok tt))
-      (λ i. log_at y (sym noted i) ((sym (is_len ∙ ap length noted)) i)) stepped
+  pub again-can : IsLogOf s (log_at x stale es k) → CanGoForth s d.commands
+  again-can is = (subst (IsLogOf s) (first-undone x stale es k h d at) is).forth.0
 
--- a command is refused for the first of its conditions that is false
-pub false-stepped : Refuses → (s : Slots) (log : Log) (c : Command) (q : Condition) → IsLogOf s log → CommandNames (λ n. n < length s.names) (command_of c)
-    → Some (condition_of q) ≡ first_false (asked_by s.names) (number_image s) (command_of c)
-    → IsStepped s log (Perform (Single (map_command (name_at s.names) (command_of c)))) s log (Err (refusal.Condition q))
-false-stepped law s log c q is known e =
-    refuses s log (Perform (Single (map_command (name_at s.names) (command_of c)))) is q (
-    history-refused s log.index log.index (record { command = c; changes = []; touched = [] }) log.back log.forth (map_condition (name_at s.names) (condition_of q)) (refused-texts s c is.orderly known law (condition_of q) (sym e)))
+-- an action without commands
+abbrev pub no_commands : Done
+no_commands = record { commands = []; touched = [] }
+
+pub begins : (s : Slots) (log : Log) → IsLogOf s log → log.stale ≡ [] → IsUnderWay s s log.index no_commands
+begins s log is renewed_there = record {
+  closed = is.closed;
+  orderly = is.orderly;
+  index_of = is-index s log.index log.stale renewed_there is.index;
+  back = tt;
+  room = room-same s is.closed;
+  touched = λ p no. refl;
+}
+
+-- commands that are one action
+module _ (s t : Slots) (log : Log) (y : Mentioned) (e : Done) (commands : List (CommandOf Name)) (is : IsLogOf s log) (renewed_there : log.stale ≡ []) where
+  -- the history behind them
+  abbrev behind : Result Version (ConditionOf Name) → Outcome
+  behind o = by_result (λ v. Ok (appended rules (history_of s log) v)) (λ q. Err q) o
+
+  pub all-done : IsCarriedOut s log.index no_commands commands t y e (Ok tt) → IsStepped s log (after_commands (history_of s log) commands) t (record { index = y; stale = []; back = e ∷ log.back; forth = [] }) (Ok tt)
+  all-done done =
+      let way : IsUnderWay s t y e = done.under_way s (begins s log is renewed_there) in
+      let w : Slots = taken_back t e.commands in
+      record {
+        log = record {
+          closed = way.closed;
+          orderly = way.orderly;
+          index = renewed t y way.index_of;
+          back = (way.back, way.touched, room-back s w log.back way.room is.back);
+          forth = tt;
+        };
+        names = done.names;
+        done =
+            ap behind (done.done (renaming_at s log.back))
+            ∙ sym (λ i. Ok (record {
+              earlier = room-version s w log.back way.room is.back i ∷ room-before s w log.back way.room is.back i;
+              now = record { image = image_of t; renaming = renamed_back t ((room-version s w log.back way.room is.back i).renaming) e.commands };
+              later = [];
+            }));
+        same = tt;
+        refused = tt;
+      }
+
+  -- one of them is refused, and those before it are taken back
+  pub all-undone : (q : StepRefusal) → IsCarriedOut s log.index no_commands commands t y e (Err q)
+      → IsStepped s log (after_commands (history_of s log) commands) (taken_back t e.commands) (record { index = y; stale = e.touched; back = log.back; forth = log.forth }) (Err q)
+  all-undone q done =
+      let way : IsUnderWay s t y e = done.under_way s (begins s log is renewed_there) in
+      let w : Slots = taken_back t e.commands in
+      record {
+        log = record {
+          closed = way.room.wider.still;
+          orderly = orderly-wider s w way.room.wider is.orderly;
+          index = record { former = t; index_of = way.index_of; differs = way.touched };
+          back = room-back s w log.back way.room is.back;
+          forth = room-forth s w log.forth way.room is.forth;
+        };
+        names = way.room.names;
+        done = tt;
+        same = room-history s w log way.room is;
+        refused = λ c same. ap behind (done.refused c same (renaming_at s log.back));
+      }
+
+-- the same of a list of entries that stand for a log
+module _ (s t : Slots) (x y : Mentioned) (stale : List Place) (es : List Done) (n : ℕ) (first e : Done) (commands : List (CommandOf Name)) (log : Log)
+    (view : log_at x stale es n ≡ log) (is : IsLogOf s log) (renewed_there : log.stale ≡ []) (empty : first ≡ no_commands) where
+  pub begins-there : IsUnderWay s s x first
+  begins-there =
+      subst (λ (z : Done). IsUnderWay s s x z) (sym empty) (subst (λ (l : Log). IsUnderWay s s l.index no_commands) (sym view) (begins s log is renewed_there))
+
+  carried-there : (result : Result (Unit {0}) StepRefusal) → IsCarriedOut s x first commands t y e result → IsCarriedOut s log.index no_commands commands t y e result
+  carried-there result done =
+      subst (λ (l : Log). IsCarriedOut s l.index no_commands commands t y e result) view (subst (λ (z : Done). IsCarriedOut s x z commands t y e result) empty done)
+
+  pub all-noted : IsCarriedOut s x first commands t y e (Ok tt) → (items : List Done) (len : ℕ) → items ≡ take n es ++ e ∷ [] → len ≡ length items
+      → IsStepped s log (after_commands (history_of s log) commands) t (log_at y stale items len) (Ok tt)
+  all-noted done items len noted is_len =
+      let none : stale ≡ [] = ap (λ (l : Log). l.stale) view ∙ renewed_there in
+      subst (λ (l : Log). IsStepped s log (after_commands (history_of s log) commands) t l (Ok tt))
+      ((λ i. record { index = y; stale = []; back = e ∷ (sym view i).back; forth = [] }) ∙ sym (last-pushed y [] es n e) ∙ (λ i. log_at y (sym none i) (sym noted i) (sym (is_len ∙ ap length noted) i)))
+      (all-done s t log y e commands is renewed_there (carried-there (Ok tt) done))
+
+  pub can-undo : (q : StepRefusal) → IsCarriedOut s x first commands t y e (Err q) → CanGoBack t e.commands
+  can-undo q done = (done.under_way s begins-there).back
+
+  pub all-taken-back : (u : Slots) (places : List Place) (q : StepRefusal) → IsCarriedOut s x first commands t y e (Err q) → u ≡ taken_back t e.commands → places ≡ e.touched
+      → IsStepped s log (after_commands (history_of s log) commands) u (log_at y places es n) (Err q)
+  all-taken-back u places q done made same =
+      subst (λ (z : Slots). IsStepped s log (after_commands (history_of s log) commands) z (log_at y places es n) (Err q)) (sym made) (
+      subst (λ (l : Log). IsStepped s log (after_commands (history_of s log) commands) (taken_back t e.commands) l (Err q)) (λ i. record { index = y; stale = sym same i; back = (sym view i).back; forth = (sym view i).forth })
+      (all-undone s t log y e commands is renewed_there q (carried-there (Err q) done)))
+
+-- an entry of a list that stands for a log is taken back or done again
+module _ (s t : Slots) (x y : Mentioned) (stale : List Place) (es : List Done) (k : ℕ) (d e : Done) (h : k < length es) (at : d ≡ get_or es k d) (log : Log) (is : IsLogOf s log) (renewed_there : log.stale ≡ []) where
+  pub undo-made : log_at x stale es (k + 1) ≡ log → t ≡ taken_back s d.commands → e ≡ back_again s d → Follows t x y d.touched
+      → IsStepped s log (stepped rules (history_of s log) Undo) t (log_at y stale (set es k e) k) (Ok tt)
+  undo-made view made left follows =
+      let none : stale ≡ [] = ap (λ (l : Log). l.stale) view ∙ renewed_there in
+      subst (λ (l : Log). IsStepped s l (stepped rules (history_of s l) Undo) t (log_at y stale (set es k e) k) (Ok tt)) view (
+      subst (λ (z : List Place). IsStepped s (log_at x z es (k + 1)) (stepped rules (history_of s (log_at x z es (k + 1))) Undo) t (log_at y z (set es k e) k) (Ok tt)) (sym none) (
+      back-stepped s t x y es k d e h at (subst (IsLogOf s) (sym view ∙ ap (λ (z : List Place). log_at x z es (k + 1)) none) is) made left follows))
+
+  pub redo-made : log_at x stale es k ≡ log → t ≡ done_again s d.commands → e ≡ again s d → Follows t x y d.touched
+      → IsStepped s log (stepped rules (history_of s log) Redo) t (log_at y stale (set es k e) (k + 1)) (Ok tt)
+  redo-made view made left follows =
+      let none : stale ≡ [] = ap (λ (l : Log). l.stale) view ∙ renewed_there in
+      subst (λ (l : Log). IsStepped s l (stepped rules (history_of s l) Redo) t (log_at y stale (set es k e) (k + 1)) (Ok tt)) view (
+      subst (λ (z : List Place). IsStepped s (log_at x z es k) (stepped rules (history_of s (log_at x z es k)) Redo) t (log_at y z (set es k e) (k + 1)) (Ok tt)) (sym none) (
+      again-stepped s t x y es k d e h at (subst (IsLogOf s) (sym view ∙ ap (λ (z : List Place). log_at x z es k) none) is) made left follows))
+
+  pub wanting : (n : ℕ) (wanted : Outcome) → log_at x stale es n ≡ log → t ≡ s → e ≡ d → y ≡ x → IsStepped s log wanted t (log_at y stale (set es k e) n) (Err refusal.Memory)
+  wanting n wanted view image entry index =
+      subst (λ (l : Log). IsStepped s l wanted t (log_at y stale (set es k e) n) (Err refusal.Memory)) view
+      (stays-with s t x y stale es k n d e wanted (subst (IsLogOf s) (sym view) is) image entry index at)
+
+-- an action is refused for a condition of its own, or is its commands
+pub own-false : (h : History) (action : ActionOf Name) (q : ConditionOf Name) → first_own_false text_asked h.now.image action ≡ Some q → stepped rules h (Perform action) ≡ Err q
+own-false h action q e =
+    ap (λ (o : Option (ConditionOf Name)). by_result (λ v. Ok (appended rules h v)) (λ p. Err p) (option_map_or (λ p. Err p) o (after_all rules h.now (steps_of text_eq h.now.image canonical action)))) e
+
+pub own-true : (h : History) (action : ActionOf Name) (commands : List (CommandOf Name)) → first_own_false text_asked h.now.image action ≡ None → commands ≡ steps_of text_eq h.now.image canonical action
+    → after_commands h commands ≡ stepped rules h (Perform action)
+own-true h action commands e same =
+    ap (after_commands h) same
+    ∙ sym (ap (λ (o : Option (ConditionOf Name)). by_result (λ v. Ok (appended rules h v)) (λ p. Err p) (option_map_or (λ p. Err p) o (after_all rules h.now (steps_of text_eq h.now.image canonical action)))) e)
 
 -- undo and redo are refused where nothing is left
-pub none-back : (s : Slots) (x : Mentioned) (es : List Done) → IsLogOf s (log_at x es 0) → IsStepped s (log_at x es 0) Undo s (log_at x es 0) (Err (refusal.Condition condition.UndoLeft))
-none-back s x es is = refuses s (log_at x es 0) Undo is condition.UndoLeft refl
+pub none-back : (s : Slots) (x : Mentioned) (stale : List Place) (es : List Done) → IsLogOf s (log_at x stale es 0)
+    → IsStepped s (log_at x stale es 0) (stepped rules (history_of s (log_at x stale es 0)) Undo) s (log_at x stale es 0) (Err (refusal.Condition condition.UndoLeft))
+none-back s x stale es is = refuses s (log_at x stale es 0) (stepped rules (history_of s (log_at x stale es 0)) Undo) is condition.UndoLeft refl
 
-pub none-forth : (s : Slots) (x : Mentioned) (es : List Done) (n : ℕ) → length es ≤ n → IsLogOf s (log_at x es n) → IsStepped s (log_at x es n) Redo s (log_at x es n) (Err (refusal.Condition condition.RedoLeft))
-none-forth s x es n h is =
-    refuses s (log_at x es n) Redo is condition.RedoLeft (ap (λ (fs : List Done). stepped rules (history_of s (record { index = x; back = reverse (take n es); forth = fs })) Redo) (drop_all n es h))
+pub none-forth : (s : Slots) (x : Mentioned) (stale : List Place) (es : List Done) (n : ℕ) → length es ≤ n → IsLogOf s (log_at x stale es n)
+    → IsStepped s (log_at x stale es n) (stepped rules (history_of s (log_at x stale es n)) Redo) s (log_at x stale es n) (Err (refusal.Condition condition.RedoLeft))
+none-forth s x stale es n h is =
+    refuses s (log_at x stale es n) (stepped rules (history_of s (log_at x stale es n)) Redo) is condition.RedoLeft
+    (ap (λ (fs : List Done). stepped rules (history_of s (record { index = x; stale = stale; back = reverse (take n es); forth = fs })) Redo) (drop_all n es h))
+
+-- the log of an opened image
+pub opened-log : (s : Slots) (x : Mentioned) (stale : List Place) (es : List Done) → IsClosed s → IsOrderly s → IsIndexOf s x → stale ≡ [] → es ≡ [] → IsLogOf s (log_at x stale es 0)
+opened-log s x stale es closed orderly is none empty =
+    subst (λ (z : List Place). IsLogOf s (log_at x z es 0)) (sym none) (
+    subst (λ (zs : List Done). IsLogOf s (log_at x [] zs 0)) (sym empty) (record { closed = closed; orderly = orderly; index = renewed s x is; back = tt; forth = tt }))
+
+-- a log whose index is renewed
+pub renewed-log : (s : Slots) (x y : Mentioned) (stale places : List Place) (es : List Done) (n : ℕ) (log : Log) → log_at x stale es n ≡ log → IsLogOf s log → Follows s x y stale → places ≡ [] → IsLogOf s (log_at y places es n)
+renewed-log s x y stale places es n log view is follows none =
+    let there : IsLogOf s (log_at x stale es n) = subst (IsLogOf s) (sym view) is in
+    subst (λ (z : List Place). IsLogOf s (log_at y z es n)) (sym none)
+    (record { closed = there.closed; orderly = there.orderly; index = renewed s y (follows there.index.former there.index.index_of there.index.differs); back = there.back; forth = there.forth })

@@ -7,9 +7,11 @@ use Rattle.change_set.specs.declared.change.Change.{Change}
 use Rattle.change_set.specs.ChangeCode.{coded_change, coded_place}
 use Rattle.name_meanings.specs.declared.meaning.VariableKind.{VariableKind}
 use Rattle.name_meanings.specs.declared.meaning.VariableKind.TheVariants as kind
-use Rattle.commands.specs.declared.command.Command.{Command}
-use Rattle.commands.specs.declared.command.Command.TheVariants as command
-use Rattle.session.specs.Log.{Done, Log}
+use Rattle.commands.specs.declared.command.Renaming.{Renaming}
+use Rattle.commands.specs.declared.command.Renaming.TheVariants as renaming
+use Rattle.session.specs.declared.renames.Renames.{Renames}
+use Rattle.session.specs.declared.renames.Renames.TheVariants as renames
+use Rattle.session.specs.Log.{DoneCommand, Done, Log}
 
 -- a kind of variables as a number
 abbrev pub kind_number : VariableKind → ℕ
@@ -30,35 +32,62 @@ kind_back kind.Shared = refl
 abbrev pub coded_kind : Coded VariableKind
 coded_kind = code_by ℕ coded_ℕ kind_number kind_from kind_back
 
--- the kind and the fields of a command
+-- the kind and the fields of a renaming
 abbrev pub Fields : Type 0
 Fields = (ℕ × ℕ) ⊎ ((VariableKind × (ℕ × (ℕ × ℕ))) ⊎ (ℕ × ℕ))
 
-abbrev pub fields_of : Command → Fields
-fields_of (command.RenameClass c d) = inl (c, d)
-fields_of (command.RenameVariable k c x y) = inr (inl (k, (c, (x, y))))
-fields_of (command.RenameSelector s t) = inr (inr (s, t))
+abbrev pub fields_of : Renaming → Fields
+fields_of (renaming.Class c d) = inl (c, d)
+fields_of (renaming.Variable k c x y) = inr (inl (k, (c, (x, y))))
+fields_of (renaming.Selector s t) = inr (inr (s, t))
 
-abbrev pub command_from : Fields → Command
-command_from (inl p) = command.RenameClass p.0 p.1
-command_from (inr (inl p)) = command.RenameVariable p.0 p.1.0 p.1.1.0 p.1.1.1
-command_from (inr (inr p)) = command.RenameSelector p.0 p.1
+abbrev pub renaming_from : Fields → Renaming
+renaming_from (inl p) = renaming.Class p.0 p.1
+renaming_from (inr (inl p)) = renaming.Variable p.0 p.1.0 p.1.1.0 p.1.1.1
+renaming_from (inr (inr p)) = renaming.Selector p.0 p.1
 
-pub command_back : (c : Command) → command_from (fields_of c) ≡ c
-command_back (command.RenameClass c d) = refl
-command_back (command.RenameVariable k c x y) = refl
-command_back (command.RenameSelector s t) = refl
+pub renaming_back : (r : Renaming) → renaming_from (fields_of r) ≡ r
+renaming_back (renaming.Class c d) = refl
+renaming_back (renaming.Variable k c x y) = refl
+renaming_back (renaming.Selector s t) = refl
 
-abbrev pub coded_command : Coded Command
-coded_command =
+abbrev pub coded_renaming : Coded Renaming
+coded_renaming =
     code_by Fields (coded⊎ (coded× coded_ℕ coded_ℕ) (coded⊎ (coded× coded_kind (coded× coded_ℕ (coded× coded_ℕ coded_ℕ))) (coded× coded_ℕ coded_ℕ)))
-    fields_of command_from command_back
+    fields_of renaming_from renaming_back
 
--- the code of an entry
+-- what a command renames
+abbrev pub What : Type 0
+What = ℕ ⊎ (Renaming ⊎ (ℕ × (ℕ × ℕ)))
+
+abbrev pub what_of : Renames → What
+what_of renames.Nothing = inl 0
+what_of (renames.Renaming r) = inr (inl r)
+what_of (renames.Moved c x d) = inr (inr (c, (x, d)))
+
+abbrev pub renames_from : What → Renames
+renames_from (inl n) = renames.Nothing
+renames_from (inr (inl r)) = renames.Renaming r
+renames_from (inr (inr p)) = renames.Moved p.0 p.1.0 p.1.1
+
+pub renames_back : (r : Renames) → renames_from (what_of r) ≡ r
+renames_back renames.Nothing = refl
+renames_back (renames.Renaming r) = refl
+renames_back (renames.Moved c x d) = refl
+
+abbrev pub coded_renames : Coded Renames
+coded_renames = code_by What (coded⊎ coded_ℕ (coded⊎ coded_renaming (coded× coded_ℕ (coded× coded_ℕ coded_ℕ)))) what_of renames_from renames_back
+
+-- the code of a command that was done, and of an action
+abbrev pub coded_command : Coded DoneCommand
+coded_command =
+    code_by (List Change × Renames) (coded× (coded_list coded_change) coded_renames)
+    (λ d. (d.changes, d.renames)) (λ p. record { changes = p.0; renames = p.1 }) (λ _. refl)
+
 abbrev pub coded_done : Coded Done
 coded_done =
-    code_by (Command × (List Change × List Place)) (coded× coded_command (coded× (coded_list coded_change) (coded_list coded_place)))
-    (λ d. (d.command, (d.changes, d.touched))) (λ p. record { command = p.0; changes = p.1.0; touched = p.1.1 }) (λ _. refl)
+    code_by (List DoneCommand × List Place) (coded× (coded_list coded_command) (coded_list coded_place))
+    (λ d. (d.commands, d.touched)) (λ p. record { commands = p.0; touched = p.1 }) (λ _. refl)
 
 -- the names of places
 abbrev pub Names : Type 0
@@ -70,5 +99,5 @@ coded_names = coded_list (coded_list coded_ℕ)
 -- the code of a log
 abbrev pub coded_log : Coded Log
 coded_log =
-    code_by (Names × (Names × (List Done × List Done))) (coded× coded_names (coded× coded_names (coded× (coded_list coded_done) (coded_list coded_done))))
-    (λ l. (l.index.methods, (l.index.doits, (l.back, l.forth)))) (λ p. record { index = record { methods = p.0; doits = p.1.0 }; back = p.1.1.0; forth = p.1.1.1 }) (λ _. refl)
+    code_by (Names × (Names × (List Place × (List Done × List Done)))) (coded× coded_names (coded× coded_names (coded× (coded_list coded_place) (coded× (coded_list coded_done) (coded_list coded_done)))))
+    (λ l. (l.index.methods, (l.index.doits, (l.stale, (l.back, l.forth))))) (λ p. record { index = record { methods = p.0; doits = p.1.0 }; stale = p.1.1.0; back = p.1.1.1.0; forth = p.1.1.1.1 }) (λ _. refl)

@@ -1,9 +1,24 @@
-use Rattle.std.proofs.Common.{◌≡◌, List, subst}
-use Rattle.class_table.specs.declared.record.Place.{Place}
-use Rattle.reference_index.specs.Mentioned.{DiffersAtMost}
+use Rattle.std.proofs.Common.{sym, subst, ◌∙◌}
+use Rattle.class_table.specs.Slots.{Slots}
+use Rattle.session.specs.Log.{taken_back, done_again, left_again, CanGoForth}
+use Rattle.session.proofs.Kept.{went-back}
 use Rattle.session.proofs.done.take_back.Goals as goal
 
-pub returns-in-Ok-clause-index : goal.returns-in-Ok-clause-index
-returns-in-Ok-clause-index g c = λ s index differs.
-    let same : c.args.entry.now.touched ≡ c.as_slice.result.now = cc in
-    c.in-Ok.ensures.ok s index (subst (λ (touched : List Place). DiffersAtMost s c.undo_all.new.image touched) same differs)
+pub redo_each-requires : goal.redo_each-requires
+redo_each-requires g c =
+    let s = c.args.image.now in
+    let ds = c.args.commands.now in
+    subst (λ (z : Slots). CanGoForth z c.undo_each.new.commands) (sym c.undo_each.ensures.image) (
+    subst (CanGoForth (taken_back s ds)) (sym c.undo_each.ensures.commands) (went-back s ds c.requires.closed c.requires.orderly c.requires.can).can)
+
+pub returns-in-Err-clause-same_image : goal.returns-in-Err-clause-same_image
+returns-in-Err-clause-same_image g c =
+    let s = c.args.image.now in
+    let ds = c.args.commands.now in
+    c.redo_each.ensures.image ∙ (λ i. done_again (c.undo_each.ensures.image i) (c.undo_each.ensures.commands i)) ∙ (went-back s ds c.requires.closed c.requires.orderly c.requires.can).slots
+
+pub returns-in-Err-clause-same_commands : goal.returns-in-Err-clause-same_commands
+returns-in-Err-clause-same_commands g c =
+    let s = c.args.image.now in
+    let ds = c.args.commands.now in
+    c.redo_each.ensures.commands ∙ (λ i. left_again (c.undo_each.ensures.image i) (c.undo_each.ensures.commands i)) ∙ (went-back s ds c.requires.closed c.requires.orderly c.requires.can).left

@@ -1,27 +1,46 @@
-use Rattle.std.proofs.Common.{◌<◌, ◌+◌, length, set, Ok, Err, sym, subst, arith}
+use Rattle.std.proofs.Common.{◌≡◌, ◌<◌, length, get_or, ℕ, sym, ap, subst, ◌∙◌, arith}
+use Rattle.std.proofs.lemmas.List.{with_items_is}
 use Rattle.std.proofs.lemmas.Result.{err_from_is_err_and}
+use Rattle.std.specs.Vec.{with_items}
 use Rattle.history_model.specs.Rules.{Redo}
-use Rattle.session.specs.Log.{Log, log_at, IsLogOf}
-use Rattle.session.specs.Stepping.{IsStepped}
-use Rattle.session.specs.declared.session.StepRefusal.TheVariants as refusal
-use Rattle.session.proofs.Steps.{stays-with, again-stepped}
+use Rattle.history_model.specs.History.{stepped}
+use Rattle.session_model.specs.Scripts.{rules}
+use Rattle.session.specs.Log.{Done, done_again, left_again}
+use Rattle.session.specs.History.{history_of}
+use Rattle.session.proofs.Logs.{again}
+use Rattle.session.proofs.UnderWay.{Follows}
+use Rattle.session.proofs.Steps.{redo-made, wanting}
 use Rattle.session.proofs.session.Session.redo.Goals as goal
 
 pub returns-in_err-do_again : goal.returns-in_err-do_again
 returns-in_err-do_again g c =
+    let s = c.args.image.now in
     let v = c.self.inside in
+    let k : ℕ = v.done in
     let made = c.in_err-do_again.ensures in
     let p = err_from_is_err_and c.from_residual.result c.from_residual.ensures.1 in
+    let d : Done = record { commands = c.entry.inside.commands.items; touched = c.entry.inside.touched.items } in
+    let e : Done = record { commands = (with_items c.entry.inside.commands c.do_again.new.commands).items; touched = c.entry.inside.touched.items } in
+    let whole : (with_items c.entry.inside.commands c.do_again.new.commands).items ≡ c.do_again.new.commands = with_items_is c.entry.inside.commands c.do_again.new.commands (c.do_again.auto.commands ∙ c.deref_mut.ensures.len) in
+    let at : d ≡ get_or v.entries.items k d = c.entry.view_is ∙ c.index_mut-entry.ensures.value ∙ ap (get_or v.entries.items k) (sym c.entry.view_is) in
+    let h : k < length v.entries.items = omega (arith, v.entries.ok.0) in
+    let same : e ≡ d = λ i. record d { commands = (whole ∙ made.same_commands ∙ c.deref_mut.ensures.value) i } in
     rw (p.1, p.2) (
-    subst (λ (l : Log). IsStepped c.args.image.now l Redo c.do_again.new.image (log_at c.do_again.new.index (set v.entries.items v.done c.do_again.new.entry) v.done) (Err refusal.Memory)) c.self.view_is (
-    stays-with c.args.image.now c.do_again.new.image v.index c.do_again.new.index v.entries.items v.done v.done c.index_mut.result.now c.do_again.new.entry Redo
-    (subst (IsLogOf c.args.image.now) (sym c.self.view_is) c.requires) made.same_image made.same_entry made.same_index c.index_mut.ensures.value))
+    wanting s c.do_again.new.image v.index c.do_again.new.index v.stale.items v.entries.items k d e h at c.args.self.now c.requires.log c.requires.renewed v.done (stepped rules (history_of s c.args.self.now) Redo) c.self.view_is
+    made.same_image same made.same_index)
 
 pub returns : goal.returns
 returns g c =
+    let s = c.args.image.now in
     let v = c.self.inside in
+    let k : ℕ = v.done in
     let made = c.in_ok-do_again.ensures in
-    let h : v.done < length v.entries.items = omega (arith, v.entries.ok.0) in
-    subst (λ (l : Log). IsStepped c.args.image.now l Redo c.do_again.new.image (log_at c.do_again.new.index (set v.entries.items v.done c.do_again.new.entry) (v.done + 1)) (Ok tt)) c.self.view_is (
-    again-stepped c.args.image.now c.do_again.new.image v.index c.do_again.new.index v.entries.items v.done c.index_mut.result.now c.do_again.new.entry h c.index_mut.ensures.value
-    (subst (IsLogOf c.args.image.now) (sym c.self.view_is) c.requires) made.image made.entry made.index)
+    let d : Done = record { commands = c.entry.inside.commands.items; touched = c.entry.inside.touched.items } in
+    let e : Done = record { commands = (with_items c.entry.inside.commands c.do_again.new.commands).items; touched = c.entry.inside.touched.items } in
+    let whole : (with_items c.entry.inside.commands c.do_again.new.commands).items ≡ c.do_again.new.commands = with_items_is c.entry.inside.commands c.do_again.new.commands (c.do_again.auto.commands ∙ c.deref_mut.ensures.len) in
+    let at : d ≡ get_or v.entries.items k d = c.entry.view_is ∙ c.index_mut-entry.ensures.value ∙ ap (get_or v.entries.items k) (sym c.entry.view_is) in
+    let h : k < length v.entries.items = omega (arith, v.entries.ok.0) in
+    let left : e ≡ again s d = λ i. record d { commands = (whole ∙ made.commands ∙ ap (left_again s) c.deref_mut.ensures.value) i } in
+    let follows : Follows c.do_again.new.image v.index c.do_again.new.index d.touched = subst (Follows c.do_again.new.image v.index c.do_again.new.index) c.deref.ensures.value made.index in
+    redo-made s c.do_again.new.image v.index c.do_again.new.index v.stale.items v.entries.items k d e h at c.args.self.now c.requires.log c.requires.renewed c.self.view_is
+    (made.image ∙ ap (done_again s) c.deref_mut.ensures.value) left follows

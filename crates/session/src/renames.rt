@@ -1,0 +1,93 @@
+// What a command renames, in a short form.
+ghost use Rattle.std.specs.Prelude.{◌≡◌, ◌<◌, length, nat_eq};
+ghost use Rattle.rb_base.specs.Names.{name_at};
+ghost use Rattle.class_table.specs.Valid.{IsOrderly};
+ghost use Rattle.class_table.specs.View.{number_image, image_of};
+ghost use Rattle.command_model.specs.Commands.{PushUpClassVar};
+ghost use Rattle.command_model.specs.Hierarchy as hierarchy;
+ghost use Rattle.command_model.specs.Renamings.{renaming_of};
+ghost use Rattle.command_numbers.specs.CommandNames.{CommandNames};
+ghost use Rattle.command_numbers.specs.MappedCommands.{map_command};
+ghost use Rattle.commands.specs.Views.{command_of};
+ghost use Rattle.session.specs.History.{renaming_in};
+
+use class_table::Image;
+use commands::{Command, Renaming, VariableMove};
+use rb_base::NameId;
+
+/// What a command renames.
+#[derive(Clone, Copy, Debug)]
+pub enum Renames {
+    /// It renames nothing.
+    Nothing,
+    /// Something gets another name.
+    Renaming(Renaming),
+    /// The class variable becomes one of the class `to`.
+    Moved {
+        class: NameId,
+        variable: NameId,
+        to: NameId,
+    },
+}
+
+/// The name of the superclass; none where there is no class of the name, or it has none.
+fn superclass_name(image: &Image, class: NameId) -> Option<NameId>
+    requires { IsOrderly image.now }
+    ensures { result ≡ hierarchy.superclass_name nat_eq (number_image image.now) class }
+{
+    let Some(id) = image.class_named(class) else {
+        return None;
+    };
+    let Some(rec) = image.class_rec(id) else {
+        return None;
+    };
+    let Some(above) = rec.superclass else {
+        return None;
+    };
+    match image.class_rec(above) {
+        Some(superclass) => Some(superclass.name),
+        None => None,
+    }
+}
+
+/// What the class variable becomes that goes to the superclass.
+fn renames_up(image: &Image, class: NameId, variable: NameId) -> Renames
+    requires orderly { IsOrderly image.now }
+    requires class { class < length image.now.names }
+    ensures { renaming_in image.now.names (image_of image.now) result ≡ renaming_of (image_of image.now) (PushUpClassVar (name_at image.now.names class) (name_at image.now.names variable)) }
+{
+    match superclass_name(image, class) {
+        Some(to) => Renames::Moved {
+            class,
+            variable,
+            to,
+        },
+        None => Renames::Nothing,
+    }
+}
+
+/// What the command renames in the image.
+pub(crate) fn renames_of(image: &Image, command: &Command) -> Renames
+    requires orderly { IsOrderly image.now }
+    requires known { CommandNames (λ n. n < length image.now.names) (command_of command.now) }
+    ensures { renaming_in image.now.names (image_of image.now) result ≡ renaming_of (image_of image.now) (map_command (name_at image.now.names) (command_of command.now)) }
+{
+    match *command {
+        Command::Rename(renaming) => Renames::Renaming(renaming),
+        Command::Variable(VariableMove::SharedUp { class, variable }) => {
+            renames_up(image, class, variable)
+        }
+        Command::Variable(
+            VariableMove::SharedDown {
+                class,
+                variable,
+                to,
+            },
+        ) => Renames::Moved {
+            class,
+            variable,
+            to,
+        },
+        _ => Renames::Nothing,
+    }
+}
