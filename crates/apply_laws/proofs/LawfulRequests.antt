@@ -1,18 +1,25 @@
 -- What a script asks for is lawful.
-use Rattle.std.proofs.Common.{◌≡◌, List, [], ◌∷◌, map, find, Option, Some, None, Result, Ok, Err, refl, ap, subst, ◌∙◌}
+use Rattle.std.proofs.Common.{◌≡◌, ◌≢◌, ℕ, zero, suc, ◌+◌, ◌&&◌, Bool, true, false, not, if◌then◌else◌, List, [], ◌∷◌, length, take, drop, find, Option, Some, None, Result, Ok, Err, refl, sym, ap, subst, ◌∙◌}
+use Rattle.std.specs.Prelude.{◌==◌, cond}
 use Rattle.std.specs.List.{AllByRecursion}
-use Rattle.std.specs.Option.{option_map_or, option_and_then}
+use Rattle.std.specs.Option.{option_map, option_map_or, option_and_then}
 use Rattle.rb_base.specs.Names.{text_eq}
+use Rattle.chunk_format.specs.Blank.{is_blank, blank_len, drop_blanks, HasNoLeadingBlank}
+use Rattle.chunk_format.proofs.Blanks.{drop_blanks-cons}
+use Rattle.text_model.specs.Literals.{is_identifier}
 use Rattle.image_model.specs.ImageNames.{OptionNames}
 use Rattle.image_model.proofs.Lists.{find-all}
 use Rattle.history_model.specs.Rules.{Asks}
+use Rattle.file_model.specs.Fileable.{MayStand}
+use Rattle.command_model.specs.Commands.{AddMethod}
 use Rattle.session_model.specs.Scripts.{Request}
 use Rattle.session_model.specs.Lawful.{IsLawfulAction}
 use Rattle.script_model.specs.Lines.{words_of, lines_of, spoken}
-use Rattle.script_model.specs.Arguments.{name, Argument, arguments_of}
-use Rattle.script_model.specs.Makers.{Text, Maker, of_none, of_two, of_three}
+use Rattle.script_model.specs.Arguments.{Argument, name, side, side_of, arguments_of}
+use Rattle.script_model.specs.Makers.{Text, Maker, single, of_none, of_one, of_two, of_three, names_in, of_classes, of_method}
 use Rattle.script_model.specs.Commands.{Row, Cause, BadArgument, table, no_command, said_by_row, said_by}
-use Rattle.script_model.specs.Scripts.{said, Says}
+use Rattle.script_model.specs.Additions.{first_word, behind_word, Addition, addition, addition_of, Spelled, Incomplete, Faulty}
+use Rattle.script_model.specs.Scripts.{LineSays, InWords, InText, EachSays, Says}
 
 -- a request that the laws of scripts speak of
 abbrev IsFit : Request → Type 0
@@ -29,19 +36,59 @@ three : (f : Text → Text → Text → Request) → ((c x y : Text) → IsFit (
 three f h (name c ∷ name x ∷ name y ∷ []) r e = let same : f c x y ≡ r = cc in subst IsFit same (h c x y)
 three f h arguments r e = absurd (cc)
 
+one : (f : Text → Request) → ((c : Text) → IsFit (f c)) → MakesFit (of_one f)
+one f h (name c ∷ []) r e = let same : f c ≡ r = cc in subst IsFit same (h c)
+one f h arguments r e = absurd (cc)
+
 none : (q : Request) → IsFit q → MakesFit (of_none q)
 none q h [] r e = let same : q ≡ r = cc in subst IsFit same h
 none q h (x ∷ xs) r e = absurd (cc)
 
+classes : (f : Text → Text → List Text → Request) → ((d p : Text) (under : List Text) → IsFit (f d p under)) → MakesFit (of_classes f)
+classes f h (name d ∷ name p ∷ rest) r e = by (names_in rest) e
+  where
+    by : (o : Option (List Text)) → option_map (f d p) o ≡ Some r → IsFit r
+    by None made = absurd (cc)
+    by (Some under) made = let same : f d p under ≡ r = cc in subst IsFit same (h d p under)
+classes f h arguments r e = absurd (cc)
+
+method : (f : Text → Bool → Text → Request) → ((c : Text) (meta : Bool) (s : Text) → IsFit (f c meta s)) → MakesFit (of_method f)
+method f h (name c ∷ side meta ∷ name s ∷ []) r e = let same : f c meta s ≡ r = cc in subst IsFit same (h c meta s)
+method f h arguments r e = absurd (cc)
+
+-- rows whose commands are all such requests, in two parts of a list
+abbrev Fits : List Row → Type 0
+Fits rows = AllByRecursion (λ (x : Row). MakesFit x.makes) rows
+
+joined : (n : ℕ) (rows : List Row) → Fits (take n rows) → Fits (drop n rows) → Fits rows
+joined zero rows first rest = rest
+joined (suc n) [] first rest = tt
+joined (suc n) (r ∷ rs) first rest = (first.0, joined n rs first.1 rest)
+
+-- the commands of classes, of the variables of each kind, and of selectors and methods, and the other ones
+classes-fit : Fits (take 3 table)
+classes-fit = (classes _ (λ d p under. (tt, tt, tt)), (two _ (λ c x. (tt, tt, tt)), (one _ (λ c. (tt, tt, tt)), tt)))
+
+instance-fit : Fits (take 5 (drop 3 table))
+instance-fit = (two _ (λ c x. (tt, tt, tt)), (three _ (λ c x y. (tt, tt, tt)), (two _ (λ c x. (tt, tt, tt)), (two _ (λ c x. (tt, tt, tt)), (two _ (λ c x. (tt, tt, tt)), tt)))))
+
+shared-fit : Fits (take 5 (drop 8 table))
+shared-fit = (two _ (λ c x. (tt, tt, tt)), (three _ (λ c x y. (tt, tt, tt)), (two _ (λ c x. (tt, tt, tt)), (two _ (λ c x. (tt, tt, tt)), (three _ (λ c x y. (tt, tt, tt)), tt)))))
+
+class_side-fit : Fits (take 3 (drop 13 table))
+class_side-fit = (two _ (λ c x. (tt, tt, tt)), (three _ (λ c x y. (tt, tt, tt)), (two _ (λ c x. (tt, tt, tt)), tt)))
+
+methods-fit : Fits (take 4 (drop 16 table))
+methods-fit = (two _ (λ c x. (tt, tt, tt)), (method _ (λ c meta s. (tt, tt, tt)), (method _ (λ c meta s. (tt, tt, tt)), (method _ (λ c meta s. (tt, tt, tt)), tt))))
+
+others-fit : Fits (drop 20 table)
+others-fit = (two _ (λ c x. record { selector = refl; parameter_is = refl }), (classes _ (λ d p under. tt), (two _ (λ c x. tt), (none _ tt, (none _ tt, tt)))))
+
 -- all commands that are performed
-all-fit : AllByRecursion (λ (x : Row). MakesFit x.makes) table
-all-fit = (
-  two _ (λ c d. (tt, tt, tt)),
-  (
-    three _ (λ c x y. (tt, tt, tt)),
-    (three _ (λ c x y. (tt, tt, tt)), (three _ (λ c x y. (tt, tt, tt)), (two _ (λ s t. (tt, tt, tt)), (none _ tt, (none _ tt, tt))))),
-  ),
-)
+all-fit : Fits table
+all-fit =
+    joined 3 table classes-fit
+    (joined 5 (drop 3 table) instance-fit (joined 5 (drop 8 table) shared-fit (joined 3 (drop 13 table) class_side-fit (joined 4 (drop 16 table) methods-fit others-fit))))
 
 -- what the arguments of a row make
 abbrev as-said : Option Request → Result Request Cause
@@ -68,15 +115,54 @@ words-fit (w ∷ ws) r e =
     found-fit w ws (find (λ (x : Row). text_eq w x.word) table) r
     (find-all (λ (x : Row). MakesFit x.makes) (λ (x : Row). text_eq w x.word) table all-fit) e
 
+-- the text of an addition is there, and begins with no blank
+no-blank : (s : Text) → HasNoLeadingBlank (drop_blanks s)
+no-blank [] = refl
+no-blank (b ∷ s) = by (is_blank b) refl (no-blank s)
+  where
+    by : (t : Bool) → is_blank b ≡ t → HasNoLeadingBlank (drop_blanks s) → HasNoLeadingBlank (drop_blanks (b ∷ s))
+    by true e rest = ap blank_len (drop_blanks-cons b s ∙ ap (λ (t : Bool). if t then drop_blanks s else b ∷ s) e) ∙ rest
+    by false e rest = ap blank_len (drop_blanks-cons b s ∙ ap (λ (t : Bool). if t then drop_blanks s else b ∷ s) e) ∙ ap (λ (t : Bool). cond t (1 + blank_len s) 0) e
+
+addition-text : (c : Text) (o : Option Bool) (p s : Text) (a : Addition) → addition c o p s ≡ Some a → (a.text ≡ s) × (s ≢ [])
+addition-text c None p s a e = absurd (cc)
+addition-text c (Some meta) p [] a e = absurd (nothing (is_identifier c) (not (length p == 0)) e)
+  where
+    nothing : (x y : Bool) → (if (x && (y && false)) then Some (record { class = c; meta = meta; protocol = p; text = [] }) else None) ≡ Some a → ⊥
+    nothing true true some = absurd (cc)
+    nothing true false some = absurd (cc)
+    nothing false y some = absurd (cc)
+addition-text c (Some meta) p (b ∷ s) a e = by (is_identifier c) (not (length p == 0)) (not (length (b ∷ s) == 0)) e
+  where
+    by : (x y z : Bool) → (if (x && (y && z)) then Some (record { class = c; meta = meta; protocol = p; text = b ∷ s }) else None) ≡ Some a → (a.text ≡ b ∷ s) × (b ∷ s ≢ [])
+    by true true true some = let same : record { class = c; meta = meta; protocol = p; text = b ∷ s } ≡ a = cc in (ap (λ (x : Addition). x.text) (sym same), λ none. absurd (cc))
+    by true true false some = absurd (cc)
+    by true false z some = absurd (cc)
+    by false y z some = absurd (cc)
+
+may-stand : (t : Text) (a : Addition) → addition_of t ≡ Some a → MayStand a.text
+may-stand t a e =
+    let side = behind_word t in
+    let protocol = behind_word side in
+    let text = drop_blanks (behind_word protocol) in
+    let is = addition-text (first_word t) (side_of (first_word side)) (first_word protocol) text a e in
+    record { some = λ none. is.1 (sym is.0 ∙ none); no_blank = ap blank_len is.0 ∙ no-blank (behind_word protocol) }
+
+-- what a line asks for
+line-fit : (line : Text) (r : Request) → LineSays line (Ok r) → IsFit r
+line-fit line r (InWords plain answer) = words-fit (words_of line) r (sym answer)
+line-fit line r (InText adds (Spelled a tree is spells answer)) =
+    let same : single (AddMethod a.class a.meta a.protocol a.text tree) ≡ r = cc in
+    subst IsFit same (tt, spells, may-stand (behind_word line) a is)
+line-fit line r (InText adds (Incomplete none answer)) = absurd (cc)
+line-fit line r (InText adds (Faulty a fault is wrong answer)) = absurd (cc)
+
 -- what lines ask for
-lines-fit : (lines : List Text) (requests : List Request) → map said lines ≡ map {B = Result Request Cause} Ok requests → AllByRecursion (Asks IsLawfulAction) requests
-lines-fit [] [] e = tt
-lines-fit [] (r ∷ rs) e = absurd (cc)
-lines-fit (l ∷ ls) [] e = absurd (cc)
-lines-fit (l ∷ ls) (r ∷ rs) e =
-    let first : said l ≡ Ok r = cc in
-    let rest : map said ls ≡ map {B = Result Request Cause} Ok rs = cc in
-    (words-fit (words_of l) r first, lines-fit ls rs rest)
+lines-fit : (lines : List Text) (requests : List Request) → EachSays lines requests → AllByRecursion (Asks IsLawfulAction) requests
+lines-fit [] [] each = tt
+lines-fit [] (r ∷ rs) each = absurd each
+lines-fit (l ∷ ls) [] each = absurd each
+lines-fit (l ∷ ls) (r ∷ rs) each = (line-fit l r each.0, lines-fit ls rs each.1)
 
 -- what a script asks for
 pub requests-lawful : (script : Text) (requests : List Request) → Says script requests → AllByRecursion (Asks IsLawfulAction) requests

@@ -1,3 +1,4 @@
 mod ExamplesJudged
+mod LineAnswers
 mod OneReading
 mod SomeReading

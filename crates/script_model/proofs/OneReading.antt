@@ -7,7 +7,8 @@ use Rattle.std.proofs.lemmas.Bool.{lt-ltb}
 use Rattle.session_model.specs.Scripts.{Request}
 use Rattle.script_model.specs.Lines.{lines_of, is_skipped, spoken}
 use Rattle.script_model.specs.Commands.{Cause, TooMany}
-use Rattle.script_model.specs.Scripts.{said, Say, Says, cause_of, IsRefused}
+use Rattle.script_model.specs.Scripts.{LineSays, Say, Says, cause_of, IsRefused}
+use Rattle.script_model.proofs.LineAnswers.{Answer, each-said, wrong-as}
 
 abbrev Text : Type 0
 Text = List ℕ
@@ -22,17 +23,6 @@ same_requests (c ∷ cs) (d ∷ ds) e =
     let rest : map {B = Result Request Cause} Ok cs ≡ map Ok ds = cc in
     λ i. first i ∷ same_requests cs ds rest i
 
--- a script asks for one list of commands
-pub says_once : (text : Text) (cs ds : List Request) → Says text cs → Says text ds → cs ≡ ds
-says_once text cs ds p q = same_requests cs ds (sym p.each ∙ q.each)
-
--- what the lines say of which one says something
-said_parts : (before after : List Text) (line : Text) → is_skipped line ≡ false → map said (spoken (before ++ line ∷ after)) ≡ map said (spoken before) ++ said line ∷ map said (spoken after)
-said_parts before after line h =
-    ap (map said) (filter-append (λ (l : Text). not (is_skipped l)) before (line ∷ after))
-    ∙ map-append said (spoken before) (spoken (line ∷ after))
-    ∙ ap (λ (b : Bool). map said (spoken before) ++ map said (cond (not b) (line ∷ spoken after) (spoken after))) h
-
 -- a result among those of requests is that of one, and there are more of them than stand before it
 among : (bs cs : List Request) (r : Result Request Cause) (rs : List (Result Request Cause)) → map Ok bs ++ r ∷ rs ≡ map Ok cs → (c : Request) × (r ≡ Ok c) × (length bs < length cs)
 among [] [] r rs e = absurd (cc)
@@ -42,18 +32,6 @@ among (b ∷ bs) (c ∷ cs) r rs e =
     let rest : map Ok bs ++ r ∷ rs ≡ map Ok cs = cc in
     let found = among bs cs r rs rest in
     (found.0, found.1, omega (arith, found.2))
-
--- a line among lines that ask for something is not wrong
-not_wrong : (lines before after : List Text) (line : Text) (bs cs : List Request) (cause : Cause) → lines ≡ before ++ line ∷ after → is_skipped line ≡ false → Say before bs → Say lines cs → cause_of (length bs) (said line) ≡ Some cause → ⊥
-not_wrong lines before after line bs cs cause parts h p q wrong =
-    let all : map Ok bs ++ said line ∷ map said (spoken after) ≡ map Ok cs =
-    ap (λ (rs : List (Result Request Cause)). rs ++ said line ∷ map said (spoken after)) (sym p.each) ∙ sym (said_parts before after line h) ∙ ap (λ (ls : List Text). map said (spoken ls)) (sym parts) ∙ q.each in
-    let found = among bs cs (said line) (map said (spoken after)) all in
-    let room : nat_lt (length bs) 10000 ≡ true = lt-ltb (length bs) 10000 (omega (arith, found.2, q.few)) in
-    no_cause (sym wrong ∙ ap (cause_of (length bs)) found.1 ∙ ap (λ (b : Bool). let r : Option Cause = if b then None else Some TooMany in r) room)
-  where
-    no_cause : Some cause ≡ None → ⊥
-    no_cause e = absurd (cc)
 
 -- two places in a list, of which one is nearer or both are one
 data Parted {X : Type 0} (xs : List X) (x : X) (bs cs : List X) (y : X) (ds : List X) : Type 0 where
@@ -75,18 +53,46 @@ parted (a ∷ xs) x bs (c ∷ cs) y ds e =
     by f (nearer es p) = nearer es (λ i. sym f i ∷ p i)
     by f (farther es p) = farther es (λ i. f i ∷ p i)
 
--- a script that asks for something is not refused
-pub not_refused : (text : Text) (cs : List Request) (n : ℕ) (cause : Cause) → Says text cs → IsRefused text n cause → ⊥
-not_refused text cs n cause p r = not_wrong (lines_of text) r.before r.after r.line r.requests cs cause r.parts r.says_something r.said_before p r.wrong
+module _ (answer : Text → Answer) (says : (line : Text) → LineSays line (answer line)) (one : (line : Text) (r s : Answer) → LineSays line r → LineSays line s → r ≡ s) where
+  -- what lines say
+  said-each : (ls : List Text) (rs : List Request) → Say ls rs → map answer (spoken ls) ≡ map Ok rs
+  said-each ls rs p = each-said answer says one (spoken ls) rs p.each
 
--- a script is refused at one line with one cause
-pub refused_once : (text : Text) (n m : ℕ) (cause other : Cause) → IsRefused text n cause → IsRefused text m other → (n ≡ m) × (cause ≡ other)
-refused_once text n m cause other p q = by (parted p.before p.line p.after q.before q.line q.after (sym p.parts ∙ q.parts))
-  where
-    by : Parted p.before p.line p.after q.before q.line q.after → (n ≡ m) × (cause ≡ other)
-    by (same e f) =
-        let requests : p.requests ≡ q.requests = same_requests p.requests q.requests (sym p.said_before.each ∙ ap (λ (ls : List Text). map said (spoken ls)) e ∙ q.said_before.each) in
-        let causes : Some cause ≡ Some other = sym p.wrong ∙ (λ i. cause_of (length (requests i)) (said (f i))) ∙ q.wrong in
-        (p.numbered ∙ ap (λ (ls : List Text). length ls + 1) e ∙ sym q.numbered, cc causes)
-    by (nearer es e) = absurd (not_wrong q.before p.before es p.line p.requests q.requests cause e p.says_something p.said_before q.said_before p.wrong)
-    by (farther es e) = absurd (not_wrong p.before q.before es q.line q.requests p.requests other e q.says_something q.said_before p.said_before q.wrong)
+  -- a script asks for one list of commands
+  pub says_once : (text : Text) (cs ds : List Request) → Says text cs → Says text ds → cs ≡ ds
+  says_once text cs ds p q = same_requests cs ds (sym (said-each (lines_of text) cs p) ∙ said-each (lines_of text) ds q)
+
+  -- what the lines say of which one says something
+  said_parts : (before after : List Text) (line : Text) → is_skipped line ≡ false → map answer (spoken (before ++ line ∷ after)) ≡ map answer (spoken before) ++ answer line ∷ map answer (spoken after)
+  said_parts before after line h =
+      ap (map answer) (filter-append (λ (l : Text). not (is_skipped l)) before (line ∷ after))
+      ∙ map-append answer (spoken before) (spoken (line ∷ after))
+      ∙ ap (λ (b : Bool). map answer (spoken before) ++ map answer (cond (not b) (line ∷ spoken after) (spoken after))) h
+
+  -- a line among lines that ask for something is not wrong
+  not_wrong : (lines before after : List Text) (line : Text) (bs cs : List Request) (cause : Cause) → lines ≡ before ++ line ∷ after → is_skipped line ≡ false → Say before bs → Say lines cs → cause_of (length bs) (answer line) ≡ Some cause → ⊥
+  not_wrong lines before after line bs cs cause parts h p q wrong =
+      let all : map Ok bs ++ answer line ∷ map answer (spoken after) ≡ map Ok cs =
+      ap (λ (rs : List (Result Request Cause)). rs ++ answer line ∷ map answer (spoken after)) (sym (said-each before bs p)) ∙ sym (said_parts before after line h) ∙ ap (λ (ls : List Text). map answer (spoken ls)) (sym parts) ∙ said-each lines cs q in
+      let found = among bs cs (answer line) (map answer (spoken after)) all in
+      let room : nat_lt (length bs) 10000 ≡ true = lt-ltb (length bs) 10000 (omega (arith, found.2, q.few)) in
+      no_cause (sym wrong ∙ ap (cause_of (length bs)) found.1 ∙ ap (λ (b : Bool). let r : Option Cause = if b then None else Some TooMany in r) room)
+    where
+      no_cause : Some cause ≡ None → ⊥
+      no_cause e = absurd (cc)
+
+  -- a script that asks for something is not refused
+  pub not_refused : (text : Text) (cs : List Request) (n : ℕ) (cause : Cause) → Says text cs → IsRefused text n cause → ⊥
+  not_refused text cs n cause p r = not_wrong (lines_of text) r.before r.after r.line r.requests cs cause r.parts r.says_something r.said_before p (wrong-as answer says one r.line (length r.requests) cause r.wrong)
+
+  -- a script is refused at one line with one cause
+  pub refused_once : (text : Text) (n m : ℕ) (cause other : Cause) → IsRefused text n cause → IsRefused text m other → (n ≡ m) × (cause ≡ other)
+  refused_once text n m cause other p q = by (parted p.before p.line p.after q.before q.line q.after (sym p.parts ∙ q.parts))
+    where
+      by : Parted p.before p.line p.after q.before q.line q.after → (n ≡ m) × (cause ≡ other)
+      by (same e f) =
+          let requests : p.requests ≡ q.requests = same_requests p.requests q.requests (sym (said-each p.before p.requests p.said_before) ∙ ap (λ (ls : List Text). map answer (spoken ls)) e ∙ said-each q.before q.requests q.said_before) in
+          let causes : Some cause ≡ Some other = sym (wrong-as answer says one p.line (length p.requests) cause p.wrong) ∙ (λ i. cause_of (length (requests i)) (answer (f i))) ∙ wrong-as answer says one q.line (length q.requests) other q.wrong in
+          (p.numbered ∙ ap (λ (ls : List Text). length ls + 1) e ∙ sym q.numbered, cc causes)
+      by (nearer es e) = absurd (not_wrong q.before p.before es p.line p.requests q.requests cause e p.says_something p.said_before q.said_before (wrong-as answer says one p.line (length p.requests) cause p.wrong))
+      by (farther es e) = absurd (not_wrong p.before q.before es q.line q.requests p.requests other e q.says_something q.said_before p.said_before (wrong-as answer says one q.line (length q.requests) other q.wrong))

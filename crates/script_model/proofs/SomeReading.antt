@@ -8,28 +8,29 @@ use Rattle.session_model.specs.Scripts.{Request}
 use Rattle.script_model.specs.Lines.{lines_of, is_skipped, spoken}
 use Rattle.script_model.specs.Makers.{Text}
 use Rattle.script_model.specs.Commands.{Cause, TooMany}
-use Rattle.script_model.specs.Scripts.{said, Say, Says, cause_of, IsRefused}
+use Rattle.script_model.specs.Scripts.{LineSays, Say, Says, cause_of, IsRefused}
+use Rattle.script_model.proofs.LineAnswers.{Answer, each-said, each-says}
 
-module _ (text : Text) where
+module _ (answer : Text → Answer) (says : (line : Text) → LineSays line (answer line)) (one : (line : Text) (r s : Answer) → LineSays line r → LineSays line s → r ≡ s) (text : Text) where
   -- what the text asks for, or its first line that is wrong
   abbrev Read : Type 0
   Read = ((requests : List Request) × Says text requests) ⊎ ((number : ℕ) × (cause : Cause) × IsRefused text number cause)
 
   -- what one more line says
-  more : (before : List Text) (l : Text) → map said (spoken (before ++ l ∷ [])) ≡ map said (spoken before) ++ map said (spoken (l ∷ []))
-  more before l = ap (map said) (filter-append (λ (x : Text). not (is_skipped x)) before (l ∷ [])) ∙ map-append said (spoken before) (spoken (l ∷ []))
+  more : (before : List Text) (l : Text) → map answer (spoken (before ++ l ∷ [])) ≡ map answer (spoken before) ++ map answer (spoken (l ∷ []))
+  more before l = ap (map answer) (filter-append (λ (x : Text). not (is_skipped x)) before (l ∷ [])) ∙ map-append answer (spoken before) (spoken (l ∷ []))
 
   -- a line that asks for something
-  with-request : (before : List Text) (l : Text) (ls : List Text) (bs : List Request) (c : Request) (room : Bool) → lines_of text ≡ before ++ l ∷ ls → is_skipped l ≡ false → said l ≡ Ok c → Say before bs →
+  with-request : (before : List Text) (l : Text) (ls : List Text) (bs : List Request) (c : Request) (room : Bool) → lines_of text ≡ before ++ l ∷ ls → is_skipped l ≡ false → answer l ≡ Ok c → Say before bs →
       nat_lt (length bs) 10000 ≡ room → (Say (before ++ l ∷ []) (bs ++ c ∷ []) → Read) → Read
   with-request before l ls bs c true parts e o say r go =
-      let each : map said (spoken (before ++ l ∷ [])) ≡ map {B = Result Request Cause} Ok (bs ++ c ∷ []) =
+      let each : map answer (spoken (before ++ l ∷ [])) ≡ map {B = Result Request Cause} Ok (bs ++ c ∷ []) =
       more before l
-      ∙ ap (λ b. map said (spoken before) ++ map said (cond (not b) (l ∷ []) [])) e
-      ∙ ap (λ xs. xs ++ said l ∷ []) say.each
+      ∙ ap (λ b. map answer (spoken before) ++ map answer (cond (not b) (l ∷ []) [])) e
+      ∙ ap (λ xs. xs ++ answer l ∷ []) (each-said answer says one (spoken before) bs say.each)
       ∙ ap (λ x. map {B = Result Request Cause} Ok bs ++ x ∷ []) o
       ∙ sym (map-append Ok bs (c ∷ [])) in
-      go (record { each = each; few = omega (arith, length-append bs (c ∷ []), ltb-true (length bs) 10000 r) })
+      go (record { each = each-says answer says one (spoken (before ++ l ∷ [])) (bs ++ c ∷ []) each; few = omega (arith, length-append bs (c ∷ []), ltb-true (length bs) 10000 r) })
   with-request before l ls bs c false parts e o say r go =
       inr (
         length before + 1,
@@ -43,15 +44,15 @@ module _ (text : Text) where
           numbered = refl;
           said_before = say;
           says_something = e;
-          wrong = ap (cause_of (length bs)) o ∙ ap (λ b. let x : Option Cause = if b then None else Some TooMany in x) r;
+          wrong = record { answer = answer l; says = says l; wrong = ap (cause_of (length bs)) o ∙ ap (λ b. let x : Option Cause = if b then None else Some TooMany in x) r };
         },
       )
 
   -- any line
-  line-by : (before : List Text) (l : Text) (ls : List Text) (bs : List Request) (skipped : Bool) (r : Result Request Cause) → lines_of text ≡ before ++ l ∷ ls → is_skipped l ≡ skipped → said l ≡ r → Say before bs →
+  line-by : (before : List Text) (l : Text) (ls : List Text) (bs : List Request) (skipped : Bool) (r : Result Request Cause) → lines_of text ≡ before ++ l ∷ ls → is_skipped l ≡ skipped → answer l ≡ r → Say before bs →
       ((cs : List Request) → Say (before ++ l ∷ []) cs → Read) → Read
   line-by before l ls bs true r parts e o say go =
-      go bs (record { each = more before l ∙ ap (λ b. map said (spoken before) ++ map said (cond (not b) (l ∷ []) [])) e ∙ append-nil (map said (spoken before)) ∙ say.each; few = say.few })
+      go bs (record { each = each-says answer says one (spoken (before ++ l ∷ [])) bs (more before l ∙ ap (λ b. map answer (spoken before) ++ map answer (cond (not b) (l ∷ []) [])) e ∙ append-nil (map answer (spoken before)) ∙ each-said answer says one (spoken before) bs say.each); few = say.few })
   line-by before l ls bs false (Ok c) parts e o say go = with-request before l ls bs c (nat_lt (length bs) 10000) parts e o say refl (go (bs ++ c ∷ []))
   line-by before l ls bs false (Err cause) parts e o say go =
       inr (
@@ -66,15 +67,15 @@ module _ (text : Text) where
           numbered = refl;
           said_before = say;
           says_something = e;
-          wrong = ap (cause_of (length bs)) o;
+          wrong = record { answer = answer l; says = says l; wrong = ap (cause_of (length bs)) o };
         },
       )
 
   walk : (before rest : List Text) (bs : List Request) → lines_of text ≡ before ++ rest → Say before bs → Read
   walk before [] bs parts say = inl (bs, subst (λ ls. Say ls bs) (sym (parts ∙ append-nil before)) say)
   walk before (l ∷ ls) bs parts say =
-      line-by before l ls bs (is_skipped l) (said l) parts refl refl say
+      line-by before l ls bs (is_skipped l) (answer l) parts refl refl say
       (λ cs s. walk (before ++ l ∷ []) ls cs (parts ∙ sym (append_assoc before (l ∷ []) ls)) s)
 
   pub read : ((requests : List Request) × Says text requests) ⊎ ((number : ℕ) × (cause : Cause) × IsRefused text number cause)
-  read = walk [] (lines_of text) [] refl (record { each = refl; few = omega arith })
+  read = walk [] (lines_of text) [] refl (record { each = tt; few = omega arith })

@@ -1,13 +1,16 @@
 -- Some lines, and what they ask for or why they ask for nothing.
-use Rattle.std.specs.Prelude.{◌≡◌, ℕ, true, false, List, [], ◌∷◌, ◌++◌, codes, map, Some, None, Result, Ok, Err}
-use Rattle.command_model.specs.Commands.{CommandOf, RenameClass, AddClass, RemoveClass, AddInstVar, RenameInstVar, RemoveInstVar, PushUpInstVar, PushDownInstVar, AddClassVar, RenameClassVar, RemoveClassVar, PushUpClassVar, PushDownClassVar, AddClassSideVar, RenameClassSideVar, RemoveClassSideVar, RenameSelector, RemoveMethod, PushUpMethod, PushDownMethod, RemoveParameter, AbstractInstVar, ExtractMethod, InlineMethod, ExtractTemp, InlineTemp, RenameTemp}
+use Rattle.std.specs.Prelude.{◌≡◌, ℕ, true, false, List, [], ◌∷◌, ◌++◌, codes, Some, None, Result, Ok, Err}
+use Rattle.token_model.specs.declared.kind.Dialect.TheVariants.{Second}
+use Rattle.tree_model.specs.Tree.{MethodOf}
+use Rattle.grammar_model.specs.Spelling.{SpellsMethod}
+use Rattle.command_model.specs.Commands.{CommandOf, RenameClass, AddClass, RemoveClass, AddInstVar, RenameInstVar, RemoveInstVar, PushUpInstVar, PushDownInstVar, AddClassVar, RenameClassVar, RemoveClassVar, PushUpClassVar, PushDownClassVar, AddClassSideVar, RenameClassSideVar, RemoveClassSideVar, RenameSelector, RemoveMethod, PushUpMethod, PushDownMethod, AddMethod, RemoveParameter, AbstractInstVar, ExtractMethod, InlineMethod, ExtractTemp, InlineTemp, RenameTemp}
 use Rattle.history_model.specs.Rules.{Perform, Undo, Redo}
 use Rattle.session_model.specs.Actions.{ActionOf, CreateAccessors, ExtractSuperclass, PushUpWithMethods}
 use Rattle.session_model.specs.Scripts.{Request}
-use Rattle.script_model.specs.Lines.{lines_of, words_of, spoken}
+use Rattle.script_model.specs.Lines.{words_of}
 use Rattle.script_model.specs.Makers.{Text, single}
 use Rattle.script_model.specs.Commands.{Cause, UnknownCommand, Unbuilt, BadArgument, TooMany, rows_to_come, said_among}
-use Rattle.script_model.specs.Scripts.{said, cause_of, IsRefused}
+use Rattle.script_model.specs.Scripts.{said, LineSays, Says, cause_of, IsRefused}
 
 -- a line, and what it asks for
 pub record Row : Type 0 where
@@ -17,12 +20,12 @@ pub record Row : Type 0 where
 -- each row is as the definition has it
 abbrev pub AllSaid : List Row → Type 0
 AllSaid [] = Unit {0}
-AllSaid (r ∷ rs) = (said r.line ≡ r.says) × AllSaid rs
+AllSaid (r ∷ rs) = LineSays r.line r.says × AllSaid rs
 
 -- each row is one that is still to come, and is as the definition will have it
 abbrev pub AllToCome : List Row → Type 0
 AllToCome [] = Unit {0}
-AllToCome (r ∷ rs) = (said r.line ≡ Err Unbuilt) × (said_among rows_to_come (words_of r.line) ≡ r.says) × AllToCome rs
+AllToCome (r ∷ rs) = LineSays r.line (Err Unbuilt) × (said_among rows_to_come (words_of r.line) ≡ r.says) × AllToCome rs
 
 -- a line that asks for something, for a command, and for a composite; and one that asks for nothing
 abbrev pub asks : Text → Request → Row
@@ -61,14 +64,7 @@ commands =
     ∷ performs (codes "renameClassVar C x y") (RenameClassVar c x y)
     ∷ performs (codes "renameClassSideVar C x y") (RenameClassSideVar c x y)
     ∷ performs (codes "renameSelector at:put: +") (RenameSelector put (codes "+"))
-    ∷ asks (codes "undo") Undo
-    ∷ asks (codes "redo") Redo
-    ∷ []
-
--- lines of commands that are still to come
-abbrev pub lines_to_come : List Row
-lines_to_come =
-    performs (codes "addClass C D") (AddClass c d [])
+    ∷ performs (codes "addClass C D") (AddClass c d [])
     ∷ performs (codes "addClass C D D C") (AddClass c d (d ∷ c ∷ []))
     ∷ performs (codes " removeClass   C ") (RemoveClass c)
     ∷ performs (codes "addInstVar C x") (AddInstVar c x)
@@ -84,21 +80,24 @@ lines_to_come =
     ∷ performs (codes "removeMethod C instance at:put:") (RemoveMethod c false put)
     ∷ performs (codes "pushUpMethod C class x") (PushUpMethod c true x)
     ∷ performs (codes "pushDownMethod C class at:put:") (PushDownMethod c true put)
-    ∷ performs (codes "removeParameter at:put: 2 x") (RemoveParameter put 2 x)
+    ∷ composes (codes "createAccessors C x") (CreateAccessors c x (codes "x:") (codes "anObject"))
+    ∷ composes (codes "createAccessors C anObject") (CreateAccessors c (codes "anObject") (codes "anObject:") (codes "aValue"))
+    ∷ composes (codes "extractSuperclass C D C") (ExtractSuperclass c d (c ∷ []))
+    ∷ composes (codes "pushUpWithMethods C x") (PushUpWithMethods c x)
+    ∷ asks (codes "undo") Undo
+    ∷ asks (codes "redo") Redo
+    ∷ []
+
+-- lines of commands that are still to come
+abbrev pub lines_to_come : List Row
+lines_to_come =
+    performs (codes "removeParameter at:put: 2 x") (RemoveParameter put 2 x)
     ∷ performs (codes "abstractInstVar C x") (AbstractInstVar c x (codes "x:") (codes "anObject"))
     ∷ performs (codes "extractMethod C instance x 0 12 at:put:") (ExtractMethod c false x 0 12 put)
     ∷ performs (codes "inlineMethod C instance x 8 999999999") (InlineMethod c false x 8 999999999)
     ∷ performs (codes "extractTemp C instance x 8 13 y") (ExtractTemp c false x 8 13 y)
     ∷ performs (codes "inlineTemp C class x y") (InlineTemp c true x y)
     ∷ performs (codes "renameTemp C instance at:put: x y") (RenameTemp c false put x y)
-    ∷ composes (codes "createAccessors C x") (CreateAccessors c x (codes "x:") (codes "anObject"))
-    ∷ composes (codes "extractSuperclass C D C") (ExtractSuperclass c d (c ∷ []))
-    ∷ composes (codes "pushUpWithMethods C x") (PushUpWithMethods c x)
-    ∷ wrong (codes "addClass C") BadArgument
-    ∷ wrong (codes "addClass C D 3") BadArgument
-    ∷ wrong (codes "addInstVar C x:") BadArgument
-    ∷ wrong (codes "extractSuperclass C D") BadArgument
-    ∷ wrong (codes "removeMethod C Instance x") BadArgument
     ∷ wrong (codes "removeParameter x: 02 y") BadArgument
     ∷ wrong (codes "removeParameter x: -2 y") BadArgument
     ∷ wrong (codes "removeParameter x: 1000000000 y") BadArgument
@@ -109,7 +108,6 @@ wrong_lines =
     wrong (codes "rename C D") UnknownCommand
     ∷ wrong (codes "RenameClass C D") UnknownCommand
     ∷ wrong (codes " -- C") UnknownCommand
-    ∷ wrong (codes "addMethod") Unbuilt
     ∷ wrong (codes "addParameter s") Unbuilt
     ∷ wrong (codes "applyRule") Unbuilt
     ∷ wrong (codes "inlineTemp A") Unbuilt
@@ -119,14 +117,36 @@ wrong_lines =
     ∷ wrong (codes "renameInstVar C x y:") BadArgument
     ∷ wrong (codes "renameSelector x +-") BadArgument
     ∷ wrong (codes "undo x") BadArgument
+    ∷ wrong (codes "addClass C") BadArgument
+    ∷ wrong (codes "addClass C D 3") BadArgument
+    ∷ wrong (codes "addInstVar C x:") BadArgument
+    ∷ wrong (codes "extractSuperclass C D") BadArgument
+    ∷ wrong (codes "removeMethod C Instance x") BadArgument
     ∷ []
+
+-- lines of `addMethod` that are wrong
+abbrev pub wrong_additions : List Row
+wrong_additions =
+    wrong (codes "addMethod") BadArgument
+    ∷ wrong (codes "addMethod C instance accessing") BadArgument
+    ∷ wrong (codes "addMethod C instance accessing  ") BadArgument
+    ∷ wrong (codes "addMethod C Instance accessing x ^x") BadArgument
+    ∷ wrong (codes "addMethod 1 instance accessing x ^x") BadArgument
+    ∷ []
+
+-- a line that adds the method that its text spells; blanks behind the protocol are no part of the text, and those at the end of the line are
+abbrev pub an_addition : Text
+an_addition = codes " addMethod C  class accessing   x ^x  "
+
+abbrev pub IsAddition : Type 0
+IsAddition = (tree : MethodOf Text) → SpellsMethod Second false (codes "x ^x  ") tree → LineSays an_addition (Ok (single (AddMethod c true (codes "accessing") (codes "x ^x  ") tree)))
 
 -- a script: lines that say nothing, one that ends with a carriage return, and a last one without a line feed
 abbrev pub example : Text
 example = codes "-- first" ++ 10 ∷ 13 ∷ 10 ∷ codes "undo" ++ 13 ∷ 10 ∷ 9 ∷ 32 ∷ 10 ∷ codes "redo"
 
 abbrev pub IsExample : Type 0
-IsExample = map said (spoken (lines_of example)) ≡ Ok Undo ∷ Ok Redo ∷ []
+IsExample = Says example (Undo ∷ Redo ∷ [])
 
 -- a script that is refused, with the number of its first wrong line and the cause
 pub record RefusedRow : Type 0 where
@@ -146,7 +166,7 @@ abbrev pub refused_scripts : List RefusedRow
 refused_scripts =
     refused (codes "renameClass C 1" ++ 10 ∷ codes "inlineTemp C") 1 BadArgument
     ∷ refused (codes "inlineTemp C" ++ 10 ∷ codes "renameClass C 1") 1 Unbuilt
-    ∷ refused (codes "undo" ++ 10 ∷ codes "--" ++ 10 ∷ codes "addClass C D" ++ 10 ∷ codes "rename") 3 Unbuilt
+    ∷ refused (codes "undo" ++ 10 ∷ codes "--" ++ 10 ∷ codes "inlineTemp C" ++ 10 ∷ codes "rename") 3 Unbuilt
     ∷ []
 
 -- behind 9,999 commands there is room for one; behind 10,000 a line that asks for something is one too many, and one that is wrong in another way is told so
@@ -155,4 +175,4 @@ HasLimit =
     (cause_of 9999 (said (codes "undo")) ≡ None)
     × (cause_of 10000 (said (codes "undo")) ≡ Some TooMany)
     × (cause_of 10000 (said (codes "undo x")) ≡ Some BadArgument)
-    × (cause_of 10000 (said (codes "addClass C D")) ≡ Some Unbuilt)
+    × (cause_of 10000 (said (codes "inlineTemp C")) ≡ Some Unbuilt)

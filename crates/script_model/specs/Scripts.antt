@@ -1,20 +1,39 @@
 -- What a script asks for: its commands in order, or its first line that is wrong.
-use Rattle.std.specs.Prelude.{◌≡◌, ℕ, ◌+◌, ◌≤◌, nat_lt, false, if◌then◌else◌, List, ◌∷◌, ◌++◌, length, map, Option, Some, None, Result, Ok, Err}
+use Rattle.std.specs.Prelude.{◌≡◌, ℕ, ◌+◌, ◌≤◌, nat_lt, Bool, true, false, if◌then◌else◌, List, [], ◌∷◌, ◌++◌, length, Option, Some, None, Result, Ok, Err}
+use Rattle.rb_base.specs.Names.{text_eq}
 use Rattle.session_model.specs.Scripts.{Request}
+use Rattle.script_model.specs.Words.{add_method}
 use Rattle.script_model.specs.Lines.{lines_of, words_of, is_skipped, spoken}
 use Rattle.script_model.specs.Commands.{Cause, TooMany, said_by}
+use Rattle.script_model.specs.Additions.{first_word, behind_word, AddsMethod}
 
 -- the most commands of a script
 abbrev pub command_limit : ℕ
 command_limit = 10000
 
--- what a line asks for, or why it asks for nothing
+-- what a line of words asks for, or why it asks for nothing
 abbrev pub said : List ℕ → Result Request Cause
 said line = said_by (words_of line)
 
+-- whether a line is one of `addMethod`
+abbrev pub adds_method : List ℕ → Bool
+adds_method line = text_eq (first_word line) add_method
+
+-- what a line asks for, or why it asks for nothing: a line of words, or one of `addMethod`
+pub data LineSays (line : List ℕ) (answer : Result Request Cause) : Type 0 where
+  InWords : adds_method line ≡ false → answer ≡ said line → LineSays line answer
+  InText : adds_method line ≡ true → AddsMethod (behind_word line) answer → LineSays line answer
+
+-- each of these lines asks for one of these, in order
+abbrev pub EachSays : List (List ℕ) → List Request → Type 0
+EachSays [] [] = Unit {0}
+EachSays [] (r ∷ rs) = ⊥
+EachSays (l ∷ ls) [] = ⊥
+EachSays (l ∷ ls) (r ∷ rs) = LineSays l (Ok r) × EachSays ls rs
+
 -- The lines ask for this, each for one thing, but for those that say nothing; there are no more commands than there may be.
 pub record Say (lines : List (List ℕ)) (requests : List Request) : Type 0 where
-  pub each : map said (spoken lines) ≡ map Ok requests
+  pub each : EachSays (spoken lines) requests
   pub few : length requests ≤ command_limit
 
 -- what a script asks for
@@ -26,6 +45,12 @@ abbrev pub cause_of : ℕ → Result Request Cause → Option Cause
 cause_of count (Ok request) = if nat_lt count command_limit then None else Some TooMany
 cause_of count (Err cause) = Some cause
 
+-- a line is wrong with this cause, behind so many commands
+pub record IsWrong (line : List ℕ) (count : ℕ) (cause : Cause) : Type 0 where
+  pub answer : Result Request Cause
+  pub says : LineSays line answer
+  pub wrong : cause_of count answer ≡ Some cause
+
 -- The line of this number, from 1, is the first of a script that is wrong: the lines before it ask for something each, and it asks for nothing, or is one too many.
 pub record IsRefused (text : List ℕ) (number : ℕ) (cause : Cause) : Type 0 where
   pub before : List (List ℕ)
@@ -36,4 +61,4 @@ pub record IsRefused (text : List ℕ) (number : ℕ) (cause : Cause) : Type 0 w
   pub numbered : number ≡ length before + 1
   pub said_before : Say before requests
   pub says_something : is_skipped line ≡ false
-  pub wrong : cause_of (length requests) (said line) ≡ Some cause
+  pub wrong : IsWrong line (length requests) cause

@@ -1,4 +1,4 @@
-use Rattle.script_model.proofs.ExamplesJudged.{says_commands, will_say, finds_wrong_lines, says_script, refuses_scripts, has_limit}
+use Rattle.script_model.proofs.ExamplesJudged.{says_commands, will_say, finds_wrong_lines, finds_wrong_additions, adds, says_script, refuses_scripts, has_limit}
 use Rattle.script_model.proofs.laws.judges_examples.Goals as goal
 
 pub returns-clause-commands : goal.returns-clause-commands
@@ -9,6 +9,12 @@ returns-clause-to_come c = will_say
 
 pub returns-clause-wrong_lines : goal.returns-clause-wrong_lines
 returns-clause-wrong_lines c = finds_wrong_lines
+
+pub returns-clause-wrong_additions : goal.returns-clause-wrong_additions
+returns-clause-wrong_additions c = finds_wrong_additions
+
+pub returns-clause-addition : goal.returns-clause-addition
+returns-clause-addition c = adds
 
 pub returns-clause-script : goal.returns-clause-script
 returns-clause-script c = says_script

@@ -1,0 +1,106 @@
+-- Each line says one thing.
+use Rattle.std.proofs.Common.{◌≡◌, ℕ, ◌⊎◌, inl, inr, Bool, true, false, List, [], ◌∷◌, map, Option, Some, None, Result, Ok, Err, refl, sym, ap, subst, ◌∙◌, true≢false}
+use Rattle.token_model.specs.declared.kind.Dialect.TheVariants.{Second}
+use Rattle.tree_model.specs.Tree.{MethodOf}
+use Rattle.grammar_model.specs.Whole.{Method}
+use Rattle.grammar_model.specs.Checks.{Fault}
+use Rattle.grammar_model.specs.Spelling.{SpellsMethod, HasFirstFault}
+use Rattle.command_model.specs.Commands.{AddMethod}
+use Rattle.session_model.specs.Scripts.{Request}
+use Rattle.script_model.specs.Makers.{Text, single}
+use Rattle.script_model.specs.Commands.{Cause, BadArgument}
+use Rattle.script_model.specs.Additions.{Addition, addition_of, behind_word, AddsMethod, Spelled, Incomplete, Faulty}
+use Rattle.script_model.specs.Scripts.{said, adds_method, LineSays, InWords, InText, EachSays, cause_of, IsWrong}
+
+-- what a line says
+abbrev pub Answer : Type 0
+Answer = Result Request Cause
+
+-- a text of a method spells one tree or has a fault
+abbrev Spells : Text → MethodOf Text → Type 0
+Spells text tree = SpellsMethod Second false text tree
+
+abbrev HasFault : Text → Fault → Type 0
+HasFault text fault = HasFirstFault Second (Method false) text fault
+
+abbrev pub OneTree : Type 0
+OneTree = (text : Text) (tree other : MethodOf Text) → SpellsMethod Second false text tree → SpellsMethod Second false text other → tree ≡ other
+
+abbrev pub NotBoth : Type 0
+NotBoth = (text : Text) (tree : MethodOf Text) (fault : Fault) → SpellsMethod Second false text tree → ¬ HasFirstFault Second (Method false) text fault
+
+abbrev pub TreeOrFault : Type 0
+TreeOrFault = (text : Text) → ((tree : MethodOf Text) × SpellsMethod Second false text tree) ⊎ ((fault : Fault) × HasFirstFault Second (Method false) text fault)
+
+-- one addition, which is there or not
+same-addition : {o : Option Addition} {a b : Addition} → o ≡ Some a → o ≡ Some b → a ≡ b
+same-addition p q = let both = sym p ∙ q in cc
+
+no-addition : {o : Option Addition} {a : Addition} → o ≡ Some a → o ≡ None → ⊥
+no-addition p q = let both = sym p ∙ q in absurd (cc)
+
+module _ (one_tree : OneTree) (not_both : NotBoth) where
+  -- one answer to what is added
+  adds-one : (t : Text) (r s : Answer) → AddsMethod t r → AddsMethod t s → r ≡ s
+  adds-one t r s (Spelled a tree is spells answer) (Spelled b other be spelled says) =
+      let same : a ≡ b = same-addition is be in
+      let trees : tree ≡ other = one_tree b.text tree other (subst (λ (x : Addition). Spells x.text tree) same spells) spelled in
+      answer ∙ (λ i. let o : Answer = Ok (single (AddMethod (same i).class (same i).meta (same i).protocol (same i).text (trees i))) in o) ∙ sym says
+  adds-one t r s (Spelled a tree is spells answer) (Incomplete none says) = absurd (no-addition is none)
+  adds-one t r s (Spelled a tree is spells answer) (Faulty b fault be faulty says) =
+      absurd (not_both b.text tree fault (subst (λ (x : Addition). Spells x.text tree) (same-addition is be) spells) faulty)
+  adds-one t r s (Incomplete none answer) (Spelled b other be spelled says) = absurd (no-addition be none)
+  adds-one t r s (Incomplete none answer) (Incomplete nothing says) = answer ∙ sym says
+  adds-one t r s (Incomplete none answer) (Faulty b fault be faulty says) = absurd (no-addition be none)
+  adds-one t r s (Faulty a fault is faulty answer) (Spelled b other be spelled says) =
+      absurd (not_both a.text other fault (subst (λ (x : Addition). Spells x.text other) (same-addition be is) spelled) faulty)
+  adds-one t r s (Faulty a fault is faulty answer) (Incomplete none says) = absurd (no-addition is none)
+  adds-one t r s (Faulty a fault is faulty answer) (Faulty b other be wrong says) = answer ∙ sym says
+
+  -- and to a line
+  pub says-one : (line : Text) (r s : Answer) → LineSays line r → LineSays line s → r ≡ s
+  says-one line r s (InWords plain answer) (InWords plainly says) = answer ∙ sym says
+  says-one line r s (InWords plain answer) (InText adds says) = absurd (true≢false (sym adds ∙ plain))
+  says-one line r s (InText adds answer) (InWords plain says) = absurd (true≢false (sym adds ∙ plain))
+  says-one line r s (InText adds answer) (InText also says) = adds-one (behind_word line) r s answer says
+
+module _ (tree_or_fault : TreeOrFault) where
+  -- some answer to what is added
+  adds-some : (t : Text) → (r : Answer) × AddsMethod t r
+  adds-some t = by (addition_of t) refl
+    where
+      spelled : (a : Addition) → addition_of t ≡ Some a → ((tree : MethodOf Text) × Spells a.text tree) ⊎ ((fault : Fault) × HasFault a.text fault) → (r : Answer) × AddsMethod t r
+      spelled a is (inl found) = (Ok (single (AddMethod a.class a.meta a.protocol a.text found.0)), Spelled a found.0 is found.1 refl)
+      spelled a is (inr wrong) = (Err BadArgument, Faulty a wrong.0 is wrong.1 refl)
+
+      by : (o : Option Addition) → addition_of t ≡ o → (r : Answer) × AddsMethod t r
+      by None none = (Err BadArgument, Incomplete none refl)
+      by (Some a) is = spelled a is (tree_or_fault a.text)
+
+  -- and to a line
+  pub says-some : (line : Text) → (r : Answer) × LineSays line r
+  says-some line = by (adds_method line) refl
+    where
+      by : (b : Bool) → adds_method line ≡ b → (r : Answer) × LineSays line r
+      by true adds = let some = adds-some (behind_word line) in (some.0, InText adds some.1)
+      by false plain = (said line, InWords plain refl)
+
+-- where each line says one thing, so do lines
+module _ (answer : Text → Answer) (says : (line : Text) → LineSays line (answer line)) (one : (line : Text) (r s : Answer) → LineSays line r → LineSays line s → r ≡ s) where
+  pub each-said : (ls : List Text) (rs : List Request) → EachSays ls rs → map answer ls ≡ map {B = Answer} Ok rs
+  each-said [] [] each = refl
+  each-said [] (r ∷ rs) each = absurd each
+  each-said (l ∷ ls) [] each = absurd each
+  each-said (l ∷ ls) (r ∷ rs) each = λ i. one l (answer l) (Ok r) (says l) each.0 i ∷ each-said ls rs each.1 i
+
+  pub each-says : (ls : List Text) (rs : List Request) → map answer ls ≡ map {B = Answer} Ok rs → EachSays ls rs
+  each-says [] [] e = tt
+  each-says [] (r ∷ rs) e = absurd (cc)
+  each-says (l ∷ ls) [] e = absurd (cc)
+  each-says (l ∷ ls) (r ∷ rs) e =
+      let first : answer l ≡ Ok r = cc in
+      let rest : map answer ls ≡ map {B = Answer} Ok rs = cc in
+      (subst (LineSays l) first (says l), each-says ls rs rest)
+
+  pub wrong-as : (line : Text) (count : ℕ) (cause : Cause) → IsWrong line count cause → cause_of count (answer line) ≡ Some cause
+  wrong-as line count cause w = ap (cause_of count) (one line (answer line) w.answer (says line) w.says) ∙ w.wrong
