@@ -1,20 +1,29 @@
 -- Requests over tables of names that grow.
-use Rattle.std.proofs.Common.{◌≡◌, ℕ, ◌<◌, List, [], ◌∷◌, length, Option, Some, Result, Ok, Err, get_or, unwrap_or, refl, sym, ap, subst, ◌∙◌, arith, length-append}
+use Rattle.std.proofs.Common.{◌≡◌, ℕ, ◌<◌, List, [], ◌∷◌, length, map, Option, Some, Result, Ok, Err, get_or, unwrap_or, refl, sym, ap, subst, ◌∙◌, arith, length-append}
 use Rattle.std.specs.Prelude.{OnOk, OnErr}
+use Rattle.std.specs.List.{AllByRecursion}
 use Rattle.std.proofs.lemmas.List.Quantifiers.{position-Some}
 use Rattle.std.proofs.lemmas.Option.{slice_get-get_or}
 use Rattle.grammar_model.specs.Terminal.{Text}
 use Rattle.rb_base.specs.Names.{text_eq, name_at, number_in, interned}
 use Rattle.event_trees.specs.Naming.{Grows}
 use Rattle.event_trees.proofs.Known.{Grows-none, Grows-Adds, Adds-number, text_of_number, text_stays}
+use Rattle.tree_model.proofs.AllNamesLemmas.{map_method-same, MethodNames-implies}
+use Rattle.st_tree.specs.View.{method_of}
 use Rattle.history_model.specs.Rules.{Perform}
-use Rattle.session_model.specs.Actions.{Single}
-use Rattle.command_model.specs.Commands.{RenameClass, RenameInstVar, RenameClassVar, RenameClassSideVar, RenameSelector}
+use Rattle.session_model.specs.Actions.{Single, CreateAccessors, ExtractSuperclass, PushUpWithMethods}
+use Rattle.command_model.specs.Commands.{RenameClass, AddClass, RemoveClass, AddInstVar, RenameInstVar, RemoveInstVar, PushUpInstVar, PushDownInstVar, AddClassVar, RenameClassVar, RemoveClassVar, PushUpClassVar, PushDownClassVar, AddClassSideVar, RenameClassSideVar, RemoveClassSideVar, RenameSelector, AddMethod, RemoveMethod, PushUpMethod, PushDownMethod}
+use Rattle.command_numbers.specs.CommandNames.{CommandNames}
+use Rattle.command_numbers.specs.MappedCommands.{map_command}
 use Rattle.name_meanings.specs.declared.meaning.VariableKind.TheVariants as kind
+use Rattle.commands.specs.declared.command.Renaming.TheVariants as renaming
+use Rattle.commands.specs.declared.command.VariableMove.TheVariants as move
+use Rattle.commands.specs.declared.command.Command.{Command}
 use Rattle.commands.specs.declared.command.Command.TheVariants as command
+use Rattle.commands.specs.declared.command.Action.TheVariants as action
 use Rattle.commands.specs.declared.command.Request.{Request}
 use Rattle.commands.specs.declared.command.Request.TheVariants as request
-use Rattle.commands.specs.Views.{request_in, IsKnownRequest}
+use Rattle.commands.specs.Views.{command_of, request_in, IsKnownRequest}
 use Rattle.script_lang.specs.Shown.{requests_in, AreKnown}
 
 module _ {names later : List Text} (g : Grows names later) where
@@ -27,25 +36,80 @@ module _ {names later : List Text} (g : Grows names later) where
   pub number-grown : (n : ℕ) → n < length names → n < length later
   number-grown n h = omega (arith, h, ap length g.grown, length-append names g.more)
 
+  -- numbers in a list
+  pub names-grown : (ns : List ℕ) → AllByRecursion (λ n. n < length names) ns → map (name_at later) ns ≡ map (name_at names) ns
+  names-grown [] h = refl
+  names-grown (n ∷ ns) h = λ i. name_at-grown n h.0 i ∷ names-grown ns h.1 i
+
+  pub numbers-grown : (ns : List ℕ) → AllByRecursion (λ n. n < length names) ns → AllByRecursion (λ n. n < length later) ns
+  numbers-grown [] h = tt
+  numbers-grown (n ∷ ns) h = (number-grown n h.0, numbers-grown ns h.1)
+
+  -- a command
+  command-grown : (c : Command) → CommandNames (λ n. n < length names) (command_of c) → map_command (name_at later) (command_of c) ≡ map_command (name_at names) (command_of c)
+  command-grown (command.Rename (renaming.Class c d)) h = λ i. RenameClass (name_at-grown c h.0 i) (name_at-grown d h.1 i)
+  command-grown (command.Rename (renaming.Variable kind.Instance c x y)) h = λ i. RenameInstVar (name_at-grown c h.0 i) (name_at-grown x h.1 i) (name_at-grown y h.2 i)
+  command-grown (command.Rename (renaming.Variable kind.ClassSide c x y)) h = λ i. RenameClassSideVar (name_at-grown c h.0 i) (name_at-grown x h.1 i) (name_at-grown y h.2 i)
+  command-grown (command.Rename (renaming.Variable kind.Shared c x y)) h = λ i. RenameClassVar (name_at-grown c h.0 i) (name_at-grown x h.1 i) (name_at-grown y h.2 i)
+  command-grown (command.Rename (renaming.Selector s t)) h = λ i. RenameSelector (name_at-grown s h.0 i) (name_at-grown t h.1 i)
+  command-grown (command.RemoveClass c) h = λ i. RemoveClass (name_at-grown c h i)
+  command-grown (command.Variable (move.Add kind.Instance c x)) h = λ i. AddInstVar (name_at-grown c h.0 i) (name_at-grown x h.1 i)
+  command-grown (command.Variable (move.Add kind.ClassSide c x)) h = λ i. AddClassSideVar (name_at-grown c h.0 i) (name_at-grown x h.1 i)
+  command-grown (command.Variable (move.Add kind.Shared c x)) h = λ i. AddClassVar (name_at-grown c h.0 i) (name_at-grown x h.1 i)
+  command-grown (command.Variable (move.Remove kind.Instance c x)) h = λ i. RemoveInstVar (name_at-grown c h.0 i) (name_at-grown x h.1 i)
+  command-grown (command.Variable (move.Remove kind.ClassSide c x)) h = λ i. RemoveClassSideVar (name_at-grown c h.0 i) (name_at-grown x h.1 i)
+  command-grown (command.Variable (move.Remove kind.Shared c x)) h = λ i. RemoveClassVar (name_at-grown c h.0 i) (name_at-grown x h.1 i)
+  command-grown (command.Variable (move.InstanceUp c x)) h = λ i. PushUpInstVar (name_at-grown c h.0 i) (name_at-grown x h.1 i)
+  command-grown (command.Variable (move.InstanceDown c x)) h = λ i. PushDownInstVar (name_at-grown c h.0 i) (name_at-grown x h.1 i)
+  command-grown (command.Variable (move.SharedUp c x)) h = λ i. PushUpClassVar (name_at-grown c h.0 i) (name_at-grown x h.1 i)
+  command-grown (command.Variable (move.SharedDown c x d)) h = λ i. PushDownClassVar (name_at-grown c h.0 i) (name_at-grown x h.1 i) (name_at-grown d h.2 i)
+  command-grown (command.AddClass n) h = λ i. AddClass (name_at-grown n.name h.0 i) (name_at-grown n.superclass h.1 i) (names-grown n.under h.2 i)
+  command-grown (command.AddMethod n) h =
+      λ i. AddMethod (name_at-grown n.class h.0 i) n.meta n.protocol n.source (map_method-same (name_at later) (name_at names) (method_of n.tree) (MethodNames-implies (λ k. k < length names) (λ k. name_at later k ≡ name_at names k) name_at-grown (method_of n.tree) h.1) i)
+  command-grown (command.RemoveMethod m) h = λ i. RemoveMethod (name_at-grown m.class h.0 i) m.meta (name_at-grown m.selector h.1 i)
+  command-grown (command.PushUpMethod m) h = λ i. PushUpMethod (name_at-grown m.class h.0 i) m.meta (name_at-grown m.selector h.1 i)
+  command-grown (command.PushDownMethod m) h = λ i. PushDownMethod (name_at-grown m.class h.0 i) m.meta (name_at-grown m.selector h.1 i)
+
+  command_known-grown : (c : Command) → CommandNames (λ n. n < length names) (command_of c) → CommandNames (λ n. n < length later) (command_of c)
+  command_known-grown (command.Rename (renaming.Class c d)) h = (number-grown c h.0, number-grown d h.1)
+  command_known-grown (command.Rename (renaming.Variable kind.Instance c x y)) h = (number-grown c h.0, number-grown x h.1, number-grown y h.2)
+  command_known-grown (command.Rename (renaming.Variable kind.ClassSide c x y)) h = (number-grown c h.0, number-grown x h.1, number-grown y h.2)
+  command_known-grown (command.Rename (renaming.Variable kind.Shared c x y)) h = (number-grown c h.0, number-grown x h.1, number-grown y h.2)
+  command_known-grown (command.Rename (renaming.Selector s t)) h = (number-grown s h.0, number-grown t h.1)
+  command_known-grown (command.RemoveClass c) h = number-grown c h
+  command_known-grown (command.Variable (move.Add kind.Instance c x)) h = (number-grown c h.0, number-grown x h.1)
+  command_known-grown (command.Variable (move.Add kind.ClassSide c x)) h = (number-grown c h.0, number-grown x h.1)
+  command_known-grown (command.Variable (move.Add kind.Shared c x)) h = (number-grown c h.0, number-grown x h.1)
+  command_known-grown (command.Variable (move.Remove kind.Instance c x)) h = (number-grown c h.0, number-grown x h.1)
+  command_known-grown (command.Variable (move.Remove kind.ClassSide c x)) h = (number-grown c h.0, number-grown x h.1)
+  command_known-grown (command.Variable (move.Remove kind.Shared c x)) h = (number-grown c h.0, number-grown x h.1)
+  command_known-grown (command.Variable (move.InstanceUp c x)) h = (number-grown c h.0, number-grown x h.1)
+  command_known-grown (command.Variable (move.InstanceDown c x)) h = (number-grown c h.0, number-grown x h.1)
+  command_known-grown (command.Variable (move.SharedUp c x)) h = (number-grown c h.0, number-grown x h.1)
+  command_known-grown (command.Variable (move.SharedDown c x d)) h = (number-grown c h.0, number-grown x h.1, number-grown d h.2)
+  command_known-grown (command.AddClass n) h = (number-grown n.name h.0, number-grown n.superclass h.1, numbers-grown n.under h.2)
+  command_known-grown (command.AddMethod n) h = (number-grown n.class h.0, MethodNames-implies (λ k. k < length names) (λ k. k < length later) number-grown (method_of n.tree) h.1)
+  command_known-grown (command.RemoveMethod m) h = (number-grown m.class h.0, number-grown m.selector h.1)
+  command_known-grown (command.PushUpMethod m) h = (number-grown m.class h.0, number-grown m.selector h.1)
+  command_known-grown (command.PushDownMethod m) h = (number-grown m.class h.0, number-grown m.selector h.1)
+
   -- a request
   request-grown : (r : Request) → IsKnownRequest names r → request_in later r ≡ request_in names r
-  request-grown (request.Perform (command.RenameClass c d)) h = λ i. Perform (Single (RenameClass (name_at-grown c h.0 i) (name_at-grown d h.1 i)))
-  request-grown (request.Perform (command.RenameVariable kind.Instance c x y)) h =
-      λ i. Perform (Single (RenameInstVar (name_at-grown c h.0 i) (name_at-grown x h.1 i) (name_at-grown y h.2 i)))
-  request-grown (request.Perform (command.RenameVariable kind.ClassSide c x y)) h =
-      λ i. Perform (Single (RenameClassSideVar (name_at-grown c h.0 i) (name_at-grown x h.1 i) (name_at-grown y h.2 i)))
-  request-grown (request.Perform (command.RenameVariable kind.Shared c x y)) h =
-      λ i. Perform (Single (RenameClassVar (name_at-grown c h.0 i) (name_at-grown x h.1 i) (name_at-grown y h.2 i)))
-  request-grown (request.Perform (command.RenameSelector s t)) h = λ i. Perform (Single (RenameSelector (name_at-grown s h.0 i) (name_at-grown t h.1 i)))
+  request-grown (request.Perform (action.Single c)) h = λ i. Perform (Single (command-grown c h i))
+  request-grown (request.Perform (action.CreateAccessors c x setter parameter)) h =
+      λ i. Perform (CreateAccessors (name_at-grown c h.0 i) (name_at-grown x h.1 i) (name_at-grown setter h.2 i) (name_at-grown parameter h.3 i))
+  request-grown (request.Perform (action.ExtractSuperclass n)) h =
+      λ i. Perform (ExtractSuperclass (name_at-grown n.name h.0 i) (name_at-grown n.superclass h.1 i) (names-grown n.under h.2 i))
+  request-grown (request.Perform (action.PushUpWithMethods c x)) h = λ i. Perform (PushUpWithMethods (name_at-grown c h.0 i) (name_at-grown x h.1 i))
   request-grown request.Undo h = refl
   request-grown request.Redo h = refl
 
   known-grown : (r : Request) → IsKnownRequest names r → IsKnownRequest later r
-  known-grown (request.Perform (command.RenameClass c d)) h = (number-grown c h.0, number-grown d h.1)
-  known-grown (request.Perform (command.RenameVariable kind.Instance c x y)) h = (number-grown c h.0, number-grown x h.1, number-grown y h.2)
-  known-grown (request.Perform (command.RenameVariable kind.ClassSide c x y)) h = (number-grown c h.0, number-grown x h.1, number-grown y h.2)
-  known-grown (request.Perform (command.RenameVariable kind.Shared c x y)) h = (number-grown c h.0, number-grown x h.1, number-grown y h.2)
-  known-grown (request.Perform (command.RenameSelector s t)) h = (number-grown s h.0, number-grown t h.1)
+  known-grown (request.Perform (action.Single c)) h = command_known-grown c h
+  known-grown (request.Perform (action.CreateAccessors c x setter parameter)) h =
+      (number-grown c h.0, number-grown x h.1, number-grown setter h.2, number-grown parameter h.3)
+  known-grown (request.Perform (action.ExtractSuperclass n)) h = (number-grown n.name h.0, number-grown n.superclass h.1, numbers-grown n.under h.2)
+  known-grown (request.Perform (action.PushUpWithMethods c x)) h = (number-grown c h.0, number-grown x h.1)
   known-grown request.Undo h = tt
   known-grown request.Redo h = tt
 

@@ -1,5 +1,8 @@
+mod AddedMethods
 mod Growing
+mod Identifiers
+mod Named
 mod Parts
 mod Reading
-mod Renamings
+mod Selectors
 mod Verbs

@@ -1,5 +1,5 @@
 -- Lines that are read one by one.
-use Rattle.std.proofs.Common.{◌≡◌, ℕ, ◌+◌, ◌<◌, Bool, true, false, not, List, [], ◌∷◌, ◌++◌, length, map, take, drop, get_or, Option, Some, None, Ok, refl, sym, ap, subst, ◌∙◌, arith, length-append}
+use Rattle.std.proofs.Common.{◌≡◌, ℕ, ◌+◌, ◌<◌, Bool, true, false, not, List, [], ◌∷◌, ◌++◌, length, take, drop, get_or, Option, Some, None, Ok, sym, ap, subst, ◌∙◌, arith, length-append}
 use Rattle.std.specs.Prelude.{cond}
 use Rattle.std.specs.Borrow.{Bor}
 use Rattle.std.proofs.lemmas.List.{map-append, length-map, append-nil, take-append-drop, take_more, drop_more, length-take-le}
@@ -11,14 +11,20 @@ use Rattle.commands.specs.declared.command.Request.{Request}
 use Rattle.commands.specs.Views.{request_in, IsKnownRequest}
 use Rattle.script_model.specs.Lines.{lines_of, is_skipped, spoken}
 use Rattle.script_model.specs.Commands as script
-use Rattle.script_model.specs.Scripts.{said, cause_of, IsRefused}
+use Rattle.script_model.specs.Scripts.{LineSays, EachSays, IsWrong, IsRefused}
 use Rattle.script_lang.specs.Shown.{requests_in, AreKnown, texts}
-use Rattle.script_lang.specs.Read.{HasRead, LineSays}
+use Rattle.script_lang.specs.Read.{HasRead, HasAsked}
 use Rattle.script_lang.proofs.Growing.{requests-grown, all_known-grown}
 
 -- one more line
-said-more : (lines : List Text) (line : Text) → map said (spoken (lines ++ line ∷ [])) ≡ map said (spoken lines) ++ map said (spoken (line ∷ []))
-said-more lines line = ap (map said) (filter-append (λ (l : Text). not (is_skipped l)) lines (line ∷ [])) ∙ map-append said (spoken lines) (spoken (line ∷ []))
+spoken-more : (lines : List Text) (line : Text) → spoken (lines ++ line ∷ []) ≡ spoken lines ++ spoken (line ∷ [])
+spoken-more lines line = filter-append (λ (l : Text). not (is_skipped l)) lines (line ∷ [])
+
+says-more : (ls : List Text) (rs : List Asked) (l : Text) (r : Asked) → EachSays ls rs → LineSays l (Ok r) → EachSays (ls ++ l ∷ []) (rs ++ r ∷ [])
+says-more [] [] l r each says = (says, tt)
+says-more [] (q ∷ qs) l r each says = absurd each
+says-more (k ∷ ks) [] l r each says = absurd each
+says-more (k ∷ ks) (q ∷ qs) l r each says = (each.0, says-more ks qs l r each.1 says)
 
 -- a line that says nothing, and one that says something
 silent : (line : Text) → is_skipped line ≡ true → spoken (line ∷ []) ≡ []
@@ -30,7 +36,7 @@ speaks line h = ap (λ (b : Bool). cond (not b) (line ∷ []) []) h
 -- before the first line nothing is read
 pub read-none : (names : List Text) (cs : List Request) (lines : List Text) → cs ≡ [] → lines ≡ [] → HasRead names cs lines
 read-none names cs lines none no_lines =
-    let first : HasRead names [] [] = record { known = tt; say = record { each = refl; few = omega arith } } in
+    let first : HasRead names [] [] = record { known = tt; say = record { each = tt; few = omega arith } } in
     subst (λ (ls : List Text). HasRead names cs ls) (sym no_lines) (subst (λ (ds : List Request). HasRead names ds []) (sym none) first)
 
 module _ {names : List Text} {cs : List Request} {before : List Text} (read : HasRead names cs before) (line : Text) where
@@ -42,17 +48,15 @@ module _ {names : List Text} {cs : List Request} {before : List Text} (read : Ha
         known = subst (AreKnown later) (sym same) (all_known-grown g cs read.known);
         say = record {
           each =
-              said-more before line
-              ∙ ap (λ (ls : List Text). map said (spoken before) ++ map said ls) (silent line h)
-              ∙ append-nil (map said (spoken before))
-              ∙ read.say.each
-              ∙ ap (map Ok) (sym list);
+              subst (λ (ls : List Text). EachSays ls (requests_in later new))
+              (sym (spoken-more before line ∙ ap (λ (ls : List Text). spoken before ++ ls) (silent line h) ∙ append-nil (spoken before)))
+              (subst (EachSays (spoken before)) (sym list) read.say.each);
           few = omega (arith, read.say.few, ap length list);
         };
       }
 
   -- behind a line that asks for something
-  read-more : (later : List Text) (r : Request) (new : List Request) → Grows names later → is_skipped line ≡ false → said line ≡ Ok (request_in later r) → IsKnownRequest later r → length cs < 10000 → new ≡ cs ++ r ∷ []
+  read-more : (later : List Text) (r : Request) (new : List Request) → Grows names later → is_skipped line ≡ false → LineSays line (Ok (request_in later r)) → IsKnownRequest later r → length cs < 10000 → new ≡ cs ++ r ∷ []
       → HasRead later new (before ++ line ∷ [])
   read-more later r new g h says known room more =
       let list : requests_in later new ≡ requests_in names cs ++ request_in later r ∷ [] =
@@ -61,11 +65,9 @@ module _ {names : List Text} {cs : List Request} {before : List Text} (read : Ha
         known = subst (AreKnown later) (sym more) (both cs (all_known-grown g cs read.known));
         say = record {
           each =
-              said-more before line
-              ∙ ap (λ (ls : List Text). map said (spoken before) ++ map said ls) (speaks line h)
-              ∙ (λ i. read.say.each i ++ says i ∷ [])
-              ∙ sym (map-append Ok (requests_in names cs) (request_in later r ∷ []))
-              ∙ ap (map Ok) (sym list);
+              subst (λ (ls : List Text). EachSays ls (requests_in later new))
+              (sym (spoken-more before line ∙ ap (λ (ls : List Text). spoken before ++ ls) (speaks line h)))
+              (subst (EachSays (spoken before ++ line ∷ [])) (sym list) (says-more (spoken before) (requests_in names cs) line (request_in later r) read.say.each says));
           few = omega (arith, room, ap length list, length-append (requests_in names cs) (request_in later r ∷ []), length-map cs (request_in names));
         };
       }
@@ -75,7 +77,7 @@ module _ {names : List Text} {cs : List Request} {before : List Text} (read : Ha
       both (d ∷ ds) k = (k.0, both ds k.1)
 
   -- a line that is wrong
-  pub read-wrong : (text : Text) (after : List Text) (n : ℕ) (cause : script.Cause) → lines_of text ≡ before ++ line ∷ after → n ≡ length before + 1 → is_skipped line ≡ false → cause_of (length cs) (said line) ≡ Some cause → IsRefused text n cause
+  pub read-wrong : (text : Text) (after : List Text) (n : ℕ) (cause : script.Cause) → lines_of text ≡ before ++ line ∷ after → n ≡ length before + 1 → is_skipped line ≡ false → IsWrong line (length cs) cause → IsRefused text n cause
   read-wrong text after n cause parts numbered h wrong = record {
     before = before;
     line = line;
@@ -85,7 +87,7 @@ module _ {names : List Text} {cs : List Request} {before : List Text} (read : Ha
     numbered = numbered;
     said_before = read.say;
     says_something = h;
-    wrong = ap (λ (k : ℕ). cause_of k (said line)) (length-map cs (request_in names)) ∙ wrong;
+    wrong = subst (λ (k : ℕ). IsWrong line k cause) (sym (length-map cs (request_in names))) wrong;
   }
 
 -- the lines as far as an index, and the one there
@@ -94,21 +96,21 @@ taken ls i d lt = ap texts (take_more ls i d lt) ∙ map-append (λ (w : Bor Tex
 
 module _ {names : List Text} {cs : List Request} (ls : List (Bor Text)) (i : ℕ) (d : Bor Text) (read : HasRead names cs (texts (take i ls))) (lt : i < length ls) (later : List Text) (g : Grows names later) (count : ℕ) (counted : count ≡ length cs) where
   -- behind the line of an index that says nothing
-  pub skipped-at : (o : Option Request) → LineSays later (get_or ls i d).now count o → (new : List Request) → o ≡ None → new ≡ cs → HasRead later new (texts (take (i + 1) ls))
+  pub skipped-at : (o : Option Request) → HasAsked later (get_or ls i d).now count o → (new : List Request) → o ≡ None → new ≡ cs → HasRead later new (texts (take (i + 1) ls))
   skipped-at o says new none same =
-      subst (HasRead later new) (sym (taken ls i d lt)) (read-skipped read (get_or ls i d).now later new g (subst (LineSays later (get_or ls i d).now count) none says) same)
+      subst (HasRead later new) (sym (taken ls i d lt)) (read-skipped read (get_or ls i d).now later new g (subst (HasAsked later (get_or ls i d).now count) none says) same)
 
   -- behind one that asks for something
-  pub read-at : (o : Option Request) → LineSays later (get_or ls i d).now count o → (r : Request) (new : List Request) → o ≡ Some r → new ≡ cs ++ r ∷ [] → HasRead later new (texts (take (i + 1) ls))
+  pub read-at : (o : Option Request) → HasAsked later (get_or ls i d).now count o → (r : Request) (new : List Request) → o ≡ Some r → new ≡ cs ++ r ∷ [] → HasRead later new (texts (take (i + 1) ls))
   read-at o says r new some more =
-      let h = subst (LineSays later (get_or ls i d).now count) some says in
+      let h = subst (HasAsked later (get_or ls i d).now count) some says in
       subst (HasRead later new) (sym (taken ls i d lt)) (read-more read (get_or ls i d).now later r new g h.0 h.1 h.2 (omega (arith, h.3, counted)) more)
 
 -- the line of an index is wrong
 pub wrong-at : {names : List Text} {cs : List Request} (ls : List (Bor Text)) (i : ℕ) (d : Bor Text) → HasRead names cs (texts (take i ls)) → i < length ls
-    → (text : Text) (n : ℕ) (cause : script.Cause) → lines_of text ≡ texts ls → n ≡ i + 1 → is_skipped (get_or ls i d).now ≡ false → (count : ℕ) → count ≡ length cs → cause_of count (said (get_or ls i d).now) ≡ Some cause → IsRefused text n cause
+    → (text : Text) (n : ℕ) (cause : script.Cause) → lines_of text ≡ texts ls → n ≡ i + 1 → is_skipped (get_or ls i d).now ≡ false → (count : ℕ) → count ≡ length cs → IsWrong (get_or ls i d).now count cause → IsRefused text n cause
 wrong-at ls i d read lt text n cause same number h count counted wrong =
     let cut : texts ls ≡ texts (take i ls) ++ (get_or ls i d).now ∷ texts (drop (i + 1) ls) =
     ap texts (sym (take-append-drop i ls) ∙ ap (λ (ws : List (Bor Text)). take i ls ++ ws) (drop_more ls i d lt)) ∙ map-append (λ (w : Bor Text). w.now) (take i ls) (get_or ls i d ∷ drop (i + 1) ls) in
     let numbered : n ≡ length (texts (take i ls)) + 1 = omega (arith, number, length-map (take i ls) (λ (w : Bor Text). w.now), length-take-le i ls (omega (arith, lt))) in
-    read-wrong read (get_or ls i d).now text (texts (drop (i + 1) ls)) n cause (same ∙ cut) numbered h (ap (λ (k : ℕ). cause_of k (said (get_or ls i d).now)) (sym counted) ∙ wrong)
+    read-wrong read (get_or ls i d).now text (texts (drop (i + 1) ls)) n cause (same ∙ cut) numbered h (subst (λ (k : ℕ). IsWrong (get_or ls i d).now k cause) counted wrong)

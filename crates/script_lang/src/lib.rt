@@ -1,12 +1,14 @@
 //! The reader of scripts of refactorings (Roberts 1999): what a text asks for, or its first line that is wrong.
 #![tactic(auto)]
 
+mod additions;
 mod bytes;
 mod fault;
 mod lines;
 mod requests;
 mod script;
 mod verb;
+mod words;
 
 pub use fault::ScriptFault;
 pub use script::parse_script;

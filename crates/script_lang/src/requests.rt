@@ -1,126 +1,219 @@
 // What the words behind that of a command ask for.
-ghost use Rattle.std.specs.Prelude.{◌≡◌, ◌<◌, ℕ, List, length, Some, None, Ok, Err, IfOk, IfErr, OnErr, ◌∷◌, []};
-ghost use Rattle.rb_base.specs.Names.{name_at};
+ghost use Rattle.std.specs.Prelude.{◌≡◌, Some, None, Ok, Err, IfOk, IfErr, OnErr, []};
 ghost use Rattle.event_trees.specs.Naming.{Grows};
 ghost use Rattle.script_model.specs.Arguments as script;
-ghost use Rattle.script_model.specs.Commands.{BadArgument, said_by};
-ghost use Rattle.commands.specs.Views.{request_in, IsKnownRequest};
-ghost use Rattle.script_lang.specs.declared.requests.Wrong.TheVariants as wrong;
-ghost use Rattle.script_lang.specs.declared.verb.Verb.TheVariants as verb;
-ghost use Rattle.script_lang.specs.Shown.{word_of, texts};
+ghost use Rattle.script_model.specs.Commands.{BadArgument};
+ghost use Rattle.commands.specs.Views.{action_of, command_of, request_in, IsKnownRequest};
+ghost use Rattle.script_lang.specs.declared.words.Wrong.TheVariants as wrong;
+ghost use Rattle.script_lang.specs.declared.verb.Verb.TheVariants as verbs;
+ghost use Rattle.script_lang.specs.Shown.{asked, texts};
+ghost use Rattle.script_lang.specs.Asking.{pair_action, triple_command, method_command};
 
-use crate::verb::Verb;
-use commands::{Command, Request};
-use name_meanings::VariableKind;
-use rb_base::{Memory, NameId, Names};
-use spelled_words::{is_identifier, is_selector};
+use crate::verb::{MethodVerb, NewClassVerb, PairVerb, TripleVerb, Verb};
+use crate::words::{Wrong, identifier, identifiers, parameter, selector, setter, side};
+use commands::{Action, Command, MethodName, NewClass, Renaming, Request, VariableMove};
+use rb_base::{Ids, NameId, Names};
+use std::alloc::Global;
 
-/// Why words ask for nothing.
-#[derive(Clone, Copy)]
-pub(crate) enum Wrong {
-    /// There are too few or too many words, or one is not spelled as it is to be at its place.
-    Argument,
-    /// Want of memory.
-    Memory,
-}
-
-impl From<Memory> for Wrong {
-    ghost from_gives = { λ _ e. e ≡ wrong.Memory };
-
-    fn from(_error: Memory) -> Wrong {
-        Wrong::Memory
-    }
-}
-
-/// The number of a name, which is added where it is new.
-fn intern(word: &[u8], names: &mut Names) -> Result<NameId, Memory>
-    ensures text { IfOk result (λ n. name_at names.new n ≡ word.now) }
-    ensures known { IfOk result (λ n. n < length names.new) }
-    ensures grows { Grows names.old names.new }
-{
-    names.intern(word)
-}
-
-/// The name that the word is, as an identifier.
-fn identifier(word: &[u8], names: &mut Names) -> Result<NameId, Wrong>
-    ensures said { IfOk result (λ n. script.argument script.a_class word.now ≡ Some (script.name (name_at names.new n))) }
-    ensures known { IfOk result (λ n. n < length names.new) }
-    ensures wrong { IfErr result (λ e. e ≡ wrong.Argument → script.argument script.a_class word.now ≡ None) }
-    ensures grows { Grows names.old names.new }
-{
-    if !is_identifier(word) {
-        return Err(Wrong::Argument);
-    }
-    let name = intern(word, names)?;
-    Ok(name)
-}
-
-/// The name that the word is, as a selector.
-fn selector(word: &[u8], names: &mut Names) -> Result<NameId, Wrong>
-    ensures said { IfOk result (λ n. script.argument script.a_selector word.now ≡ Some (script.name (name_at names.new n))) }
-    ensures known { IfOk result (λ n. n < length names.new) }
-    ensures wrong { IfErr result (λ e. e ≡ wrong.Argument → script.argument script.a_selector word.now ≡ None) }
-    ensures grows { Grows names.old names.new }
-{
-    if !is_selector(word) {
-        return Err(Wrong::Argument);
-    }
-    let name = intern(word, names)?;
-    Ok(name)
-}
-
-/// What `renameClass` asks for with these words: a class and its new name.
-fn rename_class(words: &[&[u8]], names: &mut Names) -> Result<Request, Wrong>
-    ensures said { IfOk result (λ r. said_by (word_of verb.RenameClass ∷ texts words.now) ≡ Ok (request_in names.new r)) }
+/// What `removeClass` asks for with these words: a class.
+fn remove_class(alloc: Global, words: &[&[u8]], names: &mut Names) -> Result<Request, Wrong>
+    ensures said { IfOk result (λ r. asked verbs.RemoveClass (texts words.now) ≡ Ok (request_in names.new r)) }
     ensures known { IfOk result (λ r. IsKnownRequest names.new r) }
-    ensures wrong { IfErr result (λ e. e ≡ wrong.Argument → said_by (word_of verb.RenameClass ∷ texts words.now) ≡ Err BadArgument) }
+    ensures wrong { IfErr result (λ e. e ≡ wrong.Argument → asked verbs.RemoveClass (texts words.now) ≡ Err BadArgument) }
     ensures grows { Grows names.old names.new }
 {
-    let [class, to] = words else {
+    let ids = identifiers(alloc, words, names)?;
+    let [class] = ids.as_slice() else {
         return Err(Wrong::Argument);
     };
-    let class = identifier(class, names)?;
-    let to = identifier(to, names)?;
-    Ok(Request::Perform(Command::RenameClass { class, to }))
+    Ok(Request::Perform(Action::Single(Command::RemoveClass { class: *class })))
 }
 
-/// What the renaming of a variable of a kind asks for with these words: a class, the variable and its new name.
-fn rename_variable(kind: VariableKind, words: &[&[u8]], names: &mut Names) -> Result<Request, Wrong>
-    ensures said { IfOk result (λ r. said_by (word_of (verb.RenameVariable kind) ∷ texts words.now) ≡ Ok (request_in names.new r)) }
+/// What a command does with a class and another name.
+fn pair_action(verb: PairVerb, class: NameId, name: NameId) -> Action
+    ensures { action_of result ≡ pair_action verb class name }
+{
+    let variable = name;
+    let moved = match verb {
+        PairVerb::RenameClass => {
+            return Action::Single(Command::Rename(Renaming::Class { class, to: name }));
+        }
+        PairVerb::UpWithMethods => return Action::PushUpWithMethods { class, variable },
+        PairVerb::AddVariable(kind) => VariableMove::Add {
+            kind,
+            class,
+            variable,
+        },
+        PairVerb::RemoveVariable(kind) => VariableMove::Remove {
+            kind,
+            class,
+            variable,
+        },
+        PairVerb::InstanceUp => VariableMove::InstanceUp { class, variable },
+        PairVerb::InstanceDown => VariableMove::InstanceDown { class, variable },
+        PairVerb::SharedUp => VariableMove::SharedUp { class, variable },
+    };
+    Action::Single(Command::Variable(moved))
+}
+
+/// What a command of a class and another name asks for with these words.
+fn pair_request(
+    alloc: Global,
+    verb: PairVerb,
+    words: &[&[u8]],
+    names: &mut Names,
+) -> Result<Request, Wrong>
+    ensures said { IfOk result (λ r. asked (verbs.Pair verb) (texts words.now) ≡ Ok (request_in names.new r)) }
     ensures known { IfOk result (λ r. IsKnownRequest names.new r) }
-    ensures wrong { IfErr result (λ e. e ≡ wrong.Argument → said_by (word_of (verb.RenameVariable kind) ∷ texts words.now) ≡ Err BadArgument) }
+    ensures wrong { IfErr result (λ e. e ≡ wrong.Argument → asked (verbs.Pair verb) (texts words.now) ≡ Err BadArgument) }
     ensures grows { Grows names.old names.new }
 {
-    let [class, variable, to] = words else {
+    let ids = identifiers(alloc, words, names)?;
+    let [class, name] = ids.as_slice() else {
         return Err(Wrong::Argument);
     };
-    let class = identifier(class, names)?;
-    let variable = identifier(variable, names)?;
-    let to = identifier(to, names)?;
-    Ok(Request::Perform(Command::RenameVariable {
-        kind,
-        class,
-        variable,
-        to,
+    Ok(Request::Perform(pair_action(verb, *class, *name)))
+}
+
+/// What `createAccessors` asks for with these words: a class and a variable.
+fn accessors(alloc: Global, words: &[&[u8]], names: &mut Names) -> Result<Request, Wrong>
+    ensures said { IfOk result (λ r. asked verbs.CreateAccessors (texts words.now) ≡ Ok (request_in names.new r)) }
+    ensures known { IfOk result (λ r. IsKnownRequest names.new r) }
+    ensures wrong { IfErr result (λ e. e ≡ wrong.Argument → asked verbs.CreateAccessors (texts words.now) ≡ Err BadArgument) }
+    ensures grows { Grows names.old names.new }
+{
+    let ids = identifiers(alloc, words, names)?;
+    let [class, variable] = ids.as_slice() else {
+        return Err(Wrong::Argument);
+    };
+    let setter = setter(alloc, *variable, names)?;
+    let parameter = parameter(*variable, names)?;
+    Ok(Request::Perform(Action::CreateAccessors {
+        class: *class,
+        variable: *variable,
+        setter,
+        parameter,
     }))
+}
+
+/// What a command does with a class, a variable and another name.
+fn triple_command(verb: TripleVerb, class: NameId, variable: NameId, to: NameId) -> Command
+    ensures { command_of result ≡ triple_command verb class variable to }
+{
+    match verb {
+        TripleVerb::RenameVariable(kind) => Command::Rename(Renaming::Variable {
+            kind,
+            class,
+            variable,
+            to,
+        }),
+        TripleVerb::SharedDown => Command::Variable(VariableMove::SharedDown {
+            class,
+            variable,
+            to,
+        }),
+    }
+}
+
+/// What a command of a class, a variable and another name asks for with these words.
+fn triple_request(
+    alloc: Global,
+    verb: TripleVerb,
+    words: &[&[u8]],
+    names: &mut Names,
+) -> Result<Request, Wrong>
+    ensures said { IfOk result (λ r. asked (verbs.Triple verb) (texts words.now) ≡ Ok (request_in names.new r)) }
+    ensures known { IfOk result (λ r. IsKnownRequest names.new r) }
+    ensures wrong { IfErr result (λ e. e ≡ wrong.Argument → asked (verbs.Triple verb) (texts words.now) ≡ Err BadArgument) }
+    ensures grows { Grows names.old names.new }
+{
+    let ids = identifiers(alloc, words, names)?;
+    let [class, variable, to] = ids.as_slice() else {
+        return Err(Wrong::Argument);
+    };
+    let command = triple_command(verb, *class, *variable, *to);
+    Ok(Request::Perform(Action::Single(command)))
+}
+
+/// What a command of a new class asks for with these words: the class, its superclass, and the classes that come under it.
+fn new_class(
+    alloc: Global,
+    verb: NewClassVerb,
+    words: &[&[u8]],
+    names: &mut Names,
+) -> Result<Request, Wrong>
+    ensures said { IfOk result (λ r. asked (verbs.NewClass verb) (texts words.now) ≡ Ok (request_in names.new r)) }
+    ensures known { IfOk result (λ r. IsKnownRequest names.new r) }
+    ensures wrong { IfErr result (λ e. e ≡ wrong.Argument → asked (verbs.NewClass verb) (texts words.now) ≡ Err BadArgument) }
+    ensures grows { Grows names.old names.new }
+{
+    let ids = identifiers(alloc, words, names)?;
+    let [name, superclass, under @ ..] = ids.as_slice() else {
+        return Err(Wrong::Argument);
+    };
+    let class = NewClass {
+        name: *name,
+        superclass: *superclass,
+        under: Ids::from_vec(Vec::from_slice(alloc, under)?),
+    };
+    match verb {
+        NewClassVerb::Add => Ok(Request::Perform(Action::Single(Command::AddClass(class)))),
+        NewClassVerb::Extract => {
+            if under.is_empty() {
+                return Err(Wrong::Argument);
+            }
+            Ok(Request::Perform(Action::ExtractSuperclass(class)))
+        }
+    }
 }
 
 /// What `renameSelector` asks for with these words: a selector and its new one.
 fn rename_selector(words: &[&[u8]], names: &mut Names) -> Result<Request, Wrong>
-    ensures said { IfOk result (λ r. said_by (word_of verb.RenameSelector ∷ texts words.now) ≡ Ok (request_in names.new r)) }
+    ensures said { IfOk result (λ r. asked verbs.RenameSelector (texts words.now) ≡ Ok (request_in names.new r)) }
     ensures known { IfOk result (λ r. IsKnownRequest names.new r) }
-    ensures wrong { IfErr result (λ e. e ≡ wrong.Argument → said_by (word_of verb.RenameSelector ∷ texts words.now) ≡ Err BadArgument) }
+    ensures wrong { IfErr result (λ e. e ≡ wrong.Argument → asked verbs.RenameSelector (texts words.now) ≡ Err BadArgument) }
     ensures grows { Grows names.old names.new }
 {
     let [old, to] = words else {
         return Err(Wrong::Argument);
     };
-    let selector_number = selector(old, names)?;
+    let old = selector(old, names)?;
     let to = selector(to, names)?;
-    Ok(Request::Perform(Command::RenameSelector {
-        selector: selector_number,
-        to,
-    }))
+    Ok(Request::Perform(Action::Single(Command::Rename(Renaming::Selector { selector: old, to }))))
+}
+
+/// What a command does with a method.
+fn method_command(verb: MethodVerb, method: MethodName) -> Command
+    ensures { command_of result ≡ method_command verb method.class method.meta method.selector }
+{
+    match verb {
+        MethodVerb::Remove => Command::RemoveMethod(method),
+        MethodVerb::PushUp => Command::PushUpMethod(method),
+        MethodVerb::PushDown => Command::PushDownMethod(method),
+    }
+}
+
+/// What a command of a method asks for with these words: its class, its side and its selector.
+fn method_request(verb: MethodVerb, words: &[&[u8]], names: &mut Names) -> Result<Request, Wrong>
+    ensures said { IfOk result (λ r. asked (verbs.Method verb) (texts words.now) ≡ Ok (request_in names.new r)) }
+    ensures known { IfOk result (λ r. IsKnownRequest names.new r) }
+    ensures wrong { IfErr result (λ e. e ≡ wrong.Argument → asked (verbs.Method verb) (texts words.now) ≡ Err BadArgument) }
+    ensures grows { Grows names.old names.new }
+{
+    let [class, of_side, of_selector] = words else {
+        return Err(Wrong::Argument);
+    };
+    let Some(meta) = side(of_side) else {
+        return Err(Wrong::Argument);
+    };
+    let class = identifier(class, names)?;
+    let selector = selector(of_selector, names)?;
+    let method = MethodName {
+        class,
+        meta,
+        selector,
+    };
+    Ok(Request::Perform(Action::Single(method_command(verb, method))))
 }
 
 /// A request that takes no words.
@@ -137,19 +230,24 @@ fn without_words(words: &[&[u8]], request: Request) -> Result<Request, Wrong>
 
 /// What a command asks for with the words behind its own one.
 pub(crate) fn request_of(
+    alloc: Global,
     command: Verb,
     words: &[&[u8]],
     names: &mut Names,
 ) -> Result<Request, Wrong>
-    ensures said { IfOk result (λ r. said_by (word_of command ∷ texts words.now) ≡ Ok (request_in names.new r)) }
+    ensures said { IfOk result (λ r. asked command (texts words.now) ≡ Ok (request_in names.new r)) }
     ensures known { IfOk result (λ r. IsKnownRequest names.new r) }
-    ensures wrong { IfErr result (λ e. e ≡ wrong.Argument → said_by (word_of command ∷ texts words.now) ≡ Err BadArgument) }
+    ensures wrong { IfErr result (λ e. e ≡ wrong.Argument → asked command (texts words.now) ≡ Err BadArgument) }
     ensures grows { Grows names.old names.new }
 {
     match command {
-        Verb::RenameClass => rename_class(words, names),
-        Verb::RenameVariable(kind) => rename_variable(kind, words, names),
+        Verb::RemoveClass => remove_class(alloc, words, names),
+        Verb::Pair(verb) => pair_request(alloc, verb, words, names),
+        Verb::Triple(verb) => triple_request(alloc, verb, words, names),
+        Verb::NewClass(verb) => new_class(alloc, verb, words, names),
+        Verb::CreateAccessors => accessors(alloc, words, names),
         Verb::RenameSelector => rename_selector(words, names),
+        Verb::Method(verb) => method_request(verb, words, names),
         Verb::Undo => without_words(words, Request::Undo),
         Verb::Redo => without_words(words, Request::Redo),
     }

@@ -1,17 +1,21 @@
 // The reader of scripts.
-ghost use Rattle.std.specs.Prelude.{◌≡◌, ◌∷◌, ◌++◌, [], ℕ, List, false, Some, None, Ok, Err, IfOk, IfErr, OnOk};
+ghost use Rattle.std.specs.Prelude.{◌≡◌, ◌∷◌, ◌++◌, [], ℕ, List, false, Some, Ok, Err, IfOk, IfErr, OnOk};
 ghost use Rattle.event_trees.specs.Naming.{Grows};
 ghost use Rattle.script_model.specs.Lines.{is_skipped, lines_of};
 ghost use Rattle.script_model.specs.Commands as script;
-ghost use Rattle.script_model.specs.Scripts.{said, cause_of, Say, Says, IsRefused};
+ghost use Rattle.script_model.specs.Scripts.{said, LineSays, IsWrong, Say, Says, IsRefused};
+ghost use Rattle.script_model.specs.Additions.{AddsMethod};
 ghost use Rattle.commands.specs.Views.{request_in, IsKnownRequest};
-ghost use Rattle.script_lang.specs.Shown.{word_of, requests_in, AreKnown, texts, fault_shown};
-ghost use Rattle.script_lang.specs.Read.{LineSays};
+ghost use Rattle.script_lang.specs.Shown.{asked, requests_in, AreKnown, texts, fault_shown};
+ghost use Rattle.script_lang.specs.Read.{HasAsked};
 
+use crate::additions::{add_method, split_word};
+use crate::bytes::same_text;
 use crate::fault::ScriptFault;
 use crate::lines::{is_skipped, lines_of, words_of};
-use crate::requests::{Wrong, request_of};
+use crate::requests::request_of;
 use crate::verb::{Verb, is_to_come, verb_of};
+use crate::words::Wrong;
 use commands::Request;
 use rb_base::{Memory, Names};
 use std::alloc::Global;
@@ -21,17 +25,18 @@ const COMMAND_LIMIT: usize = 10000;
 
 /// What the command of a line asks for with the words behind its own one.
 fn said_by_verb(
+    alloc: Global,
     command: Verb,
     words: &[&[u8]],
     line: usize,
     names: &mut Names,
 ) -> Result<Request, ScriptFault>
-    ensures said { IfOk result (λ r. script.said_by (word_of command ∷ texts words.now) ≡ Ok (request_in names.new r)) }
+    ensures said { IfOk result (λ r. asked command (texts words.now) ≡ Ok (request_in names.new r)) }
     ensures known { IfOk result (λ r. IsKnownRequest names.new r) }
-    ensures fault { IfErr result (λ f. (n : ℕ) (cause : script.Cause) → fault_shown f ≡ Some (n, cause) → (n ≡ line) × (script.said_by (word_of command ∷ texts words.now) ≡ Err cause)) }
+    ensures fault { IfErr result (λ f. (n : ℕ) (cause : script.Cause) → fault_shown f ≡ Some (n, cause) → (n ≡ line) × (asked command (texts words.now) ≡ Err cause)) }
     ensures grows { Grows names.old names.new }
 {
-    match request_of(command, words, names) {
+    match request_of(alloc, command, words, names) {
         Ok(request) => Ok(request),
         Err(Wrong::Argument) => Err(ScriptFault::BadArgument { line }),
         Err(Wrong::Memory) => Err(ScriptFault::Memory),
@@ -49,8 +54,8 @@ fn no_command(word: &[u8], line: usize) -> ScriptFault
     }
 }
 
-/// What the line of a number asks for.
-fn line_request(
+/// What the line of a number asks for, a line of words.
+fn words_request(
     alloc: Global,
     text: &[u8],
     line: usize,
@@ -66,8 +71,47 @@ fn line_request(
         return Err(ScriptFault::UnknownCommand { line });
     };
     match verb_of(word) {
-        Some(command) => said_by_verb(command, rest, line, names),
+        Some(command) => said_by_verb(alloc, command, rest, line, names),
         None => Err(no_command(word, line)),
+    }
+}
+
+/// What the line of a number asks for, one of `addMethod`, with the text behind the word.
+fn said_by_text(
+    alloc: Global,
+    text: &[u8],
+    line: usize,
+    names: &mut Names,
+) -> Result<Request, ScriptFault>
+    ensures said { IfOk result (λ r. AddsMethod text.now (Ok (request_in names.new r))) }
+    ensures known { IfOk result (λ r. IsKnownRequest names.new r) }
+    ensures fault { IfErr result (λ f. (n : ℕ) (cause : script.Cause) → fault_shown f ≡ Some (n, cause) → (n ≡ line) × AddsMethod text.now (Err cause)) }
+    ensures grows { Grows names.old names.new }
+{
+    match add_method(alloc, text, names) {
+        Ok(request) => Ok(request),
+        Err(Wrong::Argument) => Err(ScriptFault::BadArgument { line }),
+        Err(Wrong::Memory) => Err(ScriptFault::Memory),
+    }
+}
+
+/// What the line of a number asks for.
+fn line_request(
+    alloc: Global,
+    text: &[u8],
+    line: usize,
+    names: &mut Names,
+) -> Result<Request, ScriptFault>
+    ensures said { IfOk result (λ r. LineSays text.now (Ok (request_in names.new r))) }
+    ensures known { IfOk result (λ r. IsKnownRequest names.new r) }
+    ensures fault { IfErr result (λ f. (n : ℕ) (cause : script.Cause) → fault_shown f ≡ Some (n, cause) → (n ≡ line) × LineSays text.now (Err cause)) }
+    ensures grows { Grows names.old names.new }
+{
+    let (word, rest) = split_word(text);
+    if same_text(word, b"addMethod") {
+        said_by_text(alloc, rest, line, names)
+    } else {
+        words_request(alloc, text, line, names)
     }
 }
 
@@ -79,8 +123,8 @@ fn read_line(
     count: usize,
     names: &mut Names,
 ) -> Result<Option<Request>, ScriptFault>
-    ensures ok { IfOk result (λ request. LineSays names.new text.now count request) }
-    ensures fault { IfErr result (λ f. (n : ℕ) (cause : script.Cause) → fault_shown f ≡ Some (n, cause) → (n ≡ line) × (is_skipped text.now ≡ false) × (cause_of count (said text.now) ≡ Some cause)) }
+    ensures ok { IfOk result (λ request. HasAsked names.new text.now count request) }
+    ensures fault { IfErr result (λ f. (n : ℕ) (cause : script.Cause) → fault_shown f ≡ Some (n, cause) → (n ≡ line) × (is_skipped text.now ≡ false) × IsWrong text.now count cause) }
     ensures grows { Grows names.old names.new }
 {
     if is_skipped(text) {
@@ -93,11 +137,11 @@ fn read_line(
     Ok(Some(request))
 }
 
-/// Puts an item behind others.
-fn push<T: Copy>(items: &mut Vec<T>, item: T) -> Result<(), Memory>
-    ensures { OnOk result (items.new.items ≡ items.old.items ++ item ∷ []) }
+/// Puts a request behind others.
+fn push(requests: &mut Vec<Request>, request: Request) -> Result<(), Memory>
+    ensures { OnOk result (requests.new.items ≡ requests.old.items ++ request ∷ []) }
 {
-    items.push(item)?;
+    requests.push(request)?;
     Ok(())
 }
 
@@ -116,10 +160,8 @@ fn read_lines(
     let mut number = 0;
     for line in lines {
         number += 1;
-        // The command has an arm of its own, since a request is passed on only where the type of its parts is named.
         match read_line(alloc, line, number, requests.len(), names)? {
-            Some(Request::Perform(command)) => push(&mut requests, Request::Perform(command))?,
-            Some(moved) => push(&mut requests, moved)?,
+            Some(request) => push(&mut requests, request)?,
             None => {}
         }
     }
@@ -132,6 +174,8 @@ fn read_lines(
 /// that is blank or begins with two minus signs says nothing. There are at most 10,000 commands. The names of the commands
 /// are numbers in `names`, to whose end those that are new are added. Whether there is a class, a variable or a selector of
 /// a name is not told.
+///
+/// A line of `addMethod` has the text of a method behind its fourth word, to the end of the line.
 ///
 /// On any error `names` may hold the names of the commands before it, and of the words before the one that is wrong. The
 /// time and the memory that it takes from `alloc` are linear in the text.

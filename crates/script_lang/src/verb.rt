@@ -4,38 +4,129 @@ ghost use Rattle.std.specs.Borrow.{Bor};
 ghost use Rattle.std.specs.List.{list_any};
 ghost use Rattle.rb_base.specs.Names.{text_eq};
 ghost use Rattle.script_model.specs.Commands.{words_to_come, no_command, said_by};
-ghost use Rattle.script_lang.specs.Shown.{word_of};
+ghost use Rattle.script_lang.specs.Shown.{word_of, FindsVerb};
 
 use crate::bytes::same_text;
 use name_meanings::VariableKind;
 
-/// A command by its word alone.
+/// A command by its word alone, sorted by what stands behind the word. `addMethod` is none of these, since a text stands
+/// behind it.
 #[derive(Clone, Copy)]
 pub(crate) enum Verb {
-    RenameClass,
-    RenameVariable(VariableKind),
+    /// A class.
+    RemoveClass,
+    /// A class and a variable, or its new name.
+    Pair(PairVerb),
+    /// A class, a variable, and its new name or a subclass.
+    Triple(TripleVerb),
+    /// A new class, its superclass, and the classes that come under it.
+    NewClass(NewClassVerb),
+    /// A class and a variable, which gets a getter and a setter.
+    CreateAccessors,
+    /// A selector and its new one.
     RenameSelector,
+    /// A class, a side and a selector.
+    Method(MethodVerb),
+    /// Nothing.
     Undo,
     Redo,
 }
 
+/// A command of a class and a variable, or of a class and its new name.
+#[derive(Clone, Copy)]
+pub(crate) enum PairVerb {
+    RenameClass,
+    AddVariable(VariableKind),
+    RemoveVariable(VariableKind),
+    InstanceUp,
+    InstanceDown,
+    SharedUp,
+    UpWithMethods,
+}
+
+/// A command of a class, a variable and one more name.
+#[derive(Clone, Copy)]
+pub(crate) enum TripleVerb {
+    /// With the new name of the variable of a kind.
+    RenameVariable(VariableKind),
+    /// With the subclass into which it goes.
+    SharedDown,
+}
+
+/// A command that makes a class.
+#[derive(Clone, Copy)]
+pub(crate) enum NewClassVerb {
+    Add,
+    /// At least one class comes under it.
+    Extract,
+}
+
+/// A command of a method.
+#[derive(Clone, Copy)]
+pub(crate) enum MethodVerb {
+    Remove,
+    PushUp,
+    PushDown,
+}
+
+/// The words of the commands that are performed.
+const VERBS: [(&[u8], Verb); 25] = [
+    (b"addClass", Verb::NewClass(NewClassVerb::Add)),
+    (b"renameClass", Verb::Pair(PairVerb::RenameClass)),
+    (b"removeClass", Verb::RemoveClass),
+    (
+        b"addInstVar",
+        Verb::Pair(PairVerb::AddVariable(VariableKind::Instance)),
+    ),
+    (
+        b"renameInstVar",
+        Verb::Triple(TripleVerb::RenameVariable(VariableKind::Instance)),
+    ),
+    (
+        b"removeInstVar",
+        Verb::Pair(PairVerb::RemoveVariable(VariableKind::Instance)),
+    ),
+    (b"pushUpInstVar", Verb::Pair(PairVerb::InstanceUp)),
+    (b"pushDownInstVar", Verb::Pair(PairVerb::InstanceDown)),
+    (
+        b"addClassVar",
+        Verb::Pair(PairVerb::AddVariable(VariableKind::Shared)),
+    ),
+    (
+        b"renameClassVar",
+        Verb::Triple(TripleVerb::RenameVariable(VariableKind::Shared)),
+    ),
+    (
+        b"removeClassVar",
+        Verb::Pair(PairVerb::RemoveVariable(VariableKind::Shared)),
+    ),
+    (b"pushUpClassVar", Verb::Pair(PairVerb::SharedUp)),
+    (b"pushDownClassVar", Verb::Triple(TripleVerb::SharedDown)),
+    (
+        b"addClassSideVar",
+        Verb::Pair(PairVerb::AddVariable(VariableKind::ClassSide)),
+    ),
+    (
+        b"renameClassSideVar",
+        Verb::Triple(TripleVerb::RenameVariable(VariableKind::ClassSide)),
+    ),
+    (
+        b"removeClassSideVar",
+        Verb::Pair(PairVerb::RemoveVariable(VariableKind::ClassSide)),
+    ),
+    (b"renameSelector", Verb::RenameSelector),
+    (b"removeMethod", Verb::Method(MethodVerb::Remove)),
+    (b"pushUpMethod", Verb::Method(MethodVerb::PushUp)),
+    (b"pushDownMethod", Verb::Method(MethodVerb::PushDown)),
+    (b"createAccessors", Verb::CreateAccessors),
+    (b"extractSuperclass", Verb::NewClass(NewClassVerb::Extract)),
+    (b"pushUpWithMethods", Verb::Pair(PairVerb::UpWithMethods)),
+    (b"undo", Verb::Undo),
+    (b"redo", Verb::Redo),
+];
+
 /// The words of commands that are still to come.
-const WORDS_TO_COME: [&[u8]; 28] = [
-    b"addClass",
-    b"removeClass",
-    b"addInstVar",
-    b"removeInstVar",
-    b"pushUpInstVar",
-    b"pushDownInstVar",
-    b"addClassVar",
-    b"removeClassVar",
-    b"pushUpClassVar",
-    b"pushDownClassVar",
-    b"addClassSideVar",
-    b"removeClassSideVar",
-    b"removeMethod",
-    b"pushUpMethod",
-    b"pushDownMethod",
+const WORDS_TO_COME: [&[u8]; 9] = [
     b"removeParameter",
     b"abstractInstVar",
     b"extractMethod",
@@ -43,37 +134,28 @@ const WORDS_TO_COME: [&[u8]; 28] = [
     b"extractTemp",
     b"inlineTemp",
     b"renameTemp",
-    b"createAccessors",
-    b"extractSuperclass",
-    b"pushUpWithMethods",
-    b"addMethod",
     b"addParameter",
     b"applyRule",
 ];
 
+/// The command of the first row that has the word.
+fn find_verb(word: &[u8], rows: &[(&[u8], Verb)]) -> Option<Verb>
+    ensures { FindsVerb word.now rows.now result }
+{
+    for (text, verb) in rows {
+        if same_text(word, text) {
+            return Some(*verb);
+        }
+    }
+    None
+}
+
 /// The command that is performed and has the word.
-#[tactic(auto, using(crate::proofs::Verbs::same_word))]
 pub(crate) fn verb_of(word: &[u8]) -> Option<Verb>
     ensures some { IfSome result (λ verb. word.now ≡ word_of verb) }
     ensures none { IfNone result ((ws : List (List ℕ)) → said_by (word.now ∷ ws) ≡ Err (no_command word.now)) }
 {
-    if same_text(word, b"renameClass") {
-        Some(Verb::RenameClass)
-    } else if same_text(word, b"renameInstVar") {
-        Some(Verb::RenameVariable(VariableKind::Instance))
-    } else if same_text(word, b"renameClassVar") {
-        Some(Verb::RenameVariable(VariableKind::Shared))
-    } else if same_text(word, b"renameClassSideVar") {
-        Some(Verb::RenameVariable(VariableKind::ClassSide))
-    } else if same_text(word, b"renameSelector") {
-        Some(Verb::RenameSelector)
-    } else if same_text(word, b"undo") {
-        Some(Verb::Undo)
-    } else if same_text(word, b"redo") {
-        Some(Verb::Redo)
-    } else {
-        None
-    }
+    find_verb(word, &VERBS)
 }
 
 /// Whether the word is one of these.

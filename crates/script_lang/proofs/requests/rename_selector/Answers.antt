@@ -1,5 +1,5 @@
 use Rattle.std.proofs.Common.{arith}
-use Rattle.script_lang.proofs.Renamings.{selector-count, selector-said}
+use Rattle.script_lang.proofs.Selectors.{selector-count, selector-said}
 use Rattle.script_lang.proofs.requests.rename_selector.Goals.{in_default-via-then-words-lt2, in_default-via-else-words-lt2+else-words-lt3}
 use Rattle.script_lang.proofs.requests.rename_selector.Goals as goal
 
@@ -12,5 +12,5 @@ returns-in_default-clause-wrong c = λ _.
 
 pub returns-clause-said : goal.returns-clause-said
 returns-clause-said c =
-    selector-said c.args.words.now _ _ (omega (arith, c.in-len2.len_at_least, c.in-len2.len_below)) c.selector.new.names c.selector-2.new.names c.in_ok-selector_number.selector_number c.in_ok-to.to c.in_ok-selector_number.ensures.known c.in_ok-to.ensures.grows
-    c.in_ok-selector_number.ensures.said c.in_ok-to.ensures.said
+    selector-said c.selector.new.names c.selector-2.new.names c.in_ok-old.old c.in_ok-old.ensures.known c.in_ok-to.ensures.grows c.args.words.now _ _ c.in_ok-to.to (omega (arith, c.in-len2.len_at_least, c.in-len2.len_below))
+    c.in_ok-old.ensures.said c.in_ok-to.ensures.said

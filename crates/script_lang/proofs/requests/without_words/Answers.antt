@@ -1,5 +1,5 @@
 use Rattle.std.proofs.Common.{sym, ◌∙◌}
-use Rattle.script_lang.proofs.Renamings.{no-words}
+use Rattle.script_lang.proofs.Selectors.{no-words}
 use Rattle.script_lang.proofs.requests.without_words.Goals as goal
 
 pub returns-else-is_empty-clause-wrong : goal.returns-else-is_empty-clause-wrong

@@ -2,7 +2,7 @@ use Rattle.std.proofs.Common.{◌≡◌, ◌<◌, length, Some}
 use Rattle.std.proofs.lemmas.Result.{IfOk-weaker}
 use Rattle.rb_base.specs.Names.{number_in, name_at}
 use Rattle.script_lang.proofs.Growing.{interned-text, interned-known, either-grows}
-use Rattle.script_lang.proofs.requests.intern.Goals as goal
+use Rattle.script_lang.proofs.words.intern.Goals as goal
 
 pub returns-clause-text : goal.returns-clause-text
 returns-clause-text c =

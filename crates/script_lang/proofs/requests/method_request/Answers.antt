@@ -1,0 +1,17 @@
+use Rattle.std.proofs.Common.{sym, ◌∙◌, arith}
+use Rattle.script_lang.proofs.Selectors.{method-count, method-said}
+use Rattle.script_lang.proofs.requests.method_request.Goals.{in_default-via-then-words-lt3, in_default-via-else-words-lt3+else-words-lt4}
+use Rattle.script_lang.proofs.requests.method_request.Goals as goal
+
+pub returns-in_default-clause-wrong : goal.returns-in_default-clause-wrong
+returns-in_default-clause-wrong c = λ _.
+    elim c.in_default.branch [
+      | in_default-via-then-words-lt3 w ↦ method-count c.args.verb c.args.words.now (λ e. grind (arith, e))
+      | in_default-via-else-words-lt3+else-words-lt4 w ↦ method-count c.args.verb c.args.words.now (λ e. grind (arith, e))
+    ]
+
+pub returns-clause-said : goal.returns-clause-said
+returns-clause-said c =
+    rw c.method_command.ensures
+    (method-said c.args.verb c.args.words.now _ _ _ (omega (arith, c.in-len3.len_at_least, c.in-len3.len_below)) c.identifier.new.names c.selector.new.names c.in_ok-class.class c.in_ok-selector.selector c.in-Some.meta
+    c.in_ok-class.ensures.known c.in_ok-selector.ensures.grows c.in_ok-class.ensures.said (sym c.side.ensures ∙ c.in-Some.is) c.in_ok-selector.ensures.said)
