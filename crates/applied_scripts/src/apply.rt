@@ -27,18 +27,18 @@ fn perform_counted<L: Ledger>(
     alloc: Global,
     session: &mut Session,
     image: &mut Image,
-    requests: &[Request],
+    requests: Vec<Request>,
     blank: Blank,
     out: &mut Text,
 ) -> Result<Status, Memory>
     requires orderly { IsOrderly image.old }
     requires closed { IsClosed image.old }
-    requires known { AreKnown image.old.names requests.now }
+    requires known { AreKnown image.old.names requests.items }
     requires empty { out.old ≡ [] }
     requires name { blank.name ≡ L.name }
     requires parts { blank.parts ≡ L.parts }
     requires some { 0 < L.parts }
-    ensures { IfOk result (λ status. (script : List ℕ) → Says script (requests_in image.old.names requests.now) → AppliesIn (image_of image.old) script status out.new) }
+    ensures { IfOk result (λ status. (script : List ℕ) → Says script (requests_in image.old.names requests.items) → AppliesIn (image_of image.old) script status out.new) }
 {
     let mut steps = Steps::<L>::new(blank);
     image.reindex()?;
@@ -80,7 +80,7 @@ pub fn apply_script(
                 alloc,
                 &mut session,
                 image,
-                requests.as_slice(),
+                requests,
                 Blank::new(1),
                 out,
             );

@@ -16,7 +16,7 @@ ghost use Rattle.commands.specs.Views.{condition_of};
 ghost use Rattle.commands.specs.declared.condition.Condition.{Condition};
 ghost use Rattle.session.specs.Log.{IsLogOf};
 ghost use Rattle.session.specs.History.{history_of};
-ghost use Rattle.session.specs.declared.session.StepRefusal.TheVariants as refusal;
+ghost use Rattle.session.specs.declared.refusal.StepRefusal.TheVariants as refusal;
 ghost use Rattle.applied_scripts.specs.declared.requests.Stop.TheVariants as stop;
 
 use class_table::Image;
@@ -84,16 +84,16 @@ fn stop_of(number: usize, cause: StepRefusal) -> Stop
 pub(crate) fn perform_all<L: Ledger>(
     session: &mut Session,
     image: &mut Image,
-    requests: &[Request],
+    requests: Vec<Request>,
     steps: &mut Steps<L>,
 ) -> Result<(), Stop>
     requires log { IsLogOf image.old session.old }
-    requires known { AreKnown image.old.names requests.now }
+    requires known { AreKnown image.old.names requests.items }
     ensures log { IsLogOf image.new session.new }
     ensures names { image.new.names ≡ image.old.names }
-    ensures done { OnOk result (judged_from rules 1 (history_of image.old session.old) (requests_in image.old.names requests.now) ≡ Ok (history_of image.new session.new)) }
+    ensures done { OnOk result (judged_from rules 1 (history_of image.old session.old) (requests_in image.old.names requests.items) ≡ Ok (history_of image.new session.new)) }
     ensures refused { IfErr result (λ e. (n : ℕ) (c : Condition) → e ≡ stop.Refused n c →
-        judged_from rules 1 (history_of image.old session.old) (requests_in image.old.names requests.now) ≡ Err (record { number = n; condition = map_condition (name_at image.old.names) (condition_of c) })) }
+        judged_from rules 1 (history_of image.old session.old) (requests_in image.old.names requests.items) ≡ Err (record { number = n; condition = map_condition (name_at image.old.names) (condition_of c) })) }
 {
     let mut number = 0;
     for request in requests {

@@ -6,7 +6,7 @@ ghost use Rattle.command_numbers.specs.MappedCommands.{map_condition};
 ghost use Rattle.commands.specs.Views.{condition_of};
 ghost use Rattle.apply_model.specs.Lines.{condition_words};
 
-use crate::words::{push_named, push_number, push_placed, push_title};
+use crate::words::{push_method, push_name, push_named, push_number, push_pair, push_title};
 use commands::Condition;
 use rb_base::{Memory, Names, Text};
 
@@ -34,11 +34,43 @@ pub(crate) fn push_condition(
             out.push_slice(b" ")?;
             push_number(count, out)
         }
+        Condition::Implements(method) => push_method(b"C8", b"Implements", method, names, out),
+        Condition::NotImplements(method) => {
+            push_method(b"C9", b"NotImplements", method, names, out)
+        }
+        Condition::Removable(method) => push_method(b"C10", b"Removable", method, names, out),
+        Condition::NoSubclasses { class } => {
+            push_named(b"C11", b"NoSubclasses", class, names, out)
+        }
+        Condition::NotReferenced { class } => {
+            push_named(b"C12", b"NotReferenced", class, names, out)
+        }
         Condition::HasVariable { class, variable } => {
-            push_placed(b"C13", b"HasVariable", class, variable, names, out)
+            push_pair(b"C13", b"HasVariable", class, variable, names, out)
         }
         Condition::VariableFree { class, variable } => {
-            push_placed(b"C14", b"VariableFree", class, variable, names, out)
+            push_pair(b"C14", b"VariableFree", class, variable, names, out)
+        }
+        Condition::VariableUnused { class, variable } => {
+            push_pair(b"C15", b"VariableUnused", class, variable, names, out)
+        }
+        Condition::ParentIsUser { class } => {
+            push_named(b"C16", b"ParentIsUser", class, names, out)
+        }
+        Condition::NoSuper(method) => push_method(b"C17", b"NoSuper", method, names, out),
+        Condition::MeansSame { method, to } => {
+            push_method(b"C18", b"MeansSame", method, names, out)?;
+            push_name(to, names, out)
+        }
+        Condition::Unreached { selector } => {
+            push_named(b"C19", b"Unreached", selector, names, out)
+        }
+        Condition::IsClass { class } => push_named(b"C39", b"IsClass", class, names, out),
+        Condition::ChildOf { class, superclass } => {
+            push_pair(b"C40", b"ChildOf", class, superclass, names, out)
+        }
+        Condition::LacksVariable { class, variable } => {
+            push_pair(b"C41", b"LacksVariable", class, variable, names, out)
         }
         Condition::KnownSelector { selector } => {
             push_named(b"C42", b"KnownSelector", selector, names, out)

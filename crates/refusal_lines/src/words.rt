@@ -4,7 +4,9 @@ ghost use Rattle.std.specs.Borrow.{Bor};
 ghost use Rattle.std.specs.Fmt.{decimal};
 ghost use Rattle.rb_base.specs.Names.{name_at};
 ghost use Rattle.text_model.specs.Pieces.{pieces_behind};
+ghost use Rattle.apply_model.specs.Lines.{method_words};
 
+use commands::MethodName;
 use itoa::Buffer;
 use rb_base::{Memory, NameId, Names, Text};
 
@@ -50,26 +52,51 @@ pub(crate) fn push_named(
     push_words(&[number, title, text_of(names, name)], out)
 }
 
-/// The same of a condition on a class and a variable.
-pub(crate) fn push_placed(
+/// The same of a condition on two names.
+pub(crate) fn push_pair(
     number: &[u8],
     title: &[u8],
-    class: NameId,
-    variable: NameId,
+    first: NameId,
+    second: NameId,
     names: &Names,
     out: &mut Text,
 ) -> Result<(), Memory>
-    ensures { OnOk result (out.new ≡ out.old ++ pieces_behind (codes " ") (number.now ∷ title.now ∷ name_at names.now class ∷ name_at names.now variable ∷ [])) }
+    ensures { OnOk result (out.new ≡ out.old ++ pieces_behind (codes " ") (number.now ∷ title.now ∷ name_at names.now first ∷ name_at names.now second ∷ [])) }
 {
+    push_words(
+        &[number, title, text_of(names, first), text_of(names, second)],
+        out,
+    )
+}
+
+/// The same of a condition on a method.
+pub(crate) fn push_method(
+    number: &[u8],
+    title: &[u8],
+    method: MethodName,
+    names: &Names,
+    out: &mut Text,
+) -> Result<(), Memory>
+    ensures { OnOk result (out.new ≡ out.old ++ pieces_behind (codes " ") (number.now ∷ title.now ∷ method_words (name_at names.now method.class) method.meta (name_at names.now method.selector))) }
+{
+    let side: &[u8] = if method.meta { b"class" } else { b"instance" };
     push_words(
         &[
             number,
             title,
-            text_of(names, class),
-            text_of(names, variable),
+            text_of(names, method.class),
+            side,
+            text_of(names, method.selector),
         ],
         out,
     )
+}
+
+/// Appends a name behind a blank.
+pub(crate) fn push_name(name: NameId, names: &Names, out: &mut Text) -> Result<(), Memory>
+    ensures { OnOk result (out.new ≡ out.old ++ pieces_behind (codes " ") (name_at names.now name ∷ [])) }
+{
+    push_words(&[text_of(names, name)], out)
 }
 
 /// Appends a number in decimal.

@@ -1,10 +1,7 @@
-use Rattle.std.proofs.Common.{ℕ, List, sym, subst}
+use Rattle.std.proofs.Common.{ℕ, List, subst}
 use Rattle.std.proofs.lemmas.Result.{IfOk-weaker}
 use Rattle.image_model.specs.Image.{ImageOf}
 use Rattle.class_table.specs.View.{image_of}
-use Rattle.commands.specs.declared.command.Request.{Request}
-use Rattle.script_model.specs.Scripts.{Says}
-use Rattle.script_lang.specs.Shown.{requests_in}
 use Rattle.apply_model.specs.Applied.{AppliesIn}
 use Rattle.applied_scripts.proofs.Answering.{wrong}
 use Rattle.applied_scripts.proofs.apply.apply_script.Goals as goal
@@ -14,7 +11,7 @@ returns-in-Ok c =
     IfOk-weaker c.perform_counted-answer.result _ _
     (λ status answered.
     subst (λ (i : ImageOf (List ℕ)). AppliesIn i c.args.script.now status c.perform_counted-answer.new.out) c.requests_of.ensures.image
-    (answered c.args.script.now (subst (λ (rs : List Request). Says c.args.script.now (requests_in c.requests_of.new.image.names rs)) (sym c.as_slice.ensures.value) c.in-Ok.ensures.said))) c.perform_counted-answer.ensures
+    (answered c.args.script.now c.in-Ok.ensures.said)) c.perform_counted-answer.ensures
 
 pub returns-in_ok-push_script_line-in-Err : goal.returns-in_ok-push_script_line-in-Err
 returns-in_ok-push_script_line-in-Err c =

@@ -6,12 +6,12 @@ use Rattle.applied_scripts.proofs.apply.perform_counted.Goals as goal
 
 pub returns-in-Ok : goal.returns-in-Ok
 returns-in-Ok g c =
-    performed c.args.image.now c.reindex.new.self c.open.new.self c.args.requests.now c.write_image.new.out c.reindex.ensures c.in_ok-open.ensures.history c.perform_all.new.image
+    performed c.args.image.now c.reindex.new.self c.open.new.self c.args.requests.items c.write_image.new.out c.reindex.ensures c.in_ok-open.ensures.history c.perform_all.new.image
     c.perform_all.new.session c.in-Ok.ensures.done
     (c.in_ok-write_image-in-Ok.ensures.ok ∙ ap (λ (t : List ℕ). t ++ file_of (image_of c.perform_all.new.image)) c.requires.empty)
 
 pub returns-in-Err-Refused : goal.returns-in-Err-Refused
 returns-in-Err-Refused g c =
-    refused c.args.image.now c.reindex.new.self c.open.new.self c.args.requests.now c.push_refusal.new.out c.reindex.ensures c.in_ok-open.ensures.history c.names.result.now c.in-Err-Refused.number
+    refused c.args.image.now c.reindex.new.self c.open.new.self c.args.requests.items c.push_refusal.new.out c.reindex.ensures c.in_ok-open.ensures.history c.names.result.now c.in-Err-Refused.number
     c.in-Err-Refused.condition (c.names.ensures ∙ c.in-Err-Refused.ensures.names) (c.in-Err-Refused.ensures.refused _ _ c.in-Err-Refused.field-0-is)
     (rw (c.requires.empty, c.in-Err-Refused.field-0-is) at c.in_ok-push_refusal-in-Err-Refused.ensures)
