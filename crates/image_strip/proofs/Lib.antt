@@ -1,0 +1,11 @@
+pub mod Taken
+pub mod Alls
+pub mod ClosedParts
+pub mod Marked
+pub mod StrippedImage
+pub mod Meant
+pub mod SlotsAgree
+pub mod Told
+pub mod Steps
+pub mod Visits
+pub mod Final
