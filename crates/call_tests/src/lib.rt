@@ -16,5 +16,3 @@ mod places;
 mod rooms;
 #[cfg(test)]
 mod scopes;
-#[cfg(test)]
-mod scripts;
