@@ -12,7 +12,7 @@ use Rattle.command_model.specs.Places.{SendOf}
 use Rattle.command_model.specs.Plain.{is_passed_atom}
 use Rattle.command_model.specs.Temporaries.{LetOf, is_declared_once, let_of}
 use Rattle.command_model.specs.CodeEffects.{method_at, part_at, send_at, target_of, code_effect}
-use Rattle.command_model.specs.ParameterConditions.{is_parameter_unused, are_arguments_plain, is_shallow}
+use Rattle.command_model.specs.ParameterConditions.{is_parameter_unused, are_arguments_plain, is_shallow, is_shallow_speaking}
 use Rattle.command_model.specs.PartConditions.{is_part, has_no_return, assigns_no_outer, are_temporaries_steady, is_value_unused, is_first_evaluated}
 use Rattle.command_model.specs.InlineConditions.{is_self_send, is_one_target, is_inlinable, are_actuals_plain, captures_nothing, makes_no_control}
 use Rattle.command_model.specs.LetConditions.{is_let_form, is_value_kept, is_value_no_control}
@@ -46,6 +46,11 @@ module _ {N : Type 0} (a : AskedOf N) (i : ImageOf N) where
   is_target_inlinable (InlineMethod c meta s from to) = of_target c meta s from to (is_inlinable a i c)
   is_target_inlinable command = false
 
+  -- whether what the command changes is at most 200 high afterwards. Code in which messages pass one atom more is as high as before, since no atom is higher than what it is sent to
+  abbrev is_shallow_after : CommandOf N → Bool
+  is_shallow_after (AddParameter s t x passed) = is_shallow_speaking a.words.tests.same s i
+  is_shallow_after command = option_map_or is_shallow (code_effect a i no_writing command) false
+
   -- whether such a condition of the command holds in the image; any other one does not
   abbrev pub code_holds : CommandOf N → ConditionOf N → Bool
   code_holds command (ParameterUnused s k) = is_parameter_unused a i s k
@@ -68,5 +73,5 @@ module _ {N : Type 0} (a : AskedOf N) (i : ImageOf N) where
   code_holds command (NotIn c meta s x) = of_method c meta s (λ m. not (is_named_in_method a.words.tests.same x m))
   code_holds command (LetForm c meta s x) = of_let c meta s x (λ m e. is_let_form a i m x e)
   code_holds command (FirstEvaluated c meta s from to) = of_part c meta s from to (is_first_evaluated a i)
-  code_holds command Shallow = option_map_or is_shallow (code_effect a i no_writing command) false
+  code_holds command Shallow = is_shallow_after command
   code_holds command condition = false

@@ -76,6 +76,15 @@ KeepsShape (InlineTemp c meta s x) = ⊥
 KeepsShape (RenameTemp c meta s x y) = ⊥
 KeepsShape command = Unit {0}
 
+-- whether a command moves no code: what it changes of trees are names, selectors, arguments and what messages pass
+abbrev pub MovesNoCode : {N : Type 0} → CommandOf N → Type 0
+MovesNoCode (AbstractInstVar c x setter given) = ⊥
+MovesNoCode (ExtractMethod c meta s from to t) = ⊥
+MovesNoCode (InlineMethod c meta s from to) = ⊥
+MovesNoCode (ExtractTemp c meta s from to x) = ⊥
+MovesNoCode (InlineTemp c meta s x) = ⊥
+MovesNoCode command = Unit {0}
+
 -- the kind of the variables of which a command speaks; of commands that speak of none it says nothing
 abbrev pub kind_of : {N : Type 0} → CommandOf N → VariableKind
 kind_of (AddClassVar c x) = of_class

@@ -103,25 +103,19 @@ pub data ConditionOf (N : Type 0) : Type 0 where
   UndoLeft : ConditionOf N
   RedoLeft : ConditionOf N
 
--- all conditions but those that only commands which change code have
-abbrev pub IsOfShape : {N : Type 0} → ConditionOf N → Type 0
-IsOfShape (ParameterUnused s k) = ⊥
-IsOfShape (PlainArguments s k) = ⊥
-IsOfShape AtomLiteral = ⊥
-IsOfShape (PartIs c meta s from to) = ⊥
-IsOfShape (NoReturn c meta s from to) = ⊥
-IsOfShape (AssignsNoOuter c meta s from to) = ⊥
-IsOfShape (TempsSteady c meta s from to) = ⊥
-IsOfShape (ValueUnused c meta s from to) = ⊥
-IsOfShape (SelfSend c meta s from to) = ⊥
-IsOfShape (OneTarget c meta s) = ⊥
-IsOfShape (Inlinable c meta s) = ⊥
-IsOfShape (PlainActuals c meta s from to) = ⊥
-IsOfShape (NoCapture c meta s spot) = ⊥
-IsOfShape (NoNewControl c meta s spot) = ⊥
-IsOfShape (Declared c meta s x) = ⊥
-IsOfShape (NotIn c meta s x) = ⊥
-IsOfShape (LetForm c meta s x) = ⊥
-IsOfShape (FirstEvaluated c meta s from to) = ⊥
-IsOfShape Shallow = ⊥
-IsOfShape condition = Unit {0}
+-- all conditions but those that only commands which move code have
+abbrev pub IsOfNoMove : {N : Type 0} → ConditionOf N → Type 0
+IsOfNoMove (PartIs c meta s from to) = ⊥
+IsOfNoMove (NoReturn c meta s from to) = ⊥
+IsOfNoMove (AssignsNoOuter c meta s from to) = ⊥
+IsOfNoMove (TempsSteady c meta s from to) = ⊥
+IsOfNoMove (ValueUnused c meta s from to) = ⊥
+IsOfNoMove (SelfSend c meta s from to) = ⊥
+IsOfNoMove (OneTarget c meta s) = ⊥
+IsOfNoMove (Inlinable c meta s) = ⊥
+IsOfNoMove (PlainActuals c meta s from to) = ⊥
+IsOfNoMove (NoCapture c meta s spot) = ⊥
+IsOfNoMove (NoNewControl c meta s spot) = ⊥
+IsOfNoMove (LetForm c meta s x) = ⊥
+IsOfNoMove (FirstEvaluated c meta s from to) = ⊥
+IsOfNoMove condition = Unit {0}

@@ -1,6 +1,6 @@
 -- The conditions of parameters and of heights.
 use Rattle.std.specs.Prelude.{ℕ, ◌-◌, Bool, true, false, not, ◌&&◌, ◌||◌, nat_le, List, [], ◌∷◌, slice_get, map, filter, if◌then◌else◌}
-use Rattle.std.specs.List.{list_all}
+use Rattle.std.specs.List.{list_all, list_any}
 use Rattle.std.specs.Option.{option_map_or}
 use Rattle.tree_model.specs.Tree.{TreeOf, var, literal, send, cascade, TreesOf, MessagesOf, no_messages, more_messages, MethodOf}
 use Rattle.tree_model.specs.Path.{nth}
@@ -11,6 +11,8 @@ use Rattle.scope_model.specs.Scope.{local_in}
 use Rattle.image_model.specs.Image.{EntryOf, DoItOf, ImageOf}
 use Rattle.image_model.specs.Means.{MeaningOf, undeclared}
 use Rattle.image_model.specs.Nodes.{NodeOf, image_nodes, means_in}
+use Rattle.image_model.specs.Uses.{is_sender}
+use Rattle.rename_model.specs.Conditions.{speaks_of}
 use Rattle.command_model.specs.Asked.{AskedOf}
 use Rattle.command_model.specs.Places.{is_formal}
 use Rattle.command_model.specs.Plain.{is_atom_literal}
@@ -36,6 +38,12 @@ abbrev pub is_shallow : {N : Type 0} → ImageOf N → Bool
 is_shallow i =
     list_all (λ (m : EntryOf _). m.kernel || nat_le (sequence_height m.tree.body) 200) i.methods
     && list_all (λ (d : DoItOf _). nat_le (sequence_height d.body) 200) i.doits
+
+-- so of each method of the user that has a selector or sends it, and of each do-it that sends it
+abbrev pub is_shallow_speaking : {N : Type 0} → (N → N → Bool) → N → ImageOf N → Bool
+is_shallow_speaking same s i =
+    list_all (λ (m : EntryOf _). m.kernel || (not (speaks_of same s m) || nat_le (sequence_height m.tree.body) 200)) i.methods
+    && list_all (λ (d : DoItOf _). not (list_any (λ e. is_sender same s e.1) (nodes d.body)) || nat_le (sequence_height d.body) 200) i.doits
 
 module _ {N : Type 0} (a : AskedOf N) where
   -- whether a node of a method reads that argument of it

@@ -1,14 +1,14 @@
 -- Which actions are lawful: those of which the laws of scripts speak.
 use Rattle.std.specs.Prelude.{◌≡◌}
 use Rattle.run_model.specs.Values.{Name}
-use Rattle.command_model.specs.Commands.{CommandOf, KeepsShape}
+use Rattle.command_model.specs.Commands.{CommandOf, MovesNoCode}
 use Rattle.command_model.specs.Accessors.{setter_selector, setter_argument}
 use Rattle.command_model.specs.Spelled.{IsSpelled, MayBeFiled}
 use Rattle.session_model.specs.Actions.{ActionOf, Single, CreateAccessors, ExtractSuperclass, PushUpWithMethods}
 
--- What the laws of scripts ask of a single command: it keeps the shape of code, and a method that it adds has a text that spells it and may stand as a chunk, so that the image after is valid and can be written.
+-- What the laws of scripts ask of a single command: it moves no code, and a method that it adds has a text that spells it and may stand as a chunk, so that the image after is valid and can be written.
 abbrev pub IsLawful : CommandOf Name → Type 0
-IsLawful command = KeepsShape command × IsSpelled command × MayBeFiled command
+IsLawful command = MovesNoCode command × IsSpelled command × MayBeFiled command
 
 -- the names in a setter of a variable
 pub record AreSetterNames (x setter parameter : Name) : Type 0 where
