@@ -6,13 +6,14 @@ use Rattle.image_model.specs.Image.{ImageOf, map_image}
 use Rattle.image_model.specs.ImageNames.{ImageNames}
 use Rattle.command_model.specs.Asked.{AskedOf, text_asked, no_parts}
 use Rattle.command_model.specs.Commands.{CommandOf, AddInstVar, RemoveClass}
-use Rattle.command_model.specs.Conditions.{ConditionOf, NoReflection, IsUserClass, HasVariable, IsOfShape}
+use Rattle.command_model.specs.Conditions.{ConditionOf, NoReflection, IsUserClass, HasVariable}
 use Rattle.command_model.specs.Located.{Locating}
 use Rattle.command_model.specs.Numbers.{number_asked}
 use Rattle.command_model.specs.Holds.{holds}
 use Rattle.rename_model.specs.Conditions.{has_no_reflection}
 use Rattle.command_numbers.specs.CommandNames.{CommandNames, ConditionNames}
 use Rattle.command_numbers.specs.MappedCommands.{map_command, map_condition}
+use Rattle.command_numbers.specs.WithoutMove.{IsWithoutMove}
 use Rattle.session_model.specs.Actions.{ActionOf, Single, CreateAccessors, ExtractSuperclass, PushUpWithMethods}
 use Rattle.session_model.specs.OwnConditions.{first_own_false}
 use Rattle.commands.specs.Actions.{ActionNames, map_action}
@@ -22,7 +23,7 @@ use Rattle.commands.specs.Views.{asked_by}
 abbrev pub HoldsByNumbers : Type 0
 HoldsByNumbers =
     (names : List (List ℕ)) (self_number : ℕ) (part_of : Locating) (i : ImageOf ℕ) (command : CommandOf ℕ) (condition : ConditionOf ℕ) → HasNoTwice names → ImageNames (λ n. n < length names) i
-    → CommandNames (λ n. n < length names) command → ConditionNames (λ n. n < length names) condition → IsOfShape condition
+    → CommandNames (λ n. n < length names) command → ConditionNames (λ n. n < length names) condition → IsWithoutMove command condition
     → holds text_asked (map_image (name_at names) i) (map_command (name_at names) command) (map_condition (name_at names) condition) ≡ holds (number_asked names self_number part_of) i command condition
 
 -- a condition, and whether it holds; the first one that does not

@@ -4,9 +4,10 @@ use Rattle.std.specs.Result.{result_map_both}
 use Rattle.std.proofs.lemmas.Simd.{map-map}
 use Rattle.tree_model.specs.Tree.{LiteralOf, TreeOf, literal, map_literal}
 use Rattle.tree_model.proofs.MapNames.{map_names-id, map_names-map_names, map_method-id, map_method-map_method}
-use Rattle.command_model.specs.Commands.{CommandOf, RenameClass, AddClass, AddMethod, AddParameter, KeepsShape}
-use Rattle.command_model.specs.Conditions.{AtPart, AtName, ConditionOf, NoReflection, NoCapture, NoNewControl, IsOfShape}
+use Rattle.command_model.specs.Commands.{CommandOf, RenameClass, AddClass, AddMethod, AddParameter, MovesNoCode}
+use Rattle.command_model.specs.Conditions.{AtPart, AtName, ConditionOf, NoReflection, NoCapture, NoNewControl, Shallow}
 use Rattle.command_numbers.specs.MappedCommands.{map_command, map_condition}
+use Rattle.command_numbers.specs.WithoutMove.{IsWithoutMove}
 
 -- the literal that a node is
 abbrev literal_of : {N : Type 0} → LiteralOf N → TreeOf N → LiteralOf N
@@ -46,14 +47,14 @@ map_condition-id (NoNewControl c meta s (AtPart from to)) = refl
 map_condition-id (NoNewControl c meta s (AtName x)) = refl
 map_condition-id condition = refl
 
--- the shape of code is kept whichever names there are
-pub shape-unmapped : {M N : Type 0} (f : M → N) (command : CommandOf M) → KeepsShape (map_command f command) → KeepsShape command
-shape-unmapped f (RenameClass c d) shape = shape
-shape-unmapped f command shape = shape
+-- whether a command moves code does not hang on names
+pub no_move-unmapped : {M N : Type 0} (f : M → N) (command : CommandOf M) → MovesNoCode (map_command f command) → MovesNoCode command
+no_move-unmapped f (RenameClass c d) still = still
+no_move-unmapped f command still = still
 
-pub of_shape-unmapped : {M N : Type 0} (f : M → N) (condition : ConditionOf M) → IsOfShape (map_condition f condition) → IsOfShape condition
-of_shape-unmapped f NoReflection shape = shape
-of_shape-unmapped f condition shape = shape
+pub without_move-unmapped : {M N : Type 0} (f : M → N) (command : CommandOf M) (condition : ConditionOf M) → IsWithoutMove (map_command f command) (map_condition f condition) → IsWithoutMove command condition
+without_move-unmapped f command Shallow still = no_move-unmapped f command still
+without_move-unmapped f command condition still = still
 
 -- lists, options and results that are mapped by what changes nothing
 pub list-same : {X : Type 0} (g : X → X) → ((x : X) → g x ≡ x) → (xs : List X) → map g xs ≡ xs

@@ -11,6 +11,11 @@ mod VariableConditionsMapped
 mod MethodConditionsMapped
 mod TreesRenamed
 mod ChangedAtPlaces
+mod TreesRebuilt
+mod ParametersMapped
+mod TemporariesMapped
+mod ParameterConditionsMapped
+mod CodeMapped
 mod ClassRenamedMapped
 mod VariableRenamedMapped
 mod SelectorRenamedMapped

@@ -1,6 +1,6 @@
 -- Lists and options that are mapped, and what is asked of each item.
-use Rattle.std.proofs.Common.{◌≡◌, ℕ, zero, suc, ◌+◌, Bool, true, false, cond, ◌||◌, ◌&&◌, List, [], ◌∷◌, ◌++◌, map, filter, flat_map, slice_get, is_some, is_none, Option, Some, None, option_map, refl, sym, ap, ◌∙◌}
-use Rattle.std.specs.List.{list_any, list_all, enumerate_from}
+use Rattle.std.proofs.Common.{◌≡◌, ℕ, zero, suc, ◌+◌, Bool, true, false, cond, ◌||◌, ◌&&◌, List, [], ◌∷◌, ◌++◌, map, filter, filter_map, flat_map, slice_get, is_some, is_none, Option, Some, None, option_map, refl, sym, ap, ◌∙◌}
+use Rattle.std.specs.List.{list_any, list_all, enumerate_from, cons_option}
 use Rattle.std.specs.Option.{option_map_or, option_eq}
 use Rattle.std.proofs.lemmas.List.{map-append}
 use Rattle.scope_model.specs.Control.{is_empty}
@@ -81,6 +81,14 @@ module _ {X Y : Type 0} (g : X → Y) where
   pub flat-total : {A B : Type 0} (h : A → B) (p : X → List A) (q : Y → List B) → ((x : X) → q (g x) ≡ map h (p x)) → (xs : List X) → flat_map q (map g xs) ≡ map h (flat_map p xs)
   flat-total h p q e [] = refl
   flat-total h p q e (x ∷ xs) = (λ i. e x i ++ flat-total h p q e xs i) ∙ sym (map-append h (p x) (flat_map p xs))
+
+  pub filter_map-total : {A B : Type 0} (h : A → B) (p : X → Option A) (q : Y → Option B) → ((x : X) → q (g x) ≡ option_map h (p x)) → (xs : List X) → filter_map q (map g xs) ≡ map h (filter_map p xs)
+  filter_map-total h p q e [] = refl
+  filter_map-total h p q e (x ∷ xs) = (λ i. cons_option (e x i) (filter_map-total h p q e xs i)) ∙ by (p x)
+    where
+      by : (o : Option _) → cons_option (option_map h o) (map h (filter_map p xs)) ≡ map h (cons_option o (filter_map p xs))
+      by None = refl
+      by (Some y) = refl
 
   -- options whose items are compared
   module _ (p : X → X → Bool) (q : Y → Y → Bool) (e : (x y : X) → q (g x) (g y) ≡ p x y) where

@@ -51,7 +51,7 @@ module _ {M N : Type 0} (f : M → N) (w : WordsOf M) (v : WordsOf N) (keeps : K
   are_of_one_side-map : (m n : EntryOf M) → are_of_one_side v.tests.same (map_entry f m) (map_entry f n) ≡ are_of_one_side w.tests.same m n
   are_of_one_side-map m n = λ i. option_eq-total f w.tests.same v.tests.same (same-map f w v keeps) m.class n.class i && beq m.meta n.meta
 
-  code-map : (m n : MethodOf M) → same_code v.tests.same (map_method f m) (map_method f n) ≡ same_code w.tests.same m n
+  pub code-map : (m n : MethodOf M) → same_code v.tests.same (map_method f m) (map_method f n) ≡ same_code w.tests.same m n
   code-map m n = code_mapped f v.tests.same m n ∙ (λ k. same_code (λ x y. same-map f w v keeps x y k) m n)
 
   module _ (p : M → Bool) (q : N → Bool) (e : (n : M) → q (f n) ≡ p n) where

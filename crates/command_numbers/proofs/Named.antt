@@ -11,8 +11,8 @@ use Rattle.image_model.specs.ImageNames.{OptionNames, ImageNames}
 use Rattle.image_model.proofs.Lists.{all-map, find-all}
 use Rattle.image_model.proofs.MapImage.{map_image-map_image, ImageNames-map_image}
 use Rattle.rename_model.specs.ClassRenamed.{WritingOf}
-use Rattle.command_model.specs.Commands.{CommandOf, KeepsShape}
-use Rattle.command_model.specs.Conditions.{ConditionOf, IsOfShape}
+use Rattle.command_model.specs.Commands.{CommandOf, MovesNoCode}
+use Rattle.command_model.specs.Conditions.{ConditionOf}
 use Rattle.command_model.specs.Asked.{AskedOf}
 use Rattle.command_model.specs.Needs.{needs}
 use Rattle.command_model.specs.Holds.{holds}
@@ -21,9 +21,10 @@ use Rattle.command_model.specs.Judged.{first_false, judged}
 use Rattle.command_numbers.specs.MappedCommands.{map_command, map_condition}
 use Rattle.command_numbers.specs.CommandNames.{CommandNames, ConditionNames}
 use Rattle.command_numbers.specs.KeepsAsked.{KeepsAsked, KeepsWriting}
+use Rattle.command_numbers.specs.WithoutMove.{IsWithoutMove}
 use Rattle.command_numbers.proofs.Everywhere.{Every, every_item, every_sequence, every_method, every_image}
 use Rattle.command_numbers.proofs.Restricted.{Restricted, plain, condition_names, some_name, by_restricted, by_restricted_condition}
-use Rattle.command_numbers.proofs.CommandsMapped.{map_command-map_command, map_condition-map_condition, shape-unmapped, of_shape-unmapped, option-twice, list-twice}
+use Rattle.command_numbers.proofs.CommandsMapped.{map_command-map_command, map_condition-map_condition, no_move-unmapped, without_move-unmapped, option-twice, list-twice}
 use Rattle.command_numbers.proofs.JudgedMapped.{needs-map, holds-map, first_false-map, effect-map}
 
 -- what is asked of names that have a fact, as of any others, one of which stands for `self`
@@ -80,32 +81,33 @@ module _ {M : Type 0} (P : M → Type 0) (a : AskedOf M) where
       arity = λ x t. refl;
     };
     is_super = λ x t. refl;
+    is_constant = λ x t. refl;
   }
 
   -- the names in the conditions of a command
-  pub needs-names : (i : ImageOf M) (command : CommandOf M) → ImageNames P i → CommandNames P command → KeepsShape command → AllByRecursion (ConditionNames P) (needs a i command)
-  needs-names = by_restricted P (λ i command. KeepsShape command → AllByRecursion (ConditionNames P) (needs a i command)) (λ k c shape.
-      subst (λ (cs : List (ConditionOf M)). AllByRecursion (ConditionNames P) cs) (sym (needs-map (plain P) (restricted P (some_name P c) a) a (as_plain (some_name P c)) k c (shape-unmapped (plain P) c shape)))
+  pub needs-names : (i : ImageOf M) (command : CommandOf M) → ImageNames P i → CommandNames P command → MovesNoCode command → AllByRecursion (ConditionNames P) (needs a i command)
+  needs-names = by_restricted P (λ i command. MovesNoCode command → AllByRecursion (ConditionNames P) (needs a i command)) (λ k c still.
+      subst (λ (cs : List (ConditionOf M)). AllByRecursion (ConditionNames P) cs) (sym (needs-map (plain P) (restricted P (some_name P c) a) a (as_plain (some_name P c)) k c (no_move-unmapped (plain P) c still)))
       (all-map (ConditionNames P) (map_condition (plain P)) (needs (restricted P (some_name P c) a) k c)
       (every_item (λ (x : ConditionOf (Restricted P)). ConditionNames P (map_condition (plain P) x)) (condition_names P) (needs (restricted P (some_name P c) a) k c))))
 
-  pub first_false-names : (i : ImageOf M) (command : CommandOf M) → ImageNames P i → CommandNames P command → KeepsShape command → OptionNames (ConditionNames P) (first_false a i command)
-  first_false-names i command p q shape =
-      find-all (ConditionNames P) (λ condition. not (holds a i command condition)) (needs a i command) (needs-names i command p q shape)
+  pub first_false-names : (i : ImageOf M) (command : CommandOf M) → ImageNames P i → CommandNames P command → MovesNoCode command → OptionNames (ConditionNames P) (first_false a i command)
+  first_false-names i command p q still =
+      find-all (ConditionNames P) (λ condition. not (holds a i command condition)) (needs a i command) (needs-names i command p q still)
 
   module _ (writing : WritingOf M) where
     plain_writing : KeepsWriting Every (plain P) (restricted_writing P writing) writing
     plain_writing = record { method_text = λ m t. refl; doit_text = λ d t. refl }
 
     -- the names in the image after
-    pub effect-names : (i : ImageOf M) (command : CommandOf M) → ImageNames P i → CommandNames P command → KeepsShape command → ImageNames P (effect a writing command i)
-    effect-names = by_restricted P (λ i command. KeepsShape command → ImageNames P (effect a writing command i)) (λ k c shape.
+    pub effect-names : (i : ImageOf M) (command : CommandOf M) → ImageNames P i → CommandNames P command → MovesNoCode command → ImageNames P (effect a writing command i)
+    effect-names = by_restricted P (λ i command. MovesNoCode command → ImageNames P (effect a writing command i)) (λ k c still.
         subst (λ (i : ImageOf M). ImageNames P i)
-        (sym (effect-map (plain P) (restricted P (some_name P c) a) a (as_plain (some_name P c)) k (restricted_writing P writing) writing plain_writing c (shape-unmapped (plain P) c shape)))
+        (sym (effect-map (plain P) (restricted P (some_name P c) a) a (as_plain (some_name P c)) k (restricted_writing P writing) writing plain_writing c (no_move-unmapped (plain P) c still)))
         (ImageNames-map_image P (plain P) (effect (restricted P (some_name P c) a) (restricted_writing P writing) c k) (every_image (λ (x : Restricted P). P x.0) (λ x. x.1) (effect (restricted P (some_name P c) a) (restricted_writing P writing) c k))))
 
-    pub judged-names : (i : ImageOf M) (command : CommandOf M) → ImageNames P i → CommandNames P command → KeepsShape command → IfOk (judged a writing i command) (ImageNames P)
-    judged-names i command p q shape = by (first_false a i command) (effect-names i command p q shape)
+    pub judged-names : (i : ImageOf M) (command : CommandOf M) → ImageNames P i → CommandNames P command → MovesNoCode command → IfOk (judged a writing i command) (ImageNames P)
+    judged-names i command p q still = by (first_false a i command) (effect-names i command p q still)
       where
         by : (o : Option (ConditionOf M)) → ImageNames P (effect a writing command i) → IfOk {T = ImageOf M} {E = ConditionOf M} (option_map_or (λ c. Err c) o (Ok (effect a writing command i))) (ImageNames P)
         by None r = r
@@ -140,36 +142,37 @@ module _ {M N : Type 0} (P : M → Type 0) (f : M → N) (a : AskedOf M) (b : As
       arity = λ x t. keeps.command_words.arity x.0 x.1;
     };
     is_super = λ x t. keeps.is_super x.0 x.1;
+    is_constant = λ x t. keeps.is_constant x.0 x.1;
   }
 
   -- the conditions of a command
-  pub needs-named : (i : ImageOf M) (command : CommandOf M) → ImageNames P i → CommandNames P command → KeepsShape command
+  pub needs-named : (i : ImageOf M) (command : CommandOf M) → ImageNames P i → CommandNames P command → MovesNoCode command
       → needs b (map_image f i) (map_command f command) ≡ map (map_condition f) (needs a i command)
-  needs-named = by_restricted P (λ i command. KeepsShape command → needs b (map_image f i) (map_command f command) ≡ map (map_condition f) (needs a i command)) (λ k c shape.
+  needs-named = by_restricted P (λ i command. MovesNoCode command → needs b (map_image f i) (map_command f command) ≡ map (map_condition f) (needs a i command)) (λ k c still.
       (λ j. needs b (map_image-map_image f (plain P) k j) (map_command-map_command f (plain P) c j))
-      ∙ needs-map changed (restricted P (some_name P c) a) b (kept (some_name P c)) k c (shape-unmapped (plain P) c shape)
+      ∙ needs-map changed (restricted P (some_name P c) a) b (kept (some_name P c)) k c (no_move-unmapped (plain P) c still)
       ∙ sym (list-twice (map_condition f) (map_condition (plain P)) (map_condition changed) (map_condition-map_condition f (plain P)) (needs (restricted P (some_name P c) a) k c))
-      ∙ ap (map (map_condition f)) (sym (needs-map (plain P) (restricted P (some_name P c) a) a (as_plain P a (some_name P c)) k c (shape-unmapped (plain P) c shape))))
+      ∙ ap (map (map_condition f)) (sym (needs-map (plain P) (restricted P (some_name P c) a) a (as_plain P a (some_name P c)) k c (no_move-unmapped (plain P) c still))))
 
   -- whether a condition holds
-  pub holds-named : (i : ImageOf M) (command : CommandOf M) (condition : ConditionOf M) → ImageNames P i → CommandNames P command → ConditionNames P condition → IsOfShape condition
+  pub holds-named : (i : ImageOf M) (command : CommandOf M) (condition : ConditionOf M) → ImageNames P i → CommandNames P command → ConditionNames P condition → IsWithoutMove command condition
       → holds b (map_image f i) (map_command f command) (map_condition f condition) ≡ holds a i command condition
-  holds-named i command condition p q r of =
-      by_restricted P (λ i command. holds b (map_image f i) (map_command f command) (map_condition f condition) ≡ holds a i command condition) (λ k c.
-      by_restricted_condition P (λ x. IsOfShape x → holds b (map_image f (map_image (plain P) k)) (map_command f (map_command (plain P) c)) (map_condition f x) ≡ holds a (map_image (plain P) k) (map_command (plain P) c) x) (λ x of_x.
+  holds-named i command condition p q r =
+      by_restricted P (λ i command. IsWithoutMove command condition → holds b (map_image f i) (map_command f command) (map_condition f condition) ≡ holds a i command condition) (λ k c.
+      by_restricted_condition P (λ x. IsWithoutMove (map_command (plain P) c) x → holds b (map_image f (map_image (plain P) k)) (map_command f (map_command (plain P) c)) (map_condition f x) ≡ holds a (map_image (plain P) k) (map_command (plain P) c) x) (λ x still.
       (λ j. holds b (map_image-map_image f (plain P) k j) (map_command-map_command f (plain P) c j) (map_condition-map_condition f (plain P) x j))
-      ∙ holds-map changed (restricted P (some_name P c) a) b (kept (some_name P c)) k c x (of_shape-unmapped (plain P) x of_x)
-      ∙ sym (holds-map (plain P) (restricted P (some_name P c) a) a (as_plain P a (some_name P c)) k c x (of_shape-unmapped (plain P) x of_x)))
-      condition r of) i command p q
+      ∙ holds-map changed (restricted P (some_name P c) a) b (kept (some_name P c)) k c x (without_move-unmapped (plain P) c x still)
+      ∙ sym (holds-map (plain P) (restricted P (some_name P c) a) a (as_plain P a (some_name P c)) k c x (without_move-unmapped (plain P) c x still)))
+      condition r) i command p q
 
   -- the first condition that is false
-  pub first_false-named : (i : ImageOf M) (command : CommandOf M) → ImageNames P i → CommandNames P command → KeepsShape command
+  pub first_false-named : (i : ImageOf M) (command : CommandOf M) → ImageNames P i → CommandNames P command → MovesNoCode command
       → first_false b (map_image f i) (map_command f command) ≡ option_map (map_condition f) (first_false a i command)
-  first_false-named = by_restricted P (λ i command. KeepsShape command → first_false b (map_image f i) (map_command f command) ≡ option_map (map_condition f) (first_false a i command)) (λ k c shape.
+  first_false-named = by_restricted P (λ i command. MovesNoCode command → first_false b (map_image f i) (map_command f command) ≡ option_map (map_condition f) (first_false a i command)) (λ k c still.
       (λ j. first_false b (map_image-map_image f (plain P) k j) (map_command-map_command f (plain P) c j))
-      ∙ first_false-map changed (restricted P (some_name P c) a) b (kept (some_name P c)) k c (shape-unmapped (plain P) c shape)
+      ∙ first_false-map changed (restricted P (some_name P c) a) b (kept (some_name P c)) k c (no_move-unmapped (plain P) c still)
       ∙ sym (option-twice (map_condition f) (map_condition (plain P)) (map_condition changed) (map_condition-map_condition f (plain P)) (first_false (restricted P (some_name P c) a) k c))
-      ∙ ap (option_map (map_condition f)) (sym (first_false-map (plain P) (restricted P (some_name P c) a) a (as_plain P a (some_name P c)) k c (shape-unmapped (plain P) c shape))))
+      ∙ ap (option_map (map_condition f)) (sym (first_false-map (plain P) (restricted P (some_name P c) a) a (as_plain P a (some_name P c)) k c (no_move-unmapped (plain P) c still))))
 
   module _ (writing : WritingOf M) (writing_there : WritingOf N) (written : KeepsWriting P f writing writing_there) where
     kept_writing : KeepsWriting Every changed (restricted_writing P writing) writing_there
@@ -179,19 +182,19 @@ module _ {M N : Type 0} (P : M → Type 0) (f : M → N) (a : AskedOf M) (b : As
     }
 
     -- the image after
-    pub effect-named : (i : ImageOf M) (command : CommandOf M) → ImageNames P i → CommandNames P command → KeepsShape command
+    pub effect-named : (i : ImageOf M) (command : CommandOf M) → ImageNames P i → CommandNames P command → MovesNoCode command
         → effect b writing_there (map_command f command) (map_image f i) ≡ map_image f (effect a writing command i)
-    effect-named = by_restricted P (λ i command. KeepsShape command → effect b writing_there (map_command f command) (map_image f i) ≡ map_image f (effect a writing command i)) (λ k c shape.
+    effect-named = by_restricted P (λ i command. MovesNoCode command → effect b writing_there (map_command f command) (map_image f i) ≡ map_image f (effect a writing command i)) (λ k c still.
         (λ j. effect b writing_there (map_command-map_command f (plain P) c j) (map_image-map_image f (plain P) k j))
-        ∙ effect-map changed (restricted P (some_name P c) a) b (kept (some_name P c)) k (restricted_writing P writing) writing_there kept_writing c (shape-unmapped (plain P) c shape)
+        ∙ effect-map changed (restricted P (some_name P c) a) b (kept (some_name P c)) k (restricted_writing P writing) writing_there kept_writing c (no_move-unmapped (plain P) c still)
         ∙ sym (map_image-map_image f (plain P) (effect (restricted P (some_name P c) a) (restricted_writing P writing) c k))
-        ∙ ap (map_image f) (sym (effect-map (plain P) (restricted P (some_name P c) a) a (as_plain P a (some_name P c)) k (restricted_writing P writing) writing (plain_writing P a writing) c (shape-unmapped (plain P) c shape))))
+        ∙ ap (map_image f) (sym (effect-map (plain P) (restricted P (some_name P c) a) a (as_plain P a (some_name P c)) k (restricted_writing P writing) writing (plain_writing P a writing) c (no_move-unmapped (plain P) c still))))
 
     -- what becomes of a command
-    pub judged-named : (i : ImageOf M) (command : CommandOf M) → ImageNames P i → CommandNames P command → KeepsShape command
+    pub judged-named : (i : ImageOf M) (command : CommandOf M) → ImageNames P i → CommandNames P command → MovesNoCode command
         → judged b writing_there (map_image f i) (map_command f command) ≡ result_map_both (map_image f) (map_condition f) (judged a writing i command)
-    judged-named i command p q shape =
-        (λ j. option_map_or (λ (c : ConditionOf N). Err c) (first_false-named i command p q shape j) (Ok (effect-named i command p q shape j)))
+    judged-named i command p q still =
+        (λ j. option_map_or (λ (c : ConditionOf N). Err c) (first_false-named i command p q still j) (Ok (effect-named i command p q still j)))
         ∙ by (first_false a i command)
       where
         by : (o : Option (ConditionOf M)) → ◌≡◌ {A = Result (ImageOf N) (ConditionOf N)} (option_map_or (λ c. Err c) (option_map (map_condition f) o) (Ok (map_image f (effect a writing command i))))

@@ -12,7 +12,7 @@ use Rattle.st_kernel.specs.Selectors.{is_reflective_selector}
 use Rattle.rename_model.specs.CommandWords.{is_reflective_name, is_good_class_name, is_good_variable_name, is_good_selector, has_own_meaning, arity}
 use Rattle.rename_model.specs.ClassRenamed.{canonical}
 use Rattle.command_model.specs.Located.{Locating}
-use Rattle.command_model.specs.Asked.{text_asked}
+use Rattle.command_model.specs.Asked.{text_asked, is_constant_text}
 use Rattle.command_model.specs.Numbers.{number_asked, number_writing}
 use Rattle.command_numbers.specs.KeepsAsked.{KeepsAsked, KeepsWriting}
 
@@ -31,6 +31,7 @@ KeepsAsked-number_asked names self_number part_of distinct = record {
     arity = λ n h. refl;
   };
   is_super = λ n h. refl;
+  is_constant = λ n h. refl;
 }
 
 pub KeepsWriting-number_writing : (names : List (List ℕ)) → KeepsWriting (λ n. n < length names) (name_at names) (number_writing names) canonical
@@ -66,6 +67,7 @@ KeepsAsked-more names more self_number part_of = record {
     arity = λ n h. ap arity (name_at-more names more n h);
   };
   is_super = λ n h. ap (text_eq (codes "super")) (name_at-more names more n h);
+  is_constant = λ n h. ap is_constant_text (name_at-more names more n h);
 }
 
 pub KeepsWriting-more : (names more : List (List ℕ)) → KeepsWriting (λ n. n < length names) (λ n. n) (number_writing names) (number_writing (names ++ more))

@@ -1,5 +1,5 @@
-//! Whether a command that keeps the shape of code may be carried out in an image, and what it makes of it, is the same over
-//! the numbers of names in a table and over their texts.
+//! Whether a command that moves no code may be carried out in an image, and what it makes of it, is the same over the
+//! numbers of names in a table and over their texts.
 //!
 //! The functions of this crate are laws on the definitions: they do nothing.
 #![tactic(auto)]

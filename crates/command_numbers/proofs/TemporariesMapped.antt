@@ -1,0 +1,142 @@
+-- What `renameTemp` makes of a method, and which names a method declares, are the same once names are changed one to one.
+use Rattle.std.proofs.Common.{◌≡◌, ℕ, Bool, not, cond, ◌&&◌, ◌==◌, List, ◌++◌, map, filter, flat_map, length, Option, Some, None, option_map, option_and_then, refl, sym, ap, ◌∙◌}
+use Rattle.std.proofs.lemmas.List.{map-append}
+use Rattle.tree_model.specs.Tree.{var, literal, send, cascade, assign, block, brace, return, MethodOf, map_names, map_statements, map_sequence, map_method}
+use Rattle.tree_model.specs.Nodes.{Placed, nodes}
+use Rattle.tree_model.specs.Normal.{normal}
+use Rattle.tree_model.proofs.NodesLemmas.{nodes-map_sequence}
+use Rattle.tree_model.proofs.NormalLemmas.{normal-map_method}
+use Rattle.same_trees.specs.SameTrees.{same_code}
+use Rattle.scope_model.specs.Scope.{method_scope, local_in}
+use Rattle.scope_model.proofs.Changed.{local_in_scope-map_scope}
+use Rattle.image_model.specs.Image.{EntryOf, ImageOf, map_entry, map_image}
+use Rattle.image_model.specs.Words.{WordsOf, KeepsWords}
+use Rattle.image_model.specs.Lookup.{is_method, own_method}
+use Rattle.image_model.proofs.Lists.{length-map}
+use Rattle.rename_model.specs.NamesThere.{declared_by}
+use Rattle.rename_model.specs.ClassRenamed.{WritingOf}
+use Rattle.command_model.specs.Asked.{AskedOf}
+use Rattle.command_model.specs.Places.{users_method, is_local}
+use Rattle.command_model.specs.Walk.{Making, rebuilt_method}
+use Rattle.command_model.specs.Sequences.{retold, with_tree}
+use Rattle.command_model.specs.Temporaries.{declared_in, is_declared_once, temporary_renamed}
+use Rattle.command_numbers.specs.KeepsAsked.{KeepsAsked, KeepsWriting}
+use Rattle.command_numbers.proofs.Lists.{chosen, filter-total, map-total, flat-total}
+use Rattle.command_numbers.proofs.Everywhere.{Every, every_method}
+use Rattle.command_numbers.proofs.NodesAsked.{mapped_node, declared_by-map}
+use Rattle.command_numbers.proofs.Classes.{same-map, own_method-there, is_method-map}
+use Rattle.command_numbers.proofs.MethodConditionsMapped.{code-map}
+use Rattle.command_numbers.proofs.ChangedAtPlaces.{method_text}
+use Rattle.command_numbers.proofs.TreesRebuilt.{IsMadeAlike, rebuilt_method-map}
+
+-- the names that a method declares
+pub declared_in-map : {M N : Type 0} (f : M → N) (m : MethodOf M) → declared_in (map_method f m) ≡ map f (declared_in m)
+declared_in-map f m =
+    (λ i. sym (map-append f m.arguments m.body.temporaries) i ++ nodes_declare i)
+    ∙ sym (map-append f (m.arguments ++ m.body.temporaries) (flat_map (λ (e : Placed _). declared_by e.1) (nodes m.body)))
+  where
+    nodes_declare : flat_map (λ (e : Placed _). declared_by e.1) (nodes (map_sequence f m.body)) ≡ map f (flat_map (λ (e : Placed _). declared_by e.1) (nodes m.body))
+    nodes_declare =
+        ap (flat_map (λ (e : Placed _). declared_by e.1)) (nodes-map_sequence f m.body)
+        ∙ flat-total (mapped_node f) f (λ (e : Placed _). declared_by e.1) (λ (e : Placed _). declared_by e.1) (λ e. declared_by-map f e.1) (nodes m.body)
+
+-- a node that declares names of its own anew, and uses them so
+abbrev called : {N : Type 0} → (N → N) → (List ℕ → N → N) → Making N
+called new used path (var n) = var (used path n)
+called new used path (assign n t) = assign (used path n) t
+called new used path (block ps ts ss e) = block (map new ps) (map new ts) ss e
+called new used path t = t
+
+-- a method whose names are declared and used anew
+abbrev called_method : {N : Type 0} → (N → N) → (List ℕ → N → N) → MethodOf N → MethodOf N
+called_method new used m =
+    let n : MethodOf _ = rebuilt_method (called new used) m in
+    record n { arguments = map new n.arguments; body = record n.body { temporaries = map new n.body.temporaries } }
+
+module _ {M N : Type 0} (f : M → N) (new : M → M) (new_there : N → N) (e : (n : M) → new_there (f n) ≡ f (new n)) (used : List ℕ → M → M) (used_there : List ℕ → N → N) (u : (path : List ℕ) (n : M) → used_there path (f n) ≡ f (used path n)) where
+  called-map : IsMadeAlike f (called new used) (called new_there used_there)
+  called-map path (var n) = ap var (u path n)
+  called-map path (literal l) = refl
+  called-map path (send r s args) = refl
+  called-map path (cascade r ms) = refl
+  called-map path (assign n t) = ap (λ k. assign k (map_names f t)) (u path n)
+  called-map path (block ps ts ss d) = λ i. block (map-total f f new new_there e ps i) (map-total f f new new_there e ts i) (map_statements f ss) d
+  called-map path (brace ts) = refl
+  called-map path (return t) = refl
+
+  called_method-map : (m : MethodOf M) → called_method new_there used_there (map_method f m) ≡ map_method f (called_method new used m)
+  called_method-map m = λ i. record (anew i) {
+    arguments = map-total f f new new_there e m.arguments i;
+    body = record (anew i).body { temporaries = map-total f f new new_there e m.body.temporaries i };
+  }
+    where
+      anew : rebuilt_method (called new_there used_there) (map_method f m) ≡ map_method f (rebuilt_method (called new used) m)
+      anew = rebuilt_method-map f (called new used) (called new_there used_there) called-map m
+
+module _ {M N : Type 0} (f : M → N) (w : WordsOf M) (v : WordsOf N) (keeps : KeepsWords Every f w v) where
+  -- what a name stands for at a place of a method
+  pub local_in-there : (m : MethodOf M) (path : List ℕ) (n : M) → local_in v.tests.same v.tests.is_pseudo (map_method f m) path (f n) ≡ local_in w.tests.same w.tests.is_pseudo m path n
+  local_in-there m path n =
+      local_in_scope-map_scope Every f w.tests v.tests keeps.tests (method_scope m) path n
+      (record { arguments = (every_method Every (λ k. tt) m).arguments; temporaries = (every_method Every (λ k. tt) m).body.temporaries; statements = (every_method Every (λ k. tt) m).body.statements }) tt
+
+  -- the method of a user
+  pub users_method-map : (i : ImageOf M) (c : M) (meta : Bool) (s : M) → users_method v.tests.same (map_image f i) (f c) meta (f s) ≡ option_map (map_entry f) (users_method w.tests.same i c meta s)
+  users_method-map i c meta s =
+      ap (option_and_then (λ (m : EntryOf N). cond m.kernel None (Some m))) (own_method-there f w v keeps i.methods c meta s) ∙ by (own_method w.tests.same i.methods c meta s)
+    where
+      by : (o : Option (EntryOf M)) → option_and_then (λ (m : EntryOf N). cond m.kernel None (Some m)) (option_map (map_entry f) o) ≡ option_map (map_entry f) (option_and_then (λ (m : EntryOf M). cond m.kernel None (Some m)) o)
+      by None = refl
+      by (Some m) = chosen (option_map (map_entry f)) m.kernel m.kernel None (Some m) None (Some (map_entry f m)) refl refl refl
+
+  module _ (writing : WritingOf M) (writing_there : WritingOf N) (written : KeepsWriting Every f writing writing_there) where
+    -- a method with another tree
+    retold-map : (m : EntryOf M) (tree : MethodOf M) → retold v.tests.same writing_there (map_entry f m) (map_method f tree) ≡ map_entry f (retold w.tests.same writing m tree)
+    retold-map m tree =
+        chosen (map_entry f) (same_code w.tests.same m.tree (normal tree)) (same_code v.tests.same (map_method f m.tree) (normal (map_method f tree)))
+        m (record m { tree = normal tree; source = writing.method_text (normal tree) }) (map_entry f m) (record (map_entry f m) { tree = normal (map_method f tree); source = writing_there.method_text (normal (map_method f tree)) })
+        (ap (same_code v.tests.same (map_method f m.tree)) (normal-map_method f tree) ∙ code-map f w v keeps m.tree (normal tree)) refl
+        (λ j. record (map_entry f m) { tree = normal-map_method f tree j; source = method_text f w v keeps writing writing_there written (normal tree) (normal (map_method f tree)) (normal-map_method f tree) j })
+
+    -- an image with it
+    pub with_tree-map : (c : M) (meta : Bool) (s : M) (tree : MethodOf M) (i : ImageOf M)
+        → with_tree v.tests.same writing_there (f c) meta (f s) (map_method f tree) (map_image f i) ≡ map_image f (with_tree w.tests.same writing c meta s tree i)
+    with_tree-map c meta s tree i = λ j. record (map_image f i) {
+      methods = map-total (map_entry f) (map_entry f) (λ (m : EntryOf M). cond (is_method w.tests.same c meta s m && not m.kernel) (retold w.tests.same writing m tree) m)
+          (λ (m : EntryOf N). cond (is_method v.tests.same (f c) meta (f s) m && not m.kernel) (retold v.tests.same writing_there m (map_method f tree)) m)
+          (λ m. chosen (map_entry f) (is_method w.tests.same c meta s m && not m.kernel) (is_method v.tests.same (f c) meta (f s) (map_entry f m) && not m.kernel) (retold w.tests.same writing m tree) m
+          (retold v.tests.same writing_there (map_entry f m) (map_method f tree)) (map_entry f m) (λ k. is_method-map f w v keeps c meta s m k && not m.kernel) (retold-map m tree) refl) i.methods j;
+    }
+
+module _ {M N : Type 0} (f : M → N) (a : AskedOf M) (b : AskedOf N) (keeps : KeepsAsked Every f a b) where
+  -- whether a method declares a name once
+  pub is_declared_once-map : (m : MethodOf M) (x : M) → is_declared_once b (map_method f m) (f x) ≡ is_declared_once a m x
+  is_declared_once-map m x =
+      ap (λ (k : ℕ). k == 1)
+      (ap (λ (ns : List N). length (filter (b.words.tests.same (f x)) ns)) (declared_in-map f m)
+      ∙ ap length (filter-total f (a.words.tests.same x) (b.words.tests.same (f x)) (same-map f a.words b.words keeps.words x) (declared_in m))
+      ∙ length-map f (filter (a.words.tests.same x) (declared_in m)))
+
+  -- a method in which an argument, a parameter or a temporary has another name
+  pub temporary_renamed-map : (m : MethodOf M) (x y : M) → temporary_renamed b (map_method f m) (f x) (f y) ≡ map_method f (temporary_renamed a m x y)
+  temporary_renamed-map m x y = called_method-map f new new_there declared used used_there uses m
+    where
+      new : M → M
+      new n = cond (a.words.tests.same x n) y n
+
+      new_there : N → N
+      new_there n = cond (b.words.tests.same (f x) n) (f y) n
+
+      used : List ℕ → M → M
+      used path n = cond (is_local (local_in a.words.tests.same a.words.tests.is_pseudo m path n)) (new n) n
+
+      used_there : List ℕ → N → N
+      used_there path n = cond (is_local (local_in b.words.tests.same b.words.tests.is_pseudo (map_method f m) path n)) (new_there n) n
+
+      declared : (n : M) → new_there (f n) ≡ f (new n)
+      declared n = chosen f (a.words.tests.same x n) (b.words.tests.same (f x) (f n)) y n (f y) (f n) (same-map f a.words b.words keeps.words x n) refl refl
+
+      uses : (path : List ℕ) (n : M) → used_there path (f n) ≡ f (used path n)
+      uses path n =
+          chosen f (is_local (local_in a.words.tests.same a.words.tests.is_pseudo m path n)) (is_local (local_in b.words.tests.same b.words.tests.is_pseudo (map_method f m) path (f n)))
+          (new n) n (new_there (f n)) (f n) (ap is_local (local_in-there f a.words b.words keeps.words m path n)) (declared n) refl
