@@ -18,18 +18,17 @@ ghost use Rattle.session_model.specs.KeepsRuns.{IsSound, AllKeepRuns, IsKept};
 
 use bare_model::law_bare_runs;
 use effect_laws::law_effect_valid;
-use file_out_laws::law_commands;
+use file_out_laws::law_matched_commands;
 use history_laws::law_history;
 use kernel_image::{every_image_is_read_again, every_image_is_valid};
 
-/// Each lawful command keeps runs. It is one that keeps the shape of code, where the text of a method that it adds spells it and
-/// may stand as a chunk. Where none of its conditions is false in a valid image behind the kernel, the image after is valid, can
-/// be written where the image before can, has the kernel first where that has, and is matched by it up to what the command
-/// renames.
+/// Each lawful command keeps runs. It is one that moves no code, where the text of a method that it adds spells it and may stand
+/// as a chunk. Where none of its conditions is false in a valid image behind the kernel, the image after is valid, can be written
+/// where the image before can, has the kernel first where that has, and is matched by it up to what the command renames.
 pub fn law_effect()
     ensures { (kernel : ImageOf Name) → IsKernelOf Second prelude_text kernel → AllKeepRuns kernel }
 {
-    law_commands();
+    law_matched_commands();
     law_effect_valid();
 }
 

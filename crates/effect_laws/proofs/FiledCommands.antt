@@ -17,12 +17,12 @@ use Rattle.rename_model.specs.Conditions.{is_user_class}
 use Rattle.rename_model.specs.ClassRenamed.{canonical}
 use Rattle.rename_model.specs.VariableRenamed.{variable_renamed}
 use Rattle.command_model.specs.Asked.{text_asked}
-use Rattle.command_model.specs.Commands.{CommandOf, RenameClass, AddClass, RemoveClass, AddInstVar, RenameInstVar, RemoveInstVar, PushUpInstVar, PushDownInstVar, AddClassVar, RenameClassVar, RemoveClassVar, PushUpClassVar, PushDownClassVar, AddClassSideVar, RenameClassSideVar, RemoveClassSideVar, RenameSelector, AddMethod, RemoveMethod, PushUpMethod, PushDownMethod, KeepsShape}
+use Rattle.command_model.specs.Commands.{CommandOf, RenameClass, AddClass, RemoveClass, AddInstVar, RenameInstVar, RemoveInstVar, PushUpInstVar, PushDownInstVar, AddClassVar, RenameClassVar, RemoveClassVar, PushUpClassVar, PushDownClassVar, AddClassSideVar, RenameClassSideVar, RemoveClassSideVar, RenameSelector, AddMethod, RemoveMethod, PushUpMethod, PushDownMethod, AddParameter, RemoveParameter, RenameTemp, MovesNoCode}
 use Rattle.command_model.specs.Hierarchy.{superclass_name, is_method_of, receivers}
 use Rattle.command_model.specs.Effects.{effect}
 use Rattle.command_model.specs.MethodEffects.{new_method, of_class_named}
 use Rattle.command_model.specs.VariableEffects.{class_pushed_up, shared_moved}
-use Rattle.command_model.specs.Spelled.{MayBeFiled}
+use Rattle.command_model.specs.Spelled.{IsSpelled, MayBeFiled}
 use Rattle.command_model.specs.AllHold.{AllHold}
 use Rattle.effect_laws.proofs.Items.{In, in_either, filter_in, map_in, flat_in}
 use Rattle.effect_laws.proofs.Sound.{IsSound}
@@ -32,7 +32,9 @@ use Rattle.effect_laws.proofs.VariableCode.{doit_means_none, none_means, off_doi
 use Rattle.effect_laws.proofs.RenamesKept.{kernel_silent, without_meaning, fresh_selector, rename_inst, rename_shared, rename_class_side}
 use Rattle.effect_laws.proofs.VariableWritten.{method_written, doit_same}
 use Rattle.effect_laws.proofs.Filed.{IsFiled, IsQuiet, quiet_filed, quiet_option, not_reflective}
+use Rattle.effect_laws.proofs.TemporariesKept.{temporary_filed}
 use Rattle.effect_laws.proofs.FiledRenames.{class_filed, selector_filed, variable_filed}
+use Rattle.effect_laws.proofs.FiledParameters.{add_parameter_filed, remove_parameter_filed}
 
 -- other classes alone
 same_code : (i : ImageOf Text) (cs : List (ClassOf Text)) → IsQuiet i (record i { classes = cs })
@@ -89,7 +91,7 @@ module _ (kernel i : ImageOf Text) (s : IsSound kernel i) (whole : IsWhole kerne
       (without_meaning i n h.new_not_kernel) (not_reflective i (RenameSelector o n) h.no_reflection) filed
 
   -- each command
-  pub kept_filed : (command : CommandOf Text) → KeepsShape command → MayBeFiled command → AllHold text_asked i command → IsFiled (effect text_asked canonical command i)
+  pub kept_filed : (command : CommandOf Text) → MovesNoCode command → IsSpelled command × MayBeFiled command → AllHold text_asked i command → IsFiled (effect text_asked canonical command i)
   kept_filed (RenameClass c d) shape t h = let u = user_class i c h.user_class in class_filed kernel i s whole c d u.0 u.1 u.2 h.good_name h.unused_name (not_reflective i (RenameClass c d) h.no_reflection) filed
   kept_filed (AddClass d p under) shape t h = quiet_filed i _ filed (same_code i _)
   kept_filed (RemoveClass c) shape t h =
@@ -108,9 +110,12 @@ module _ (kernel i : ImageOf Text) (s : IsSound kernel i) (whole : IsWhole kerne
   kept_filed (RenameClassSideVar c x y) shape t h = renamed_filed of_class_side c x y h.user_class (rename_class_side kernel i s whole c x y h)
   kept_filed (RemoveClassSideVar c x) shape t h = quiet_filed i _ filed (same_code i _)
   kept_filed (RenameSelector o n) shape t h = selector_kept o n h
-  kept_filed (AddMethod c meta protocol text tree) shape t h = added i (new_method c meta protocol text tree) filed (λ u. t)
+  kept_filed (AddMethod c meta protocol text tree) shape t h = added i (new_method c meta protocol text tree) filed (λ u. t.1)
   kept_filed (RemoveMethod c meta v) shape t h =
       quiet_filed i _ filed (record { sources = λ m k u. (m, (filter_in (λ n. not (is_method text_eq c meta v n)) i.methods m k).0, u, refl); doits = refl; heads = refl })
   kept_filed (PushUpMethod c meta v) shape t h = quiet_filed i _ filed (quiet_option i (λ p. record i { methods = map (λ m. if is_method text_eq c meta v m then of_class_named m p else m) i.methods }) (λ p. pushed_up i c meta v p) (superclass_name text_eq i c))
   kept_filed (PushDownMethod c meta v) shape t h = quiet_filed i _ filed (pushed_down i c meta v (receivers text_eq i c meta v))
+  kept_filed (AddParameter o n x passed) shape t h = add_parameter_filed kernel i s whole filed o n x passed t.0.0 t.0.1 h
+  kept_filed (RemoveParameter o k n) shape t h = remove_parameter_filed kernel i s whole filed o k n h
+  kept_filed (RenameTemp c meta v x y) shape t h = temporary_filed kernel i s c meta v x y h filed
   kept_filed command shape t h = absurd shape

@@ -1,11 +1,13 @@
 -- The classes and methods of the kernel stay before those of the user.
 use Rattle.std.proofs.Common.{◌≡◌, ◌⊎◌, inl, inr, Bool, true, false, not, cond, List, [], ◌∷◌, ◌++◌, map, Option, Some, None, refl, sym, ap, subst, ◌∙◌}
-use Rattle.std.specs.Prelude.{if◌then◌else◌, filter}
+use Rattle.std.specs.Prelude.{◌-◌, if◌then◌else◌, filter, remove, option_and_then, option_map, unwrap_or}
 use Rattle.std.specs.List.{flat_map}
 use Rattle.std.specs.Option.{option_map_or}
 use Rattle.std.proofs.lemmas.Bool.{not-true}
 use Rattle.rb_base.specs.Names.{text_eq}
 use Rattle.scope_model.specs.Scope.{is_among}
+use Rattle.tree_model.specs.Tree.{TreesOf, no_trees, more_trees, MethodOf}
+use Rattle.tree_model.specs.Path.{append}
 use Rattle.image_model.specs.Image.{ClassOf, EntryOf, ImageOf}
 use Rattle.image_model.specs.Words.{text_words}
 use Rattle.image_model.specs.Lookup.{is_method}
@@ -20,8 +22,13 @@ use Rattle.rename_model.specs.VariableRenamed.{with_variables}
 use Rattle.rename_model.specs.VariableRenamed as variable_renaming
 use Rattle.command_model.specs.ClassEffects.{new_class, put_before, put_under}
 use Rattle.command_model.specs.Asked.{text_asked}
-use Rattle.command_model.specs.Commands.{CommandOf, RenameClass, AddClass, RemoveClass, AddInstVar, RenameInstVar, RemoveInstVar, PushUpInstVar, PushDownInstVar, AddClassVar, RenameClassVar, RemoveClassVar, PushUpClassVar, PushDownClassVar, AddClassSideVar, RenameClassSideVar, RemoveClassSideVar, RenameSelector, AddMethod, RemoveMethod, PushUpMethod, PushDownMethod, KeepsShape}
+use Rattle.command_model.specs.Commands.{CommandOf, RenameClass, AddClass, RemoveClass, AddInstVar, RenameInstVar, RemoveInstVar, PushUpInstVar, PushDownInstVar, AddClassVar, RenameClassVar, RemoveClassVar, PushUpClassVar, PushDownClassVar, AddClassSideVar, RenameClassSideVar, RemoveClassSideVar, RenameSelector, AddMethod, RemoveMethod, PushUpMethod, PushDownMethod, AddParameter, RemoveParameter, RenameTemp, MovesNoCode}
+use Rattle.command_model.specs.Plain.{literal_node}
+use Rattle.command_model.specs.Parameters.{without_nth}
 use Rattle.command_model.specs.Effects.{effect}
+use Rattle.command_model.specs.Places.{users_method}
+use Rattle.command_model.specs.Sequences.{with_tree}
+use Rattle.command_model.specs.Temporaries.{temporary_renamed}
 use Rattle.command_model.specs.Hierarchy.{superclass_name, is_child, is_method_of, receivers}
 use Rattle.command_model.specs.MethodEffects.{new_method, of_class_named}
 use Rattle.command_model.specs.VariableEffects.{with_last, without, with_changed, class_pushed_up, class_pushed_down, shared_moved}
@@ -32,6 +39,8 @@ use Rattle.effect_laws.proofs.Sound.{IsSound}
 use Rattle.effect_laws.proofs.Kernel.{IsWhole}
 use Rattle.effect_laws.proofs.Moved.{with_kernel}
 use Rattle.effect_laws.proofs.ClassesKept.{children}
+use Rattle.effect_laws.proofs.ParametersKept.{passed_method, passed_kernel}
+use Rattle.effect_laws.proofs.TreeReplaced.{replaced, mark_kept}
 
 -- behind an item that fails all items fail
 abbrev pub IsFront : {X : Type 0} → (X → Bool) → List X → Type 0
@@ -172,6 +181,15 @@ module _ (i : ImageOf Text) where
 moved_front : (i : ImageOf Text) (c d x : Text) → AreFronts i → AreFronts (shared_moved text_eq c x d i)
 moved_front i c d x f = changed (with_changed text_eq c (without text_eq of_class x) i) d (with_last of_class x) (last_kernel i of_class x) (changed i c (without text_eq of_class x) (without_kernel i of_class x) f)
 
+-- a method with another tree, where there is one
+retreed_front : (i : ImageOf Text) (c : Text) (meta : Bool) (t : Text) (change : EntryOf Text → Option (MethodOf Text)) → AreFronts i → (o : Option (EntryOf Text)) → AreFronts (unwrap_or (option_map (λ tree. with_tree text_eq canonical c meta t tree i) (option_and_then change o)) i)
+retreed_front i c meta t change f None = f
+retreed_front i c meta t change f (Some m) = by (change m)
+  where
+    by : (o : Option (MethodOf Text)) → AreFronts (unwrap_or (option_map (λ tree. with_tree text_eq canonical c meta t tree i) o) i)
+    by None = f
+    by (Some tree) = record { classes = f.classes; methods = front_map method_of_kernel (replaced c meta t tree) i.methods (mark_kept c meta t tree) f.methods }
+
 -- a method of another class, or copies of it
 moved_kernel : (b : Bool) (n : EntryOf Text) (p : Text) → (if b then of_class_named n p else n).kernel ≡ n.kernel
 moved_kernel true n p = refl
@@ -207,7 +225,7 @@ module _ (kernel i : ImageOf Text) (s : IsSound kernel i) (whole : IsWhole kerne
           ap (λ (x : ClassOf Text). x.kernel) (sym r.2) ∙ under_kernel d under r.0
           ∙ (children kernel i s whole d p under h r.0 r.1 (ap (is_among text_eq under) (sym (under_name d under r.0) ∙ ap (λ (x : ClassOf Text). x.name) r.2) ∙ q)).1
 
-  pub front_kept : (command : CommandOf Text) → KeepsShape command → AllHold text_asked i command → AreFronts i → AreFronts (effect text_asked canonical command i)
+  pub front_kept : (command : CommandOf Text) → MovesNoCode command → AllHold text_asked i command → AreFronts i → AreFronts (effect text_asked canonical command i)
   front_kept (RenameClass c d) shape h f = record {
     classes = front_map class_of_kernel (class_renaming.class_after text_words canonical i c d) i.classes (λ e. refl) f.classes;
     methods = front_map method_of_kernel (class_renaming.method_after text_words canonical i c d) i.methods (λ m. refl) f.methods;
@@ -241,4 +259,16 @@ module _ (kernel i : ImageOf Text) (s : IsSound kernel i) (whole : IsWhole kerne
   front_kept (PushDownMethod c meta v) shape h f =
       let rs = receivers text_eq i c meta v in
       record { classes = f.classes; methods = front_flat method_of_kernel (λ m. if is_method text_eq c meta v m then map (of_class_named m) rs else m ∷ []) i.methods (λ m n k. copied_kernel (is_method text_eq c meta v m) m rs n k) f.methods }
+  front_kept (AddParameter o n x passed) shape h f = record {
+    classes = f.classes;
+    methods = (let passes = λ (xs : TreesOf Text). append xs (more_trees (literal_node passed) no_trees) in
+        let takes = λ (ns : List Text). ns ++ x ∷ [] in
+        front_map method_of_kernel (passed_method o n passes takes) i.methods (passed_kernel o n passes takes) f.methods);
+  }
+  front_kept (RemoveParameter o k n) shape h f = record {
+    classes = f.classes;
+    methods = (let takes = λ (ns : List Text). remove ns (k - 1) in
+        front_map method_of_kernel (passed_method o n (without_nth (k - 1)) takes) i.methods (passed_kernel o n (without_nth (k - 1)) takes) f.methods);
+  }
+  front_kept (RenameTemp c meta v x y) shape h f = retreed_front i c meta v (λ m. Some (temporary_renamed text_asked m.tree x y)) f (users_method text_eq i c meta v)
   front_kept command shape h f = absurd shape

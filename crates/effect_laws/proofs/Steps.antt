@@ -8,7 +8,7 @@ use Rattle.file_model.specs.Filing.{Text}
 use Rattle.file_model.specs.Fileable.{reading_of}
 use Rattle.rename_model.specs.ClassRenamed.{canonical}
 use Rattle.command_model.specs.Asked.{text_asked}
-use Rattle.command_model.specs.Commands.{CommandOf, KeepsShape}
+use Rattle.command_model.specs.Commands.{CommandOf, MovesNoCode}
 use Rattle.command_model.specs.Effects.{effect}
 use Rattle.command_model.specs.Judged.{first_false}
 use Rattle.file_rereading.specs.Rereading.{KernelFirst}
@@ -26,17 +26,17 @@ module _ (kernel : ImageOf Text) (whole : IsWhole kernel) where
   abbrev IsValidImage : ImageOf Text → Type 0
   IsValidImage i = IsValid text_words (reading_of Second kernel) i
 
-  pub effect_valid : (i : ImageOf Text) (command : CommandOf Text) → IsValidImage i → KeepsShape command → IsSpelled command → first_false text_asked i command ≡ None → IsValidImage (effect text_asked canonical command i)
+  pub effect_valid : (i : ImageOf Text) (command : CommandOf Text) → IsValidImage i → MovesNoCode command → IsSpelled command → first_false text_asked i command ≡ None → IsValidImage (effect text_asked canonical command i)
   effect_valid i command v shape t none = valid_of kernel (effect text_asked canonical command i) (kept kernel i (sound_of kernel i v) whole command shape t (all-hold text_asked i command none))
 
-  pub effect_first : (i : ImageOf Text) (command : CommandOf Text) → IsValidImage i → KeepsShape command → IsSpelled command → first_false text_asked i command ≡ None → KernelFirst kernel i → KernelFirst kernel (effect text_asked canonical command i)
+  pub effect_first : (i : ImageOf Text) (command : CommandOf Text) → IsValidImage i → MovesNoCode command → IsSpelled command → first_false text_asked i command ≡ None → KernelFirst kernel i → KernelFirst kernel (effect text_asked canonical command i)
   effect_first i command v shape t none f =
       let s = sound_of kernel i v in
       let h = all-hold text_asked i command none in
       first_of kernel (effect text_asked canonical command i) (kept kernel i s whole command shape t h) (front_kept kernel i s whole command shape h (fronts_of kernel i s f))
 
-  pub effect_fileable : (i : ImageOf Text) (command : CommandOf Text) → IsValidImage i → KeepsShape command → IsSpelled command → MayBeFiled command → first_false text_asked i command ≡ None → IsFileable (reading_of Second kernel) i → IsFileable (reading_of Second kernel) (effect text_asked canonical command i)
+  pub effect_fileable : (i : ImageOf Text) (command : CommandOf Text) → IsValidImage i → MovesNoCode command → IsSpelled command → MayBeFiled command → first_false text_asked i command ≡ None → IsFileable (reading_of Second kernel) i → IsFileable (reading_of Second kernel) (effect text_asked canonical command i)
   effect_fileable i command b shape t u none f =
       let s = sound_of kernel i b in
       let h = all-hold text_asked i command none in
-      fileable kernel (effect text_asked canonical command i) (kept kernel i s whole command shape t h) (kept_filed kernel i s whole (filed_of kernel i s f) command shape u h)
+      fileable kernel (effect text_asked canonical command i) (kept kernel i s whole command shape t h) (kept_filed kernel i s whole (filed_of kernel i s f) command shape (t, u) h)

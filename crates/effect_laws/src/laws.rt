@@ -11,7 +11,7 @@ ghost use Rattle.file_model.specs.Reading.{IsKernelOf};
 ghost use Rattle.file_rereading.specs.Rereading.{KernelFirst};
 ghost use Rattle.rename_model.specs.ClassRenamed.{canonical};
 ghost use Rattle.command_model.specs.Asked.{text_asked};
-ghost use Rattle.command_model.specs.Commands.{CommandOf, KeepsShape};
+ghost use Rattle.command_model.specs.Commands.{CommandOf, MovesNoCode};
 ghost use Rattle.command_model.specs.Effects.{effect};
 ghost use Rattle.command_model.specs.Judged.{first_false};
 ghost use Rattle.command_model.specs.Spelled.{IsSpelled, MayBeFiled};
@@ -20,18 +20,18 @@ use kernel_image::{
     kernel_has_these_classes, kernel_has_these_methods, kernel_is_valid, kernel_knows_its_names,
 };
 
-/// Where no condition of a command that keeps the shape of code is false in a valid image, the image that the command makes of it is valid too; it can be
+/// Where no condition of a command that moves no code is false in a valid image, the image that the command makes of it is valid too; it can be
 /// written where the image before could be; and where the classes and methods of the kernel stood before those of the user,
 /// they do still. Of a method that is added it is asked that its text spells its tree, and for writing, that the text is not
 /// empty and begins with no blank.
 pub fn law_effect_valid()
     ensures valid { (kernel image : ImageOf Text) (command : CommandOf Text) → IsKernelOf Second prelude_text kernel → IsValid text_words (reading_of Second kernel) image →
-        KeepsShape command → IsSpelled command → first_false text_asked image command ≡ None → IsValid text_words (reading_of Second kernel) (effect text_asked canonical command image) }
+        MovesNoCode command → IsSpelled command → first_false text_asked image command ≡ None → IsValid text_words (reading_of Second kernel) (effect text_asked canonical command image) }
     ensures fileable { (kernel image : ImageOf Text) (command : CommandOf Text) → IsKernelOf Second prelude_text kernel → IsValid text_words (reading_of Second kernel) image →
-        KeepsShape command → IsSpelled command → MayBeFiled command → first_false text_asked image command ≡ None →
+        MovesNoCode command → IsSpelled command → MayBeFiled command → first_false text_asked image command ≡ None →
         IsFileable (reading_of Second kernel) image → IsFileable (reading_of Second kernel) (effect text_asked canonical command image) }
     ensures first { (kernel image : ImageOf Text) (command : CommandOf Text) → IsKernelOf Second prelude_text kernel → IsValid text_words (reading_of Second kernel) image →
-        KeepsShape command → IsSpelled command → first_false text_asked image command ≡ None → KernelFirst kernel image → KernelFirst kernel (effect text_asked canonical command image) }
+        MovesNoCode command → IsSpelled command → first_false text_asked image command ≡ None → KernelFirst kernel image → KernelFirst kernel (effect text_asked canonical command image) }
 {
     kernel_has_these_classes();
     kernel_has_these_methods();

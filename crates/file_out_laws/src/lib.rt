@@ -1,6 +1,6 @@
 //! What the laws of commands say of each valid image behind the kernel, and so of the image of each file-out: renamings, look-ups,
-//! temporaries, parameters, what is not reached, and all commands that keep the shape of code. The functions of this crate are
-//! laws on the definitions: they do nothing.
+//! temporaries, parameters, what is not reached, all commands that keep the shape of code, and all that move no code. The functions
+//! of this crate are laws on the definitions: they do nothing.
 #![tactic(auto)]
 
 mod commands;
@@ -10,7 +10,7 @@ mod renamings;
 mod stripped;
 mod temporaries;
 
-pub use commands::{law_command_files, law_commands};
+pub use commands::{law_command_files, law_commands, law_matched_commands};
 pub use lookups::{
     every_image_has_kernel_chains, law_class_files, law_class_images, law_lookups_agree,
     law_method_files, law_method_images,

@@ -1,27 +1,30 @@
 -- With `nil` as one more do-it, conditions that only commands have which change code are as they are without it.
-use Rattle.std.proofs.Common.{◌≡◌, ℕ, Bool, true, false, ◌&&◌, ◌||◌, List, [], ◌∷◌, Option, Some, None, refl, ap, ◌∙◌}
+use Rattle.std.proofs.Common.{◌≡◌, ℕ, Bool, true, false, not, ◌&&◌, ◌||◌, List, [], ◌∷◌, Option, Some, None, refl, ap, ◌∙◌}
 use Rattle.std.specs.Prelude.{◌-◌, nat_le, codes, option_map, if◌then◌else◌}
-use Rattle.std.specs.List.{AllByRecursion, list_all}
+use Rattle.std.specs.List.{AllByRecursion, list_all, list_any}
 use Rattle.std.specs.Option.{option_map_or}
 use Rattle.std.proofs.lemmas.List.Folds.{list_all-append}
 use Rattle.rb_base.specs.Names.{text_eq}
 use Rattle.tree_model.specs.Tree.{TreeOf, var, TreesOf, SequenceOf}
 use Rattle.tree_model.specs.Path.{nth}
+use Rattle.tree_model.specs.Nodes.{nodes}
 use Rattle.tree_model.specs.Measure.{sequence_height}
 use Rattle.scope_model.specs.SpecialNames.{is_pseudo_variable}
 use Rattle.image_model.specs.Image.{EntryOf, DoItOf, ImageOf, plus}
 use Rattle.image_model.specs.Words.{text_words}
 use Rattle.image_model.specs.Means.{means_in_doit}
 use Rattle.image_model.specs.Nodes.{in_doit, NodeOf, nodes_of, image_nodes}
+use Rattle.image_model.specs.Uses.{is_sender}
 use Rattle.run_model.specs.Values.{Name}
+use Rattle.rename_model.specs.Conditions.{speaks_of}
 use Rattle.rename_model.specs.ClassRenamed.{WritingOf}
 use Rattle.command_model.specs.Asked.{text_asked}
-use Rattle.command_model.specs.Commands.{CommandOf, AbstractInstVar, InlineMethod}
-use Rattle.command_model.specs.Conditions.{Inlinable}
+use Rattle.command_model.specs.Commands.{CommandOf, AddParameter, AbstractInstVar, InlineMethod}
+use Rattle.command_model.specs.Conditions.{Inlinable, Shallow}
 use Rattle.command_model.specs.Walk.{rebuilt_sequence}
 use Rattle.command_model.specs.Accessors.{made}
 use Rattle.command_model.specs.CodeEffects.{code_effect}
-use Rattle.command_model.specs.ParameterConditions.{is_declared, passed_by, is_shallow, counts_argument, may_be_dropped, are_arguments_plain}
+use Rattle.command_model.specs.ParameterConditions.{is_declared, passed_by, is_shallow, is_shallow_speaking, counts_argument, may_be_dropped, are_arguments_plain}
 use Rattle.command_model.specs.CodeHolds.{no_writing}
 use Rattle.command_model.specs.Holds.{holds}
 use Rattle.session_model.specs.Admitted.{nil_doit}
@@ -58,12 +61,23 @@ module _ (i : ImageOf Name) where
   any-shallow None = refl
   any-shallow (Some j) = one-shallow j
 
-  pub shallow-plus : (c : CommandOf Name) →
+  effect-shallow : (c : CommandOf Name) →
       option_map_or is_shallow (code_effect text_asked (plus i nil_doit) no_writing c) false ≡ option_map_or is_shallow (code_effect text_asked i no_writing c) false
-  shallow-plus c =
+  effect-shallow c =
       ap (λ o. option_map_or is_shallow o false)
       (code-beside text_asked no_writing i nil_doit c ∙ ap (λ d. option_map (λ j. plus j d) (code_effect text_asked i no_writing c)) (last-same no_writing c))
       ∙ any-shallow (code_effect text_asked i no_writing c)
+
+  -- `nil` sends nothing
+  speaking-plus : (s : Name) → is_shallow_speaking text_eq s (plus i nil_doit) ≡ is_shallow_speaking text_eq s i
+  speaking-plus s =
+      let fine : DoItOf Name → Bool = λ d. not (list_any (λ e. is_sender text_eq s e.1) (nodes d.body)) || nat_le (sequence_height d.body) 200 in
+      ap (λ b. list_all (λ (m : EntryOf Name). m.kernel || (not (speaks_of text_eq s m) || nat_le (sequence_height m.tree.body) 200)) i.methods && b)
+      (list_all-append fine i.doits (nil_doit ∷ []) ∙ true-too (list_all fine i.doits))
+
+  pub shallow-plus : (c : CommandOf Name) → holds text_asked (plus i nil_doit) c Shallow ≡ holds text_asked i c Shallow
+  shallow-plus (AddParameter s t x passed) = speaking-plus s
+  shallow-plus c = effect-shallow c
 
   -- the target of a message
   pub inlinable-plus : (c : CommandOf Name) (d : Name) (meta : Bool) (s : Name) → holds text_asked (plus i nil_doit) c (Inlinable d meta s) ≡ holds text_asked i c (Inlinable d meta s)
