@@ -3,8 +3,8 @@ use Rattle.std.specs.Prelude.{ℕ, ◌<◌, List, length}
 use Rattle.rb_base.specs.Names.{name_at}
 use Rattle.st_tree.specs.View.{method_of}
 use Rattle.image_model.specs.Means.{VariableKind, of_instance, of_class_side, of_class}
-use Rattle.command_model.specs.Commands.{CommandOf, RenameClass, AddClass, RemoveClass, AddInstVar, RenameInstVar, RemoveInstVar, PushUpInstVar, PushDownInstVar, AddClassVar, RenameClassVar, RemoveClassVar, PushUpClassVar, PushDownClassVar, AddClassSideVar, RenameClassSideVar, RemoveClassSideVar, RenameSelector, AddMethod, RemoveMethod, PushUpMethod, PushDownMethod}
-use Rattle.command_model.specs.Conditions.{NameKind, of_a_class, of_a_class_variable, of_another_variable, of_methods, ConditionOf, NoReflection, IsUserClass, GoodName, NameUnused, SelectorFresh, NotKernelSelector, Arity, Implements, NotImplements, Removable, NoSubclasses, NotReferenced, HasVariable, VariableFree, VariableUnused, ParentIsUser, NoSuper, MeansSame, Unreached, IsClass, ChildOf, LacksVariable, KnownSelector, UndoLeft, RedoLeft}
+use Rattle.command_model.specs.Commands.{CommandOf, RenameClass, AddClass, RemoveClass, AddInstVar, RenameInstVar, RemoveInstVar, PushUpInstVar, PushDownInstVar, AddClassVar, RenameClassVar, RemoveClassVar, PushUpClassVar, PushDownClassVar, AddClassSideVar, RenameClassSideVar, RemoveClassSideVar, RenameSelector, AddMethod, RemoveMethod, PushUpMethod, PushDownMethod, AddParameter, RemoveParameter, RenameTemp}
+use Rattle.command_model.specs.Conditions.{NameKind, of_a_class, of_a_class_variable, of_another_variable, of_methods, ConditionOf, NoReflection, IsUserClass, GoodName, NameUnused, SelectorFresh, NotKernelSelector, Arity, Implements, NotImplements, Removable, NoSubclasses, NotReferenced, HasVariable, VariableFree, VariableUnused, ParentIsUser, NoSuper, MeansSame, Unreached, ParameterUnused, PlainArguments, AtomLiteral, Declared, NotIn, Shallow, IsClass, ChildOf, LacksVariable, KnownSelector, UndoLeft, RedoLeft}
 use Rattle.command_model.specs.Asked.{AskedOf, no_parts}
 use Rattle.command_model.specs.Numbers.{number_asked}
 use Rattle.history_model.specs.Rules.{RequestOf, Perform, Undo, Redo}
@@ -67,6 +67,9 @@ command_of (command.AddMethod n) = AddMethod n.class n.meta n.protocol n.source 
 command_of (command.RemoveMethod m) = RemoveMethod m.class m.meta m.selector
 command_of (command.PushUpMethod m) = PushUpMethod m.class m.meta m.selector
 command_of (command.PushDownMethod m) = PushDownMethod m.class m.meta m.selector
+command_of (command.AddParameter n) = AddParameter n.selector n.to n.parameter n.passed
+command_of (command.RemoveParameter s k t) = RemoveParameter s k t
+command_of (command.RenameTemporary m x y) = RenameTemp m.class m.meta m.selector x y
 
 -- the action
 abbrev pub action_of : Action → ActionOf ℕ
@@ -109,6 +112,12 @@ condition_of (condition.ParentIsUser c) = ParentIsUser c
 condition_of (condition.NoSuper m) = NoSuper m.class m.meta m.selector
 condition_of (condition.MeansSame m d) = MeansSame m.class m.meta m.selector d
 condition_of (condition.Unreached s) = Unreached s
+condition_of (condition.ParameterUnused s k) = ParameterUnused s k
+condition_of (condition.PlainArguments s k) = PlainArguments s k
+condition_of condition.AtomLiteral = AtomLiteral
+condition_of (condition.Declared m x) = Declared m.class m.meta m.selector x
+condition_of (condition.NotIn m x) = NotIn m.class m.meta m.selector x
+condition_of condition.Shallow = Shallow
 condition_of (condition.IsClass c) = IsClass c
 condition_of (condition.ChildOf d c) = ChildOf d c
 condition_of (condition.LacksVariable c x) = LacksVariable c x

@@ -2,7 +2,7 @@
 
 use name_meanings::VariableKind;
 use rb_base::{Ids, NameId, Text};
-use st_tree::Method;
+use st_tree::{Literal, Method};
 
 /// What gets another name. Each name is a number of the image's table of names, here and in all commands.
 #[derive(Clone, Copy, Debug)]
@@ -92,6 +92,18 @@ pub struct NewMethod {
     pub tree: Method,
 }
 
+/// A selector that takes one more argument.
+#[derive(Drop)]
+pub struct NewParameter {
+    pub selector: NameId,
+    /// The selector with the new argument.
+    pub to: NameId,
+    /// What the argument is called in the methods; it is their last.
+    pub parameter: NameId,
+    /// What each message passes for it. A word is `nil`, `true` or `false`.
+    pub passed: Literal,
+}
+
 /// A command.
 #[derive(Drop)]
 pub enum Command {
@@ -100,7 +112,9 @@ pub enum Command {
     /// There is one more class.
     AddClass(NewClass),
     /// The class goes with its methods.
-    RemoveClass { class: NameId },
+    RemoveClass {
+        class: NameId,
+    },
     /// A variable comes or goes.
     Variable(VariableMove),
     /// There is one more method.
@@ -111,6 +125,20 @@ pub enum Command {
     PushUpMethod(MethodName),
     /// The method goes down to the direct subclasses.
     PushDownMethod(MethodName),
+    /// The methods of a selector take one more argument, and each message of it passes a literal.
+    AddParameter(NewParameter),
+    /// The argument of the selector goes, counted from 1, and the selector is `to`.
+    RemoveParameter {
+        selector: NameId,
+        argument: usize,
+        to: NameId,
+    },
+    /// The argument, parameter or temporary of the method is called `to`.
+    RenameTemporary {
+        method: MethodName,
+        variable: NameId,
+        to: NameId,
+    },
 }
 
 /// A single command, or a composite, which is several of them.

@@ -6,6 +6,6 @@ mod command;
 mod condition;
 
 pub use command::{
-    Action, Command, MethodName, NewClass, NewMethod, Renaming, Request, VariableMove,
+    Action, Command, MethodName, NewClass, NewMethod, NewParameter, Renaming, Request, VariableMove,
 };
 pub use condition::{Condition, NameKind};

@@ -1,3 +1,4 @@
+pub mod Unnamed
 pub mod Shape
 mod NamesKnown
 pub mod Reflecting

@@ -1,14 +1,13 @@
 -- What is known of each condition of a command.
-use Rattle.std.proofs.Common.{◌≡◌, ◌<◌, ℕ, List, [], ◌∷◌, ◌++◌, length, map, Option, Some, None, refl, sym, subst}
+use Rattle.std.proofs.Common.{◌≡◌, ℕ, List, [], ◌∷◌, ◌++◌, map, Option, Some, None, refl, sym, subst}
 use Rattle.std.specs.List.{AllByRecursion}
 use Rattle.std.specs.Option.{option_map_or}
 use Rattle.image_model.specs.Image.{ImageOf}
 use Rattle.command_model.specs.Asked.{AskedOf}
-use Rattle.command_model.specs.Commands.{CommandOf, AddMethod, PushUpMethod, PushDownMethod}
-use Rattle.command_model.specs.Conditions.{ConditionOf, ChildOf, MeansSame, Unreached, NotImplements, NoSuper, VariableFree}
+use Rattle.command_model.specs.Conditions.{ConditionOf, ChildOf, MeansSame, Unreached, NotImplements, NoSuper, VariableFree, AtomLiteral, Shallow}
 use Rattle.command_model.specs.Hierarchy.{superclass_name, receivers}
+use Rattle.command_model.specs.CodeNeeds.{in_no_implementor}
 use Rattle.command_model.specs.Needs.{needs}
-use Rattle.command_numbers.specs.CommandNames.{ConditionNames}
 use Rattle.name_meanings.specs.declared.meaning.VariableKind.TheVariants as kind
 use Rattle.commands.specs.declared.command.Command.{Command}
 use Rattle.commands.specs.declared.command.Command.TheVariants as command
@@ -17,6 +16,7 @@ use Rattle.commands.specs.declared.command.VariableMove.TheVariants as move
 use Rattle.commands.specs.declared.condition.Condition.{Condition}
 use Rattle.commands.specs.Views.{command_of, condition_of}
 use Rattle.conditions.specs.Concerns.{Concerns}
+use Rattle.conditions.proofs.Unnamed.{unnamed-each}
 
 -- a fact of each condition of the program
 shown : (P : ConditionOf ℕ → Type 0) (cs : List Condition) → AllByRecursion P (map condition_of cs) → AllByRecursion (λ c. P (condition_of c)) cs
@@ -95,3 +95,8 @@ module _ (a : AskedOf ℕ) (i : ImageOf ℕ) where
       ),
     ),
   )
+  concerned (command.AddParameter n) =
+      let P = Concerns (command_of (command.AddParameter n)) in
+      (tt, (tt, (tt, (tt, (tt, (tt, (tt, (tt, joined P (in_no_implementor a i n.selector n.parameter) (AtomLiteral ∷ Shallow ∷ []) (unnamed-each P a i n.selector n.parameter (λ c meta. tt)) (tt, (tt, tt))))))))))
+  concerned (command.RemoveParameter s k t) = (tt, (tt, (tt, (tt, (tt, (tt, (tt, (tt, (tt, tt)))))))))
+  concerned (command.RenameTemporary m x y) = (tt, (tt, (tt, (tt, (tt, (tt, tt))))))

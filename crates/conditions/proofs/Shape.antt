@@ -1,5 +1,5 @@
--- What is carried out keeps the shape of code.
-use Rattle.command_model.specs.Commands.{KeepsShape}
+-- What is carried out moves no code.
+use Rattle.command_model.specs.Commands.{MovesNoCode}
 use Rattle.name_meanings.specs.declared.meaning.VariableKind.TheVariants as kind
 use Rattle.commands.specs.declared.command.Command.{Command}
 use Rattle.commands.specs.declared.command.Command.TheVariants as command
@@ -7,7 +7,7 @@ use Rattle.commands.specs.declared.command.Renaming.TheVariants as renaming
 use Rattle.commands.specs.declared.command.VariableMove.TheVariants as move
 use Rattle.commands.specs.Views.{command_of}
 
-pub keeps-shape : (c : Command) → KeepsShape (command_of c)
+pub keeps-shape : (c : Command) → MovesNoCode (command_of c)
 keeps-shape (command.Rename (renaming.Class c d)) = tt
 keeps-shape (command.Rename (renaming.Variable kind.Instance c x y)) = tt
 keeps-shape (command.Rename (renaming.Variable kind.ClassSide c x y)) = tt
@@ -29,3 +29,6 @@ keeps-shape (command.AddMethod n) = tt
 keeps-shape (command.RemoveMethod m) = tt
 keeps-shape (command.PushUpMethod m) = tt
 keeps-shape (command.PushDownMethod m) = tt
+keeps-shape (command.AddParameter n) = tt
+keeps-shape (command.RemoveParameter s k t) = tt
+keeps-shape (command.RenameTemporary m x y) = tt

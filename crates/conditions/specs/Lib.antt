@@ -1,2 +1,3 @@
 pub mod Reflection
 pub mod Concerns
+pub mod Unnamed

@@ -23,6 +23,7 @@ use crate::added::adds_no_reflection;
 use crate::code::{
     is_known_selector, is_name_unused, is_no_kernel_selector, is_selector_fresh, is_variable_free,
 };
+use crate::code_judged::code_holds;
 use crate::needed::{arity_of, is_good_name, needs};
 use crate::reflection::has_no_reflection;
 use class_questions::{has_variable, is_class, is_user_class};
@@ -227,6 +228,15 @@ pub fn holds<L: Ledger>(
             is_known_selector(alloc, image, index, selector, steps)
         }
         Condition::UndoLeft | Condition::RedoLeft => Ok(false),
+        Condition::ParameterUnused { .. } | Condition::PlainArguments { .. } => {
+            code_holds(alloc, image, index, command, condition, steps)
+        }
+        Condition::AtomLiteral | Condition::Shallow => {
+            code_holds(alloc, image, index, command, condition, steps)
+        }
+        Condition::Declared { .. } | Condition::NotIn { .. } => {
+            code_holds(alloc, image, index, command, condition, steps)
+        }
     }
 }
 

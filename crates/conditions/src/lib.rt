@@ -3,8 +3,10 @@
 
 mod added;
 mod code;
+mod code_judged;
 mod judged;
 mod needed;
+mod parameters;
 mod reflection;
 
 pub use judged::{first_false, holds};

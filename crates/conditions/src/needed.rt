@@ -17,6 +17,7 @@ ghost use Rattle.name_meanings.specs.Meanings.{kind_of};
 ghost use Rattle.commands.specs.Views.{asked_by, adds_variable, command_of, condition_of, move_command, name_kind_of, removes_variable, renames_variable, renaming_command};
 ghost use Rattle.conditions.specs.Concerns.{Concerns};
 
+use crate::parameters::{needs_of_new_parameter, needs_of_parameter_removal, needs_of_temporary};
 use class_table::Image;
 use command_numbers::numbers_of_commands;
 use commands::{
@@ -115,7 +116,7 @@ fn needs_of_variable(
 }
 
 /// The conditions of the renaming of a selector that takes so many arguments.
-fn needs_of_selector(
+pub(crate) fn needs_of_selector(
     alloc: Global,
     selector: NameId,
     count: usize,
@@ -542,6 +543,17 @@ fn listed(alloc: Global, image: &Image, command: &Command) -> Result<Vec<Conditi
         Command::RemoveMethod(method) => needs_of_method_removal(alloc, method),
         Command::PushUpMethod(method) => needs_of_method_up(alloc, image, method),
         Command::PushDownMethod(method) => needs_of_method_down(alloc, image, method),
+        Command::AddParameter(new) => needs_of_new_parameter(alloc, image, new),
+        Command::RemoveParameter {
+            selector,
+            argument,
+            to,
+        } => needs_of_parameter_removal(alloc, image, *selector, *argument, *to),
+        Command::RenameTemporary {
+            method,
+            variable,
+            to,
+        } => needs_of_temporary(alloc, image, method, *variable, *to),
     }
 }
 

@@ -4,13 +4,39 @@ ghost use Rattle.rb_base.specs.Names.{name_at};
 ghost use Rattle.text_model.specs.Pieces.{pieces_behind};
 ghost use Rattle.command_numbers.specs.MappedCommands.{map_condition};
 ghost use Rattle.commands.specs.Views.{condition_of};
-ghost use Rattle.apply_model.specs.Lines.{condition_words};
+ghost use Rattle.apply_model.specs.Lines.{code_words, condition_words};
 
-use crate::words::{push_method, push_name, push_named, push_number, push_pair, push_title};
+use crate::words::{push_counted, push_method, push_name, push_named, push_pair, push_title};
 use commands::Condition;
 use rb_base::{Memory, Names, Text};
 
-/// Appends the number of a condition, its name and its arguments, each behind a blank.
+/// Appends the number of a condition on parameters, on one of the names in a method or on heights, its name and its
+/// arguments, each behind a blank; of any other condition nothing.
+fn push_code_condition(condition: &Condition, names: &Names, out: &mut Text) -> Result<(), Memory>
+    ensures { OnOk result (out.new ≡ out.old ++ pieces_behind (codes " ") (code_words (map_condition (name_at names.now) (condition_of condition.now)))) }
+{
+    match *condition {
+        Condition::ParameterUnused { selector, argument } => {
+            push_counted(b"C20", b"ParameterUnused", selector, argument, names, out)
+        }
+        Condition::PlainArguments { selector, argument } => {
+            push_counted(b"C21", b"PlainArguments", selector, argument, names, out)
+        }
+        Condition::AtomLiteral => push_title(b"C22", b"AtomLiteral", out),
+        Condition::Declared { method, variable } => {
+            push_method(b"C34", b"Declared", method, names, out)?;
+            push_name(variable, names, out)
+        }
+        Condition::NotIn { method, variable } => {
+            push_method(b"C35", b"NotIn", method, names, out)?;
+            push_name(variable, names, out)
+        }
+        Condition::Shallow => push_title(b"C38", b"Shallow", out),
+        _ => Ok(()),
+    }
+}
+
+/// The same of any condition.
 pub(crate) fn push_condition(
     condition: &Condition,
     names: &Names,
@@ -30,9 +56,7 @@ pub(crate) fn push_condition(
             push_named(b"C6", b"NotKernelSelector", selector, names, out)
         }
         Condition::Arity { selector, count } => {
-            push_named(b"C7", b"Arity", selector, names, out)?;
-            out.push_slice(b" ")?;
-            push_number(count, out)
+            push_counted(b"C7", b"Arity", selector, count, names, out)
         }
         Condition::Implements(method) => push_method(b"C8", b"Implements", method, names, out),
         Condition::NotImplements(method) => {
@@ -64,6 +88,13 @@ pub(crate) fn push_condition(
         }
         Condition::Unreached { selector } => {
             push_named(b"C19", b"Unreached", selector, names, out)
+        }
+        Condition::ParameterUnused { .. } | Condition::PlainArguments { .. } => {
+            push_code_condition(condition, names, out)
+        }
+        Condition::AtomLiteral | Condition::Shallow => push_code_condition(condition, names, out),
+        Condition::Declared { .. } | Condition::NotIn { .. } => {
+            push_code_condition(condition, names, out)
         }
         Condition::IsClass { class } => push_named(b"C39", b"IsClass", class, names, out),
         Condition::ChildOf { class, superclass } => {

@@ -52,6 +52,22 @@ pub(crate) fn push_named(
     push_words(&[number, title, text_of(names, name)], out)
 }
 
+/// The same of a condition on a selector and a number.
+pub(crate) fn push_counted(
+    number: &[u8],
+    title: &[u8],
+    selector: NameId,
+    count: usize,
+    names: &Names,
+    out: &mut Text,
+) -> Result<(), Memory>
+    ensures { OnOk result (out.new ≡ out.old ++ pieces_behind (codes " ") (number.now ∷ title.now ∷ name_at names.now selector ∷ decimal count ∷ [])) }
+{
+    push_named(number, title, selector, names, out)?;
+    out.push_slice(b" ")?;
+    push_number(count, out)
+}
+
 /// The same of a condition on two names.
 pub(crate) fn push_pair(
     number: &[u8],

@@ -1,4 +1,4 @@
-use Rattle.std.proofs.Common.{◌≡◌, ℕ, List, Bor, Bool, ap, ◌∙◌}
+use Rattle.std.proofs.Common.{ℕ, List, Bor, Bool, ap, ◌∙◌}
 use Rattle.std.specs.List.{list_any}
 use Rattle.tree_model.specs.Tree.{TreeOf}
 use Rattle.tree_model.specs.Nodes.{Placed, nodes}

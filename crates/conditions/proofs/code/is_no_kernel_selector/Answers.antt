@@ -1,4 +1,4 @@
-use Rattle.std.proofs.Common.{◌≡◌, ℕ, List, [], Bool, ◌||◌, not, ◌∙◌, sym, ap}
+use Rattle.std.proofs.Common.{ℕ, List, [], ◌||◌, not, ◌∙◌, sym, ap}
 use Rattle.std.specs.Prelude.{slice_get, unwrap_or, Option}
 use Rattle.rename_model.specs.CommandWords.{has_own_meaning}
 use Rattle.class_table.specs.View.{number_image}

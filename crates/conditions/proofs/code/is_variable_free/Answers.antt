@@ -1,4 +1,4 @@
-use Rattle.std.proofs.Common.{◌≡◌, Bool, ◌&&◌, ◌||◌, not, ◌∙◌, sym}
+use Rattle.std.proofs.Common.{◌&&◌, ◌||◌, not, ◌∙◌, sym}
 use Rattle.class_table.specs.View.{number_image}
 use Rattle.conditions.proofs.CodeAsked.{named-below}
 use Rattle.conditions.proofs.code.is_variable_free.Goals as goal

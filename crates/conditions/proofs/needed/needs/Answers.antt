@@ -1,8 +1,7 @@
-use Rattle.std.proofs.Common.{ℕ, ◌<◌, length}
+use Rattle.std.proofs.Common.{◌<◌, length}
 use Rattle.std.proofs.lemmas.Result.{IfOk-weaker}
 use Rattle.class_table.specs.View.{number_image}
 use Rattle.command_model.specs.Asked.{no_parts}
-use Rattle.command_model.specs.Conditions.{ConditionOf}
 use Rattle.command_model.specs.Needs.{needs}
 use Rattle.command_numbers.specs.CommandNames.{ConditionNames}
 use Rattle.commands.specs.Views.{asked_by, command_of}

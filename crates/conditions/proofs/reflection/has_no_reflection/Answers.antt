@@ -1,8 +1,7 @@
-use Rattle.std.proofs.Common.{◌≡◌, Bool, ◌||◌, not, ◌∙◌, sym}
-use Rattle.std.specs.Prelude.{codes}
+use Rattle.std.proofs.Common.{◌||◌, not, ◌∙◌, sym}
 use Rattle.st_kernel.specs.Selectors.{reflective_selectors}
 use Rattle.code_questions.specs.declared.question.Way.TheVariants as way
-use Rattle.conditions.specs.Reflection.{reflective_names, is_text_found, is_one_found}
+use Rattle.conditions.specs.Reflection.{reflective_names, is_one_found}
 use Rattle.conditions.proofs.Reflecting.{reflection-told}
 use Rattle.conditions.proofs.reflection.has_no_reflection.Goals as goal
 

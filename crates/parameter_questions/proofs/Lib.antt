@@ -1,0 +1,8 @@
+pub mod Walking
+pub mod Filtered
+pub mod Kept
+pub mod Plain
+pub mod Reading
+pub mod AtSlots
+pub mod Answered
+pub mod Declared

@@ -1,0 +1,4 @@
+pub mod Found
+pub mod Codes
+pub mod Questions
+pub mod Named
