@@ -14,11 +14,13 @@ use class_plans::{plan_class_removal, plan_new_class};
 use class_table::Image;
 use commands::Command;
 use method_plans::{plan_method_down, plan_method_removal, plan_method_up, plan_new_method};
+use parameter_plans::{ParameterChange, plan_parameter};
 use plans::Plan;
 use rb_base::{Memory, Steps};
 use reference_index::Index;
 use std::alloc::Global;
 use std::sync::ledger::Ledger;
+use temporary_plans::plan_temporary;
 use variable_plans::plan_move;
 use wider_slots::law_wider;
 
@@ -50,5 +52,25 @@ pub fn plan<L: Ledger>(
         Command::RemoveMethod(method) => plan_method_removal(alloc, image, *method),
         Command::PushUpMethod(method) => plan_method_up(alloc, image, *method),
         Command::PushDownMethod(method) => plan_method_down(alloc, image, *method),
+        Command::AddParameter(new) => {
+            plan_parameter(alloc, image, index, &ParameterChange::Added(new), steps)
+        }
+        Command::RemoveParameter {
+            selector,
+            argument,
+            to,
+        } => {
+            let parameter = ParameterChange::Removed {
+                selector: *selector,
+                argument: *argument,
+                to: *to,
+            };
+            plan_parameter(alloc, image, index, &parameter, steps)
+        }
+        Command::RenameTemporary {
+            method,
+            variable,
+            to,
+        } => plan_temporary(alloc, image, *method, *variable, *to, steps),
     }
 }

@@ -18,7 +18,7 @@ use Rattle.class_table.specs.View.{live, class_name, class_of, entry_of, doit_of
 use Rattle.class_table.proofs.Live.{there, live-same, live-fact}
 use Rattle.rename_model.specs.NamesThere.{is_named_by_class, is_named_in_method, is_named_in, is_named}
 use Rattle.rename_model.specs.Conditions.{is_name_unused}
-use Rattle.command_model.specs.Commands.{KeepsShape}
+use Rattle.command_model.specs.Commands.{MovesNoCode}
 use Rattle.command_model.specs.Effects.{effect}
 use Rattle.command_model.specs.Numbers.{number_writing}
 use Rattle.commands.specs.Views.{asked_by, renames_variable}
@@ -55,11 +55,11 @@ is-effect s (of_a_variable kind c x) to = by kind
     by of_class = refl
 is-effect s (of_a_selector t) to = refl
 
-pub shape-kept : (what : RenamedOf ℕ) (to : ℕ) → KeepsShape (renaming what to)
+pub shape-kept : (what : RenamedOf ℕ) (to : ℕ) → MovesNoCode (renaming what to)
 shape-kept (of_a_class c) to = tt
 shape-kept (of_a_variable kind c x) to = by kind
   where
-    by : (k : VariableKind) → KeepsShape (renames_variable k c x to)
+    by : (k : VariableKind) → MovesNoCode (renames_variable k c x to)
     by of_instance = tt
     by of_class_side = tt
     by of_class = tt

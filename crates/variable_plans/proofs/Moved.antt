@@ -18,7 +18,7 @@ use Rattle.class_table.specs.Valid.{IsLive, IsOrderly}
 use Rattle.class_table.specs.View.{class_name, class_of, live_at, number_image}
 use Rattle.change_set.specs.declared.change.Change.{Change}
 use Rattle.rename_model.specs.VariableRenamed.{with_variables}
-use Rattle.command_model.specs.Commands.{KeepsShape}
+use Rattle.command_model.specs.Commands.{MovesNoCode}
 use Rattle.command_model.specs.Effects.{effect}
 use Rattle.command_model.specs.Hierarchy as hierarchy
 use Rattle.command_model.specs.Hierarchy.{is_child}
@@ -268,16 +268,16 @@ module _ (s : Slots) (o : IsOrderly s) where
           }
 
 -- the shape of code stays
-pub shape-kept : (m : VariableMove) → KeepsShape (move_command m)
+pub shape-kept : (m : VariableMove) → MovesNoCode (move_command m)
 shape-kept (move.Add k c x) = by k
   where
-    by : (l : VariableKind) → KeepsShape (adds_variable (kind_of l) c x)
+    by : (l : VariableKind) → MovesNoCode (adds_variable (kind_of l) c x)
     by kind.Instance = tt
     by kind.ClassSide = tt
     by kind.Shared = tt
 shape-kept (move.Remove k c x) = by k
   where
-    by : (l : VariableKind) → KeepsShape (removes_variable (kind_of l) c x)
+    by : (l : VariableKind) → MovesNoCode (removes_variable (kind_of l) c x)
     by kind.Instance = tt
     by kind.ClassSide = tt
     by kind.Shared = tt

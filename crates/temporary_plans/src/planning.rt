@@ -1,0 +1,54 @@
+// The changes by which an argument, a parameter or a temporary gets another name.
+ghost use Rattle.std.specs.Prelude.{◌≡◌, ◌<◌, length, None, IfOk};
+ghost use Rattle.class_table.specs.Valid.{IsOrderly};
+ghost use Rattle.class_table.specs.View.{number_image};
+ghost use Rattle.command_model.specs.Commands.{RenameTemp};
+ghost use Rattle.command_model.specs.Judged.{first_false};
+ghost use Rattle.command_numbers.specs.CommandNames.{CommandNames};
+ghost use Rattle.commands.specs.Views.{asked_by};
+ghost use Rattle.plans.specs.Plan.{IsPlan};
+
+use crate::retold::{is_users, put_retold, users_slot};
+use change_set::Changes;
+use class_table::Image;
+use commands::MethodName;
+use plans::Plan;
+use rb_base::{Memory, NameId, Steps};
+use std::alloc::Global;
+use std::sync::ledger::Ledger;
+use temporary_code::renamed_temporary;
+
+/// The change by which the argument, the parameter or the temporary of the method gets another name, where no condition of
+/// that is false.
+pub fn plan_temporary<L: Ledger>(
+    alloc: Global,
+    image: &Image,
+    method: MethodName,
+    variable: NameId,
+    to: NameId,
+    steps: &mut Steps<L>,
+) -> Result<Plan, Memory>
+    requires orderly { IsOrderly image.now }
+    requires known { CommandNames (λ n. n < length image.now.names) (RenameTemp method.class method.meta method.selector variable to) }
+    requires holds { first_false (asked_by image.now.names) (number_image image.now) (RenameTemp method.class method.meta method.selector variable to) ≡ None }
+    ensures { IfOk result (λ found. IsPlan image.now (RenameTemp method.class method.meta method.selector variable to) found.changes found.touched.items) }
+{
+    let mut plan = Plan {
+        changes: Changes::new(alloc),
+        touched: Vec::new(alloc),
+    };
+    // The user has the method, so it is found.
+    let Some(first) = users_slot(image, &method) else {
+        return Ok(plan);
+    };
+    let Some(old) = image.open_body(first, steps) else {
+        return Ok(plan);
+    };
+    let tree = renamed_temporary(alloc, old, image.names(), variable, to)?;
+    for slot in image.methods() {
+        if is_users(image, *slot, &method) {
+            put_retold(alloc, image, *slot, &tree, &mut plan, steps)?;
+        }
+    }
+    Ok(plan)
+}
