@@ -8,7 +8,7 @@ use Rattle.class_table.specs.Slots.{Slots}
 use Rattle.class_table.specs.Valid.{IsOrderly}
 use Rattle.class_table.specs.View.{number_image, image_of}
 use Rattle.command_model.specs.Asked.{text_asked, no_parts}
-use Rattle.command_model.specs.Commands.{CommandOf, KeepsShape}
+use Rattle.command_model.specs.Commands.{CommandOf, MovesNoCode}
 use Rattle.command_model.specs.Conditions.{ConditionOf}
 use Rattle.command_model.specs.Effects.{effect}
 use Rattle.command_model.specs.Judged.{first_false, judged}
@@ -17,48 +17,21 @@ use Rattle.command_model.specs.Numbers.{number_asked, number_writing}
 use Rattle.rename_model.specs.ClassRenamed.{canonical}
 use Rattle.command_numbers.specs.CommandNames.{CommandNames}
 use Rattle.command_numbers.specs.MappedCommands.{map_command, map_condition}
-use Rattle.name_meanings.specs.declared.meaning.VariableKind.TheVariants as kind
-use Rattle.commands.specs.declared.command.Renaming.TheVariants as renaming
-use Rattle.commands.specs.declared.command.VariableMove.TheVariants as move
 use Rattle.commands.specs.declared.command.Command.{Command}
-use Rattle.commands.specs.declared.command.Command.TheVariants as command
 use Rattle.commands.specs.Views.{command_of, asked_by}
+use Rattle.conditions.proofs.Shape.{keeps-shape}
 use Rattle.wider_slots.proofs.Images.{numbers-still}
 use Rattle.session.specs.Stepping.{IsRoom}
-
--- what is carried out keeps the shape of code
-pub keeps-shape : (c : Command) → KeepsShape (command_of c)
-keeps-shape (command.Rename (renaming.Class c d)) = tt
-keeps-shape (command.Rename (renaming.Variable kind.Instance c x y)) = tt
-keeps-shape (command.Rename (renaming.Variable kind.ClassSide c x y)) = tt
-keeps-shape (command.Rename (renaming.Variable kind.Shared c x y)) = tt
-keeps-shape (command.Rename (renaming.Selector s t)) = tt
-keeps-shape (command.AddClass n) = tt
-keeps-shape (command.RemoveClass c) = tt
-keeps-shape (command.Variable (move.Add kind.Instance c x)) = tt
-keeps-shape (command.Variable (move.Add kind.ClassSide c x)) = tt
-keeps-shape (command.Variable (move.Add kind.Shared c x)) = tt
-keeps-shape (command.Variable (move.Remove kind.Instance c x)) = tt
-keeps-shape (command.Variable (move.Remove kind.ClassSide c x)) = tt
-keeps-shape (command.Variable (move.Remove kind.Shared c x)) = tt
-keeps-shape (command.Variable (move.InstanceUp c x)) = tt
-keeps-shape (command.Variable (move.InstanceDown c x)) = tt
-keeps-shape (command.Variable (move.SharedUp c x)) = tt
-keeps-shape (command.Variable (move.SharedDown c x d)) = tt
-keeps-shape (command.AddMethod n) = tt
-keeps-shape (command.RemoveMethod m) = tt
-keeps-shape (command.PushUpMethod m) = tt
-keeps-shape (command.PushDownMethod m) = tt
 
 -- what is known of verdicts over the numbers of names
 abbrev pub Accepts : Type 0
 Accepts =
-    (names : List (List ℕ)) (self_number : ℕ) (part_of : Locating) (i j : ImageOf ℕ) (command : CommandOf ℕ) → HasNoTwice names → ImageNames (λ n. n < length names) i → CommandNames (λ n. n < length names) command → KeepsShape command
+    (names : List (List ℕ)) (self_number : ℕ) (part_of : Locating) (i j : ImageOf ℕ) (command : CommandOf ℕ) → HasNoTwice names → ImageNames (λ n. n < length names) i → CommandNames (λ n. n < length names) command → MovesNoCode command
     → judged (number_asked names self_number part_of) (number_writing names) i command ≡ Ok j → judged text_asked canonical (map_image (name_at names) i) (map_command (name_at names) command) ≡ Ok (map_image (name_at names) j)
 
 abbrev pub Refuses : Type 0
 Refuses =
-    (names : List (List ℕ)) (self_number : ℕ) (part_of : Locating) (i : ImageOf ℕ) (command : CommandOf ℕ) (condition : ConditionOf ℕ) → HasNoTwice names → ImageNames (λ n. n < length names) i → CommandNames (λ n. n < length names) command → KeepsShape command
+    (names : List (List ℕ)) (self_number : ℕ) (part_of : Locating) (i : ImageOf ℕ) (command : CommandOf ℕ) (condition : ConditionOf ℕ) → HasNoTwice names → ImageNames (λ n. n < length names) i → CommandNames (λ n. n < length names) command → MovesNoCode command
     → judged (number_asked names self_number part_of) (number_writing names) i command ≡ Err condition → judged text_asked canonical (map_image (name_at names) i) (map_command (name_at names) command) ≡ Err (map_condition (name_at names) condition)
 
 module _ (s : Slots) (c : Command) (orderly : IsOrderly s) (known : CommandNames (λ n. n < length s.names) (command_of c)) where

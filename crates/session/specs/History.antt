@@ -7,6 +7,7 @@ use Rattle.run_model.specs.Renamings.{Renaming, no_renaming, composed}
 use Rattle.class_table.specs.Slots.{Slots}
 use Rattle.class_table.specs.View.{image_of}
 use Rattle.change_set.specs.Changes.{all_applied}
+use Rattle.rename_model.specs.OneRenamed.{one_temporary}
 use Rattle.command_model.specs.Renamings.{one_moved, renaming_of}
 use Rattle.command_numbers.specs.MappedCommands.{map_command}
 use Rattle.commands.specs.Views.{renaming_command}
@@ -20,6 +21,7 @@ abbrev pub renaming_in : List (List ℕ) → ImageOf Name → Renames → Renami
 renaming_in names i renames.Nothing = no_renaming
 renaming_in names i (renames.Renaming r) = renaming_of i (map_command (name_at names) (renaming_command r))
 renaming_in names i (renames.Moved c x d) = one_moved (name_at names c) (name_at names x) (name_at names d)
+renaming_in names i (renames.Temporary m x y) = one_temporary (name_at names m.class) m.meta (name_at names m.selector) (name_at names x) (name_at names y)
 
 -- what a command renames that is done in these slots
 abbrev pub renamed_by : Slots → DoneCommand → Renaming

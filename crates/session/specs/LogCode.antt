@@ -1,7 +1,7 @@
 -- Logs are told apart by their fields.
-use Rattle.std.specs.Prelude.{◌≡◌, ℕ, zero, suc, List, ◌⊎◌, refl}
+use Rattle.std.specs.Prelude.{◌≡◌, ℕ, zero, suc, Bool, List, ◌⊎◌, refl}
 use Rattle.std.proofs.Common.{inl, inr}
-use Rattle.std.specs.Coded.{Coded, code_by, coded×, coded⊎, coded_ℕ, coded_list}
+use Rattle.std.specs.Coded.{Coded, code_by, coded×, coded⊎, coded_ℕ, coded_bool, coded_list}
 use Rattle.class_table.specs.declared.record.Place.{Place}
 use Rattle.change_set.specs.declared.change.Change.{Change}
 use Rattle.change_set.specs.ChangeCode.{coded_change, coded_place}
@@ -58,25 +58,28 @@ coded_renaming =
 
 -- what a command renames
 abbrev pub What : Type 0
-What = ℕ ⊎ (Renaming ⊎ (ℕ × (ℕ × ℕ)))
+What = ℕ ⊎ (Renaming ⊎ ((ℕ × (ℕ × ℕ)) ⊎ ((ℕ × (Bool × ℕ)) × (ℕ × ℕ))))
 
 abbrev pub what_of : Renames → What
 what_of renames.Nothing = inl 0
 what_of (renames.Renaming r) = inr (inl r)
-what_of (renames.Moved c x d) = inr (inr (c, (x, d)))
+what_of (renames.Moved c x d) = inr (inr (inl (c, (x, d))))
+what_of (renames.Temporary m x y) = inr (inr (inr ((m.class, (m.meta, m.selector)), (x, y))))
 
 abbrev pub renames_from : What → Renames
 renames_from (inl n) = renames.Nothing
 renames_from (inr (inl r)) = renames.Renaming r
-renames_from (inr (inr p)) = renames.Moved p.0 p.1.0 p.1.1
+renames_from (inr (inr (inl p))) = renames.Moved p.0 p.1.0 p.1.1
+renames_from (inr (inr (inr p))) = renames.Temporary (record { class = p.0.0; meta = p.0.1.0; selector = p.0.1.1 }) p.1.0 p.1.1
 
 pub renames_back : (r : Renames) → renames_from (what_of r) ≡ r
 renames_back renames.Nothing = refl
 renames_back (renames.Renaming r) = refl
 renames_back (renames.Moved c x d) = refl
+renames_back (renames.Temporary m x y) = refl
 
 abbrev pub coded_renames : Coded Renames
-coded_renames = code_by What (coded⊎ coded_ℕ (coded⊎ coded_renaming (coded× coded_ℕ (coded× coded_ℕ coded_ℕ)))) what_of renames_from renames_back
+coded_renames = code_by What (coded⊎ coded_ℕ (coded⊎ coded_renaming (coded⊎ (coded× coded_ℕ (coded× coded_ℕ coded_ℕ)) (coded× (coded× coded_ℕ (coded× coded_bool coded_ℕ)) (coded× coded_ℕ coded_ℕ))))) what_of renames_from renames_back
 
 -- the code of a command that was done, and of an action
 abbrev pub coded_command : Coded DoneCommand

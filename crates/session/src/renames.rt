@@ -12,7 +12,7 @@ ghost use Rattle.commands.specs.Views.{command_of};
 ghost use Rattle.session.specs.History.{renaming_in};
 
 use class_table::Image;
-use commands::{Command, Renaming, VariableMove};
+use commands::{Command, MethodName, NewParameter, Renaming, VariableMove};
 use rb_base::NameId;
 
 /// What a command renames.
@@ -25,6 +25,12 @@ pub enum Renames {
     /// The class variable becomes one of the class `to`.
     Moved {
         class: NameId,
+        variable: NameId,
+        to: NameId,
+    },
+    /// The argument, parameter or temporary of the method is called `to`.
+    Temporary {
+        method: MethodName,
         variable: NameId,
         to: NameId,
     },
@@ -85,6 +91,21 @@ pub(crate) fn renames_of(image: &Image, command: &Command) -> Renames
             },
         ) => Renames::Moved {
             class,
+            variable,
+            to,
+        },
+        Command::AddParameter(NewParameter { selector, to, .. }) => {
+            Renames::Renaming(Renaming::Selector { selector, to })
+        }
+        Command::RemoveParameter { selector, to, .. } => {
+            Renames::Renaming(Renaming::Selector { selector, to })
+        }
+        Command::RenameTemporary {
+            method,
+            variable,
+            to,
+        } => Renames::Temporary {
+            method,
             variable,
             to,
         },
