@@ -6,20 +6,26 @@ use Rattle.std.specs.Option.{option_map, option_map_or, option_and_then}
 use Rattle.rb_base.specs.Names.{text_eq}
 use Rattle.chunk_format.specs.Blank.{is_blank, blank_len, drop_blanks, HasNoLeadingBlank}
 use Rattle.chunk_format.proofs.Blanks.{drop_blanks-cons}
+use Rattle.token_model.specs.declared.kind.Dialect.TheVariants.{Second}
+use Rattle.tree_model.specs.Tree.{LiteralOf}
+use Rattle.grammar_model.specs.Spanned.{SpannedSequence}
+use Rattle.grammar_model.specs.Spelling.{SpellsDoItAt}
 use Rattle.text_model.specs.Literals.{is_identifier}
 use Rattle.image_model.specs.ImageNames.{OptionNames}
 use Rattle.image_model.proofs.Lists.{find-all}
 use Rattle.history_model.specs.Rules.{Asks}
 use Rattle.file_model.specs.Fileable.{MayStand}
-use Rattle.command_model.specs.Commands.{AddMethod}
+use Rattle.command_model.specs.Commands.{AddMethod, AddParameter}
 use Rattle.session_model.specs.Scripts.{Request}
 use Rattle.session_model.specs.Lawful.{IsLawfulAction}
 use Rattle.script_model.specs.Lines.{words_of, lines_of, spoken}
-use Rattle.script_model.specs.Arguments.{Argument, name, side, side_of, arguments_of}
-use Rattle.script_model.specs.Makers.{Text, Maker, single, of_none, of_one, of_two, of_three, names_in, of_classes, of_method}
+use Rattle.script_model.specs.Arguments.{Argument, name, side, number, side_of, arguments_of}
+use Rattle.script_model.specs.Makers.{Text, Maker, single, of_none, of_one, of_two, of_three, names_in, of_classes, of_parameter, of_method, of_local_to}
 use Rattle.script_model.specs.Commands.{Row, Cause, BadArgument, table, no_command, said_by_row, said_by}
 use Rattle.script_model.specs.Additions.{first_word, behind_word, Addition, addition, addition_of, Spelled, Incomplete, Faulty}
-use Rattle.script_model.specs.Scripts.{LineSays, InWords, InText, EachSays, Says}
+use Rattle.script_model.specs.Parameters.{Parameter, literal_in, passing, Read, Wordless, Unreadable}
+use Rattle.script_model.specs.Scripts.{LineSays, InWords, InText, InLiteral, EachSays, Says}
+use Rattle.apply_laws.proofs.SpelledLiterals.{literal-spelled}
 
 -- a request that the laws of scripts speak of
 abbrev IsFit : Request → Type 0
@@ -52,6 +58,14 @@ classes f h (name d ∷ name p ∷ rest) r e = by (names_in rest) e
     by (Some under) made = let same : f d p under ≡ r = cc in subst IsFit same (h d p under)
 classes f h arguments r e = absurd (cc)
 
+parameter : (f : Text → ℕ → Text → Request) → ((s : Text) (k : ℕ) (t : Text) → IsFit (f s k t)) → MakesFit (of_parameter f)
+parameter f h (name s ∷ number k ∷ name t ∷ []) r e = let same : f s k t ≡ r = cc in subst IsFit same (h s k t)
+parameter f h arguments r e = absurd (cc)
+
+local : (f : Text → Bool → Text → Text → Text → Request) → ((c : Text) (meta : Bool) (s x y : Text) → IsFit (f c meta s x y)) → MakesFit (of_local_to f)
+local f h (name c ∷ side meta ∷ name s ∷ name x ∷ name y ∷ []) r e = let same : f c meta s x y ≡ r = cc in subst IsFit same (h c meta s x y)
+local f h arguments r e = absurd (cc)
+
 method : (f : Text → Bool → Text → Request) → ((c : Text) (meta : Bool) (s : Text) → IsFit (f c meta s)) → MakesFit (of_method f)
 method f h (name c ∷ side meta ∷ name s ∷ []) r e = let same : f c meta s ≡ r = cc in subst IsFit same (h c meta s)
 method f h arguments r e = absurd (cc)
@@ -78,17 +92,23 @@ shared-fit = (two _ (λ c x. (tt, tt, tt)), (three _ (λ c x y. (tt, tt, tt)), (
 class_side-fit : Fits (take 3 (drop 13 table))
 class_side-fit = (two _ (λ c x. (tt, tt, tt)), (three _ (λ c x y. (tt, tt, tt)), (two _ (λ c x. (tt, tt, tt)), tt)))
 
-methods-fit : Fits (take 4 (drop 16 table))
-methods-fit = (two _ (λ c x. (tt, tt, tt)), (method _ (λ c meta s. (tt, tt, tt)), (method _ (λ c meta s. (tt, tt, tt)), (method _ (λ c meta s. (tt, tt, tt)), tt))))
+methods-fit : Fits (take 6 (drop 16 table))
+methods-fit = (
+  two _ (λ c x. (tt, tt, tt)),
+  (
+    method _ (λ c meta s. (tt, tt, tt)),
+    (method _ (λ c meta s. (tt, tt, tt)), (method _ (λ c meta s. (tt, tt, tt)), (parameter _ (λ s k t. (tt, tt, tt)), (local _ (λ c meta s x y. (tt, tt, tt)), tt)))),
+  ),
+)
 
-others-fit : Fits (drop 20 table)
+others-fit : Fits (drop 22 table)
 others-fit = (two _ (λ c x. record { selector = refl; parameter_is = refl }), (classes _ (λ d p under. tt), (two _ (λ c x. tt), (none _ tt, (none _ tt, tt)))))
 
 -- all commands that are performed
 all-fit : Fits table
 all-fit =
     joined 3 table classes-fit
-    (joined 5 (drop 3 table) instance-fit (joined 5 (drop 8 table) shared-fit (joined 3 (drop 13 table) class_side-fit (joined 4 (drop 16 table) methods-fit others-fit))))
+    (joined 5 (drop 3 table) instance-fit (joined 5 (drop 8 table) shared-fit (joined 3 (drop 13 table) class_side-fit (joined 6 (drop 16 table) methods-fit others-fit))))
 
 -- what the arguments of a row make
 abbrev as-said : Option Request → Result Request Cause
@@ -148,14 +168,24 @@ may-stand t a e =
     let is = addition-text (first_word t) (side_of (first_word side)) (first_word protocol) text a e in
     record { some = λ none. is.1 (sym is.0 ∙ none); no_blank = ap blank_len is.0 ∙ no-blank (behind_word protocol) }
 
+-- what a parameter with a literal asks for
+parameter-fit : (p : Parameter) (tree : SpannedSequence) (r : Request) → SpellsDoItAt Second p.passed tree → (o : Option (LiteralOf Text)) → literal_in p.passed tree ≡ o → passing p o ≡ Ok r → IsFit r
+parameter-fit p tree r spells None is e = absurd (cc)
+parameter-fit p tree r spells (Some l) is e =
+    let same : single (AddParameter p.selector p.to p.name l) ≡ r = cc in
+    subst IsFit same (tt, literal-spelled p.passed tree l spells is, tt)
+
 -- what a line asks for
 line-fit : (line : Text) (r : Request) → LineSays line (Ok r) → IsFit r
-line-fit line r (InWords plain answer) = words-fit (words_of line) r (sym answer)
+line-fit line r (InWords plain too answer) = words-fit (words_of line) r (sym answer)
 line-fit line r (InText adds (Spelled a tree is spells answer)) =
     let same : single (AddMethod a.class a.meta a.protocol a.text tree) ≡ r = cc in
     subst IsFit same (tt, spells, may-stand (behind_word line) a is)
 line-fit line r (InText adds (Incomplete none answer)) = absurd (cc)
 line-fit line r (InText adds (Faulty a fault is wrong answer)) = absurd (cc)
+line-fit line r (InLiteral adds (Read p tree is spells answer)) = parameter-fit p tree r spells (literal_in p.passed tree) refl (sym answer)
+line-fit line r (InLiteral adds (Wordless none answer)) = absurd (cc)
+line-fit line r (InLiteral adds (Unreadable p fault is wrong answer)) = absurd (cc)
 
 -- what lines ask for
 lines-fit : (lines : List Text) (requests : List Request) → EachSays lines requests → AllByRecursion (Asks IsLawfulAction) requests

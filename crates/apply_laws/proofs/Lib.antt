@@ -1,3 +1,4 @@
 mod LawfulRequests
+mod SpelledLiterals
 mod Kept
 mod SomeAnswer

@@ -8,11 +8,13 @@ use Rattle.grammar_model.specs.Terminal.{Text}
 use Rattle.rb_base.specs.Names.{text_eq, name_at, number_in, interned}
 use Rattle.event_trees.specs.Naming.{Grows}
 use Rattle.event_trees.proofs.Known.{Grows-none, Grows-Adds, Adds-number, text_of_number, text_stays}
-use Rattle.tree_model.proofs.AllNamesLemmas.{map_method-same, MethodNames-implies}
+use Rattle.tree_model.specs.Tree.{LiteralOf, TreeOf, literal, map_literal}
+use Rattle.tree_model.specs.AllNames.{LiteralNames}
+use Rattle.tree_model.proofs.AllNamesLemmas.{map_names-same, map_method-same, AllNames-implies, MethodNames-implies}
 use Rattle.st_tree.specs.View.{method_of}
 use Rattle.history_model.specs.Rules.{Perform}
 use Rattle.session_model.specs.Actions.{Single, CreateAccessors, ExtractSuperclass, PushUpWithMethods}
-use Rattle.command_model.specs.Commands.{RenameClass, AddClass, RemoveClass, AddInstVar, RenameInstVar, RemoveInstVar, PushUpInstVar, PushDownInstVar, AddClassVar, RenameClassVar, RemoveClassVar, PushUpClassVar, PushDownClassVar, AddClassSideVar, RenameClassSideVar, RemoveClassSideVar, RenameSelector, AddMethod, RemoveMethod, PushUpMethod, PushDownMethod}
+use Rattle.command_model.specs.Commands.{RenameClass, AddClass, RemoveClass, AddInstVar, RenameInstVar, RemoveInstVar, PushUpInstVar, PushDownInstVar, AddClassVar, RenameClassVar, RemoveClassVar, PushUpClassVar, PushDownClassVar, AddClassSideVar, RenameClassSideVar, RemoveClassSideVar, RenameSelector, AddMethod, RemoveMethod, PushUpMethod, PushDownMethod, AddParameter, RemoveParameter, RenameTemp}
 use Rattle.command_numbers.specs.CommandNames.{CommandNames}
 use Rattle.command_numbers.specs.MappedCommands.{map_command}
 use Rattle.name_meanings.specs.declared.meaning.VariableKind.TheVariants as kind
@@ -25,6 +27,11 @@ use Rattle.commands.specs.declared.command.Request.{Request}
 use Rattle.commands.specs.declared.command.Request.TheVariants as request
 use Rattle.commands.specs.Views.{command_of, request_in, IsKnownRequest}
 use Rattle.script_lang.specs.Shown.{requests_in, AreKnown}
+
+-- the literal of a node, and another one where it is none
+abbrev held-literal : LiteralOf Text → TreeOf Text → LiteralOf Text
+held-literal l (literal m) = m
+held-literal l t = l
 
 module _ {names later : List Text} (g : Grows names later) where
   -- a number that has a text keeps it
@@ -44,6 +51,12 @@ module _ {names later : List Text} (g : Grows names later) where
   pub numbers-grown : (ns : List ℕ) → AllByRecursion (λ n. n < length names) ns → AllByRecursion (λ n. n < length later) ns
   numbers-grown [] h = tt
   numbers-grown (n ∷ ns) h = (number-grown n h.0, numbers-grown ns h.1)
+
+  -- a literal
+  literal-grown : (l : LiteralOf ℕ) → LiteralNames (λ n. n < length names) l → map_literal (name_at later) l ≡ map_literal (name_at names) l
+  literal-grown l h =
+      ap (held-literal (map_literal (name_at names) l))
+      (map_names-same (name_at later) (name_at names) (literal l) (AllNames-implies (λ k. k < length names) (λ k. name_at later k ≡ name_at names k) name_at-grown (literal l) h))
 
   -- a command
   command-grown : (c : Command) → CommandNames (λ n. n < length names) (command_of c) → map_command (name_at later) (command_of c) ≡ map_command (name_at names) (command_of c)
@@ -69,6 +82,11 @@ module _ {names later : List Text} (g : Grows names later) where
   command-grown (command.RemoveMethod m) h = λ i. RemoveMethod (name_at-grown m.class h.0 i) m.meta (name_at-grown m.selector h.1 i)
   command-grown (command.PushUpMethod m) h = λ i. PushUpMethod (name_at-grown m.class h.0 i) m.meta (name_at-grown m.selector h.1 i)
   command-grown (command.PushDownMethod m) h = λ i. PushDownMethod (name_at-grown m.class h.0 i) m.meta (name_at-grown m.selector h.1 i)
+  command-grown (command.AddParameter n) h =
+      λ i. AddParameter (name_at-grown n.selector h.0 i) (name_at-grown n.to h.1 i) (name_at-grown n.parameter h.2 i) (literal-grown n.passed h.3 i)
+  command-grown (command.RemoveParameter s k t) h = λ i. RemoveParameter (name_at-grown s h.0 i) k (name_at-grown t h.1 i)
+  command-grown (command.RenameTemporary m x y) h =
+      λ i. RenameTemp (name_at-grown m.class h.0 i) m.meta (name_at-grown m.selector h.1 i) (name_at-grown x h.2 i) (name_at-grown y h.3 i)
 
   command_known-grown : (c : Command) → CommandNames (λ n. n < length names) (command_of c) → CommandNames (λ n. n < length later) (command_of c)
   command_known-grown (command.Rename (renaming.Class c d)) h = (number-grown c h.0, number-grown d h.1)
@@ -92,6 +110,10 @@ module _ {names later : List Text} (g : Grows names later) where
   command_known-grown (command.RemoveMethod m) h = (number-grown m.class h.0, number-grown m.selector h.1)
   command_known-grown (command.PushUpMethod m) h = (number-grown m.class h.0, number-grown m.selector h.1)
   command_known-grown (command.PushDownMethod m) h = (number-grown m.class h.0, number-grown m.selector h.1)
+  command_known-grown (command.AddParameter n) h =
+      (number-grown n.selector h.0, number-grown n.to h.1, number-grown n.parameter h.2, AllNames-implies (λ k. k < length names) (λ k. k < length later) number-grown (literal n.passed) h.3)
+  command_known-grown (command.RemoveParameter s k t) h = (number-grown s h.0, number-grown t h.1)
+  command_known-grown (command.RenameTemporary m x y) h = (number-grown m.class h.0, number-grown m.selector h.1, number-grown x h.2, number-grown y h.3)
 
   -- a request
   request-grown : (r : Request) → IsKnownRequest names r → request_in later r ≡ request_in names r

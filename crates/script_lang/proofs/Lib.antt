@@ -1,8 +1,10 @@
 mod AddedMethods
 mod Growing
 mod Identifiers
+mod MethodWords
 mod Named
 mod Parts
+mod PassedLiterals
 mod Reading
 mod Selectors
 mod Verbs

@@ -1,3 +1,4 @@
 pub mod Shown
 pub mod Asking
+pub mod Passing
 pub mod Read

@@ -1,5 +1,5 @@
 -- Requests and faults of the program in the words of the definitions.
-use Rattle.std.specs.Prelude.{◌≡◌, ℕ, ◌==◌, ◌<◌, not, true, filter, find, List, ◌∷◌, length, map, Option, Some, None, Result}
+use Rattle.std.specs.Prelude.{◌≡◌, ℕ, ◌==◌, ◌<◌, not, true, filter, find, List, [], ◌∷◌, length, map, Option, Some, None, Result}
 use Rattle.std.specs.List.{AllByRecursion, list_all}
 use Rattle.std.specs.Option.{option_map}
 use Rattle.std.specs.Borrow.{Bor}
@@ -8,9 +8,11 @@ use Rattle.text_model.specs.Literals.{is_identifier}
 use Rattle.session_model.specs.Scripts.{Request as Asked}
 use Rattle.name_meanings.specs.declared.meaning.VariableKind.{VariableKind}
 use Rattle.name_meanings.specs.declared.meaning.VariableKind.TheVariants as kind
+use Rattle.commands.specs.declared.command.MethodName.{MethodName}
 use Rattle.commands.specs.declared.command.Request.{Request}
 use Rattle.commands.specs.Views.{request_in, IsKnownRequest}
-use Rattle.script_model.specs.Words.{add_class, rename_class, remove_class, add_inst_var, rename_inst_var, remove_inst_var, push_up_inst_var, push_down_inst_var, add_class_var, rename_class_var, remove_class_var, push_up_class_var, push_down_class_var, add_class_side_var, rename_class_side_var, remove_class_side_var, rename_selector, remove_method, push_up_method, push_down_method, create_accessors, extract_superclass, push_up_with_methods, undo, redo}
+use Rattle.script_model.specs.Words.{add_class, rename_class, remove_class, add_inst_var, rename_inst_var, remove_inst_var, push_up_inst_var, push_down_inst_var, add_class_var, rename_class_var, remove_class_var, push_up_class_var, push_down_class_var, add_class_side_var, rename_class_side_var, remove_class_side_var, rename_selector, remove_method, push_up_method, push_down_method, remove_parameter, rename_temp, create_accessors, extract_superclass, push_up_with_methods, undo, redo}
+use Rattle.script_model.specs.Arguments.{a_class, a_selector, argument, name, side_of, arguments_of, takes, method_and}
 use Rattle.script_model.specs.Commands as script
 use Rattle.script_model.specs.Additions as added
 use Rattle.script_lang.specs.declared.verb.Verb.{Verb}
@@ -75,6 +77,8 @@ word_of (verb.NewClass v) = new_class_word v
 word_of verb.CreateAccessors = create_accessors
 word_of verb.RenameSelector = rename_selector
 word_of (verb.Method v) = method_word v
+word_of verb.RemoveParameter = remove_parameter
+word_of verb.RenameTemporary = rename_temp
 word_of verb.Undo = undo
 word_of verb.Redo = redo
 
@@ -107,6 +111,16 @@ pub record AreNames (names : List (List ℕ)) (ids : List ℕ) (words : List (Li
   pub spelled : list_all is_identifier words ≡ true
   pub texts : words ≡ map (name_at names) ids
   pub known : AllByRecursion (λ n. n < length names) ids
+
+-- three words name a method
+pub record IsMethodNamed (names : List (List ℕ)) (m : MethodName) (class side selector : List ℕ) : Type 0 where
+  pub class_is : argument a_class class ≡ Some (name (name_at names m.class))
+  pub side_is : side_of side ≡ Some m.meta
+  pub selector_is : argument a_selector selector ≡ Some (name (name_at names m.selector))
+
+-- they name none
+abbrev pub NamesNoMethod : (class side selector : List ℕ) → Type 0
+NamesNoMethod class side selector = arguments_of (takes (method_and [])) (class ∷ side ∷ selector ∷ []) ≡ None
 
 -- the parts of a method that is to be added
 abbrev pub addition_shown : Option Addition → Option added.Addition

@@ -5,6 +5,7 @@ mod additions;
 mod bytes;
 mod fault;
 mod lines;
+mod parameters;
 mod requests;
 mod script;
 mod verb;

@@ -10,7 +10,7 @@ use crate::bytes::is_blank;
 use std::alloc::{AllocError, Global};
 
 /// Whether a line has nothing but blanks.
-fn is_blank_line(line: &[u8]) -> bool
+pub(crate) fn is_blank_line(line: &[u8]) -> bool
     ensures { result ≡ list_all class.is_blank line.now }
 {
     line.iter().all(|byte| is_blank(*byte))

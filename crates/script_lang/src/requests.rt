@@ -10,7 +10,9 @@ ghost use Rattle.script_lang.specs.Shown.{asked, texts};
 ghost use Rattle.script_lang.specs.Asking.{pair_action, triple_command, method_command};
 
 use crate::verb::{MethodVerb, NewClassVerb, PairVerb, TripleVerb, Verb};
-use crate::words::{Wrong, identifier, identifiers, parameter, selector, setter, side};
+use crate::words::{
+    Wrong, identifier, identifiers, method_name, number, parameter, selector, setter,
+};
 use commands::{Action, Command, MethodName, NewClass, Renaming, Request, VariableMove};
 use rb_base::{Ids, NameId, Names};
 use std::alloc::Global;
@@ -203,17 +205,50 @@ fn method_request(verb: MethodVerb, words: &[&[u8]], names: &mut Names) -> Resul
     let [class, of_side, of_selector] = words else {
         return Err(Wrong::Argument);
     };
-    let Some(meta) = side(of_side) else {
+    let method = method_name(class, of_side, of_selector, names)?;
+    Ok(Request::Perform(Action::Single(method_command(verb, method))))
+}
+
+/// What `removeParameter` asks for with these words: a selector, the number of its argument, and its new selector.
+fn remove_parameter(words: &[&[u8]], names: &mut Names) -> Result<Request, Wrong>
+    ensures said { IfOk result (λ r. asked verbs.RemoveParameter (texts words.now) ≡ Ok (request_in names.new r)) }
+    ensures known { IfOk result (λ r. IsKnownRequest names.new r) }
+    ensures wrong { IfErr result (λ e. e ≡ wrong.Argument → asked verbs.RemoveParameter (texts words.now) ≡ Err BadArgument) }
+    ensures grows { Grows names.old names.new }
+{
+    let [old, of_number, to] = words else {
         return Err(Wrong::Argument);
     };
-    let class = identifier(class, names)?;
-    let selector = selector(of_selector, names)?;
-    let method = MethodName {
-        class,
-        meta,
-        selector,
+    let Some(argument) = number(of_number) else {
+        return Err(Wrong::Argument);
     };
-    Ok(Request::Perform(Action::Single(method_command(verb, method))))
+    let old = selector(old, names)?;
+    let to = selector(to, names)?;
+    Ok(Request::Perform(Action::Single(Command::RemoveParameter {
+        selector: old,
+        argument,
+        to,
+    })))
+}
+
+/// What `renameTemp` asks for with these words: a method, a variable in it and its new name.
+fn rename_temporary(words: &[&[u8]], names: &mut Names) -> Result<Request, Wrong>
+    ensures said { IfOk result (λ r. asked verbs.RenameTemporary (texts words.now) ≡ Ok (request_in names.new r)) }
+    ensures known { IfOk result (λ r. IsKnownRequest names.new r) }
+    ensures wrong { IfErr result (λ e. e ≡ wrong.Argument → asked verbs.RenameTemporary (texts words.now) ≡ Err BadArgument) }
+    ensures grows { Grows names.old names.new }
+{
+    let [class, of_side, of_selector, variable, to] = words else {
+        return Err(Wrong::Argument);
+    };
+    let method = method_name(class, of_side, of_selector, names)?;
+    let variable = identifier(variable, names)?;
+    let to = identifier(to, names)?;
+    Ok(Request::Perform(Action::Single(Command::RenameTemporary {
+        method,
+        variable,
+        to,
+    })))
 }
 
 /// A request that takes no words.
@@ -248,6 +283,8 @@ pub(crate) fn request_of(
         Verb::CreateAccessors => accessors(alloc, words, names),
         Verb::RenameSelector => rename_selector(words, names),
         Verb::Method(verb) => method_request(verb, words, names),
+        Verb::RemoveParameter => remove_parameter(words, names),
+        Verb::RenameTemporary => rename_temporary(words, names),
         Verb::Undo => without_words(words, Request::Undo),
         Verb::Redo => without_words(words, Request::Redo),
     }

@@ -5,6 +5,7 @@ ghost use Rattle.script_model.specs.Lines.{is_skipped, lines_of};
 ghost use Rattle.script_model.specs.Commands as script;
 ghost use Rattle.script_model.specs.Scripts.{said, LineSays, IsWrong, Say, Says, IsRefused};
 ghost use Rattle.script_model.specs.Additions.{AddsMethod};
+ghost use Rattle.script_model.specs.Parameters.{AddsParameter};
 ghost use Rattle.commands.specs.Views.{request_in, IsKnownRequest};
 ghost use Rattle.script_lang.specs.Shown.{asked, requests_in, AreKnown, texts, fault_shown};
 ghost use Rattle.script_lang.specs.Read.{HasAsked};
@@ -13,6 +14,7 @@ use crate::additions::{add_method, split_word};
 use crate::bytes::same_text;
 use crate::fault::ScriptFault;
 use crate::lines::{is_skipped, lines_of, words_of};
+use crate::parameters::add_parameter;
 use crate::requests::request_of;
 use crate::verb::{Verb, is_to_come, verb_of};
 use crate::words::Wrong;
@@ -95,6 +97,25 @@ fn said_by_text(
     }
 }
 
+/// What the line of a number asks for, one of `addParameter`, with the text behind the word.
+fn said_by_literal(
+    alloc: Global,
+    text: &[u8],
+    line: usize,
+    names: &mut Names,
+) -> Result<Request, ScriptFault>
+    ensures said { IfOk result (λ r. AddsParameter text.now (Ok (request_in names.new r))) }
+    ensures known { IfOk result (λ r. IsKnownRequest names.new r) }
+    ensures fault { IfErr result (λ f. (n : ℕ) (cause : script.Cause) → fault_shown f ≡ Some (n, cause) → (n ≡ line) × AddsParameter text.now (Err cause)) }
+    ensures grows { Grows names.old names.new }
+{
+    match add_parameter(alloc, text, names) {
+        Ok(request) => Ok(request),
+        Err(Wrong::Argument) => Err(ScriptFault::BadArgument { line }),
+        Err(Wrong::Memory) => Err(ScriptFault::Memory),
+    }
+}
+
 /// What the line of a number asks for.
 fn line_request(
     alloc: Global,
@@ -110,6 +131,8 @@ fn line_request(
     let (word, rest) = split_word(text);
     if same_text(word, b"addMethod") {
         said_by_text(alloc, rest, line, names)
+    } else if same_text(word, b"addParameter") {
+        said_by_literal(alloc, rest, line, names)
     } else {
         words_request(alloc, text, line, names)
     }
@@ -175,7 +198,8 @@ fn read_lines(
 /// are numbers in `names`, to whose end those that are new are added. Whether there is a class, a variable or a selector of
 /// a name is not told.
 ///
-/// A line of `addMethod` has the text of a method behind its fourth word, to the end of the line.
+/// A line of `addMethod` has the text of a method behind its fourth word, to the end of the line, and one of `addParameter`
+/// a literal.
 ///
 /// On any error `names` may hold the names of the commands before it, and of the words before the one that is wrong. The
 /// time and the memory that it takes from `alloc` are linear in the text.

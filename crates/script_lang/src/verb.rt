@@ -9,8 +9,8 @@ ghost use Rattle.script_lang.specs.Shown.{word_of, FindsVerb};
 use crate::bytes::same_text;
 use name_meanings::VariableKind;
 
-/// A command by its word alone, sorted by what stands behind the word. `addMethod` is none of these, since a text stands
-/// behind it.
+/// A command by its word alone, sorted by what stands behind the word. `addMethod` and `addParameter` are none of these,
+/// since a text stands behind them.
 #[derive(Clone, Copy)]
 pub(crate) enum Verb {
     /// A class.
@@ -27,6 +27,10 @@ pub(crate) enum Verb {
     RenameSelector,
     /// A class, a side and a selector.
     Method(MethodVerb),
+    /// A selector, the number of an argument and the selector without it.
+    RemoveParameter,
+    /// A method, a variable in it and its new name.
+    RenameTemporary,
     /// Nothing.
     Undo,
     Redo,
@@ -70,7 +74,7 @@ pub(crate) enum MethodVerb {
 }
 
 /// The words of the commands that are performed.
-const VERBS: [(&[u8], Verb); 25] = [
+const VERBS: [(&[u8], Verb); 27] = [
     (b"addClass", Verb::NewClass(NewClassVerb::Add)),
     (b"renameClass", Verb::Pair(PairVerb::RenameClass)),
     (b"removeClass", Verb::RemoveClass),
@@ -118,6 +122,8 @@ const VERBS: [(&[u8], Verb); 25] = [
     (b"removeMethod", Verb::Method(MethodVerb::Remove)),
     (b"pushUpMethod", Verb::Method(MethodVerb::PushUp)),
     (b"pushDownMethod", Verb::Method(MethodVerb::PushDown)),
+    (b"removeParameter", Verb::RemoveParameter),
+    (b"renameTemp", Verb::RenameTemporary),
     (b"createAccessors", Verb::CreateAccessors),
     (b"extractSuperclass", Verb::NewClass(NewClassVerb::Extract)),
     (b"pushUpWithMethods", Verb::Pair(PairVerb::UpWithMethods)),
@@ -126,15 +132,12 @@ const VERBS: [(&[u8], Verb); 25] = [
 ];
 
 /// The words of commands that are still to come.
-const WORDS_TO_COME: [&[u8]; 9] = [
-    b"removeParameter",
+const WORDS_TO_COME: [&[u8]; 6] = [
     b"abstractInstVar",
     b"extractMethod",
     b"inlineMethod",
     b"extractTemp",
     b"inlineTemp",
-    b"renameTemp",
-    b"addParameter",
     b"applyRule",
 ];
 

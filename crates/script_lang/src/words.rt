@@ -1,4 +1,4 @@
-// Words behind that of a command: names, selectors and sides.
+// Words behind that of a command: names, selectors, sides, methods and numbers.
 ghost use Rattle.std.specs.Prelude.{◌≡◌, ◌<◌, length, false, Some, None, IfOk, IfErr};
 ghost use Rattle.std.specs.List.{list_all};
 ghost use Rattle.rb_base.specs.Names.{name_at};
@@ -7,17 +7,23 @@ ghost use Rattle.command_model.specs.Accessors as accessor;
 ghost use Rattle.event_trees.specs.Naming.{Grows};
 ghost use Rattle.script_model.specs.Arguments as script;
 ghost use Rattle.script_lang.specs.declared.words.Wrong.TheVariants as wrong;
-ghost use Rattle.script_lang.specs.Shown.{AreNames, texts};
+ghost use Rattle.script_lang.specs.Shown.{AreNames, IsMethodNamed, NamesNoMethod, texts};
 
 use crate::bytes::same_text;
+use command_words::number_of;
+use commands::MethodName;
 use rb_base::{Ids, Memory, NameId, Names, Text};
 use spelled_words::{is_identifier, is_selector};
 use std::alloc::{AllocError, Global};
 
+/// The highest number of a script.
+const MOST_NUMBER: u32 = 999_999_999;
+
 /// Why words ask for nothing.
 #[derive(Clone, Copy)]
 pub(crate) enum Wrong {
-    /// There are too few or too many words, one is not spelled as it is to be at its place, or a text is no method of a user.
+    /// There are too few or too many words, one is not spelled as it is to be at its place, or a text is no method of a user
+    /// or no literal.
     Argument,
     /// Want of memory.
     Memory,
@@ -101,6 +107,43 @@ pub(crate) fn side(word: &[u8]) -> Option<bool>
     } else {
         None
     }
+}
+
+/// The number that the word writes.
+pub(crate) fn number(word: &[u8]) -> Option<usize>
+    ensures { result ≡ script.number_of word.now }
+{
+    if same_text(word, b"0") {
+        return Some(0);
+    }
+    match number_of(word, MOST_NUMBER) {
+        Some(number) => Some(number as usize),
+        None => None,
+    }
+}
+
+/// The method that three words name: its class, its side and its selector.
+pub(crate) fn method_name(
+    class: &[u8],
+    of_side: &[u8],
+    of_selector: &[u8],
+    names: &mut Names,
+) -> Result<MethodName, Wrong>
+    ensures said { IfOk result (λ m. IsMethodNamed names.new m class.now of_side.now of_selector.now) }
+    ensures known { IfOk result (λ m. (m.class < length names.new) × (m.selector < length names.new)) }
+    ensures wrong { IfErr result (λ e. e ≡ wrong.Argument → NamesNoMethod class.now of_side.now of_selector.now) }
+    ensures grows { Grows names.old names.new }
+{
+    let Some(meta) = side(of_side) else {
+        return Err(Wrong::Argument);
+    };
+    let class = identifier(class, names)?;
+    let selector = selector(of_selector, names)?;
+    Ok(MethodName {
+        class,
+        meta,
+        selector,
+    })
 }
 
 /// The name of the setter of a variable.

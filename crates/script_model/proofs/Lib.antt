@@ -1,4 +1,5 @@
 mod ExamplesJudged
 mod LineAnswers
 mod OneReading
+mod ParameterAnswers
 mod SomeReading

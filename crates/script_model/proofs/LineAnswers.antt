@@ -1,5 +1,8 @@
 -- Each line says one thing.
 use Rattle.std.proofs.Common.{◌≡◌, ℕ, ◌⊎◌, inl, inr, Bool, true, false, List, [], ◌∷◌, map, Option, Some, None, Result, Ok, Err, refl, sym, ap, subst, ◌∙◌, true≢false}
+use Rattle.std.proofs.lemmas.Bool.Decides.{Decides-eqb}
+use Rattle.std.proofs.lemmas.Slice.Eq.{slice_eq-Decides}
+use Rattle.rb_base.specs.Names.{text_eq}
 use Rattle.token_model.specs.declared.kind.Dialect.TheVariants.{Second}
 use Rattle.tree_model.specs.Tree.{MethodOf}
 use Rattle.grammar_model.specs.Whole.{Method}
@@ -10,11 +13,25 @@ use Rattle.session_model.specs.Scripts.{Request}
 use Rattle.script_model.specs.Makers.{Text, single}
 use Rattle.script_model.specs.Commands.{Cause, BadArgument}
 use Rattle.script_model.specs.Additions.{Addition, addition_of, behind_word, AddsMethod, Spelled, Incomplete, Faulty}
-use Rattle.script_model.specs.Scripts.{said, adds_method, LineSays, InWords, InText, EachSays, cause_of, IsWrong}
+use Rattle.script_model.specs.Words.{add_method, add_parameter}
+use Rattle.script_model.specs.Additions.{first_word}
+use Rattle.script_model.specs.Scripts.{said, adds_method, adds_parameter, LineSays, InWords, InText, InLiteral, EachSays, cause_of, IsWrong}
+use Rattle.script_model.proofs.ParameterAnswers.{one-parameter, some-parameter}
 
 -- what a line says
 abbrev pub Answer : Type 0
 Answer = Result Request Cause
+
+-- a line has one first word
+same-word : (w v : Text) → text_eq w v ≡ true → w ≡ v
+same-word w v e = (slice_eq-Decides Decides-eqb w v (text_eq w v) refl).0 e
+
+either-word : (line : Text) → adds_method line ≡ true → adds_parameter line ≡ true → ⊥
+either-word line adds also =
+    let one = same-word (first_word line) add_method adds in
+    let other = same-word (first_word line) add_parameter also in
+    let both : add_method ≡ add_parameter = sym one ∙ other in
+    absurd (cc both)
 
 -- a text of a method spells one tree or has a fault
 abbrev Spells : Text → MethodOf Text → Type 0
@@ -59,10 +76,15 @@ module _ (one_tree : OneTree) (not_both : NotBoth) where
 
   -- and to a line
   pub says-one : (line : Text) (r s : Answer) → LineSays line r → LineSays line s → r ≡ s
-  says-one line r s (InWords plain answer) (InWords plainly says) = answer ∙ sym says
-  says-one line r s (InWords plain answer) (InText adds says) = absurd (true≢false (sym adds ∙ plain))
-  says-one line r s (InText adds answer) (InWords plain says) = absurd (true≢false (sym adds ∙ plain))
+  says-one line r s (InWords plain too answer) (InWords plainly also says) = answer ∙ sym says
+  says-one line r s (InWords plain too answer) (InText adds says) = absurd (true≢false (sym adds ∙ plain))
+  says-one line r s (InWords plain too answer) (InLiteral adds says) = absurd (true≢false (sym adds ∙ too))
+  says-one line r s (InText adds answer) (InWords plain too says) = absurd (true≢false (sym adds ∙ plain))
   says-one line r s (InText adds answer) (InText also says) = adds-one (behind_word line) r s answer says
+  says-one line r s (InText adds answer) (InLiteral also says) = absurd (either-word line adds also)
+  says-one line r s (InLiteral adds answer) (InWords plain too says) = absurd (true≢false (sym adds ∙ too))
+  says-one line r s (InLiteral adds answer) (InText also says) = absurd (either-word line also adds)
+  says-one line r s (InLiteral adds answer) (InLiteral also says) = one-parameter (behind_word line) r s answer says
 
 module _ (tree_or_fault : TreeOrFault) where
   -- some answer to what is added
@@ -79,11 +101,12 @@ module _ (tree_or_fault : TreeOrFault) where
 
   -- and to a line
   pub says-some : (line : Text) → (r : Answer) × LineSays line r
-  says-some line = by (adds_method line) refl
+  says-some line = by (adds_method line) (adds_parameter line) refl refl
     where
-      by : (b : Bool) → adds_method line ≡ b → (r : Answer) × LineSays line r
-      by true adds = let some = adds-some (behind_word line) in (some.0, InText adds some.1)
-      by false plain = (said line, InWords plain refl)
+      by : (b c : Bool) → adds_method line ≡ b → adds_parameter line ≡ c → (r : Answer) × LineSays line r
+      by true c adds too = let some = adds-some (behind_word line) in (some.0, InText adds some.1)
+      by false true plain adds = let some = some-parameter (behind_word line) in (some.0, InLiteral adds some.1)
+      by false false plain too = (said line, InWords plain too refl)
 
 -- where each line says one thing, so do lines
 module _ (answer : Text → Answer) (says : (line : Text) → LineSays line (answer line)) (one : (line : Text) (r s : Answer) → LineSays line r → LineSays line s → r ≡ s) where

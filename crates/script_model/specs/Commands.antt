@@ -8,7 +8,7 @@ use Rattle.command_model.specs.Accessors.{setter_selector, setter_argument}
 use Rattle.history_model.specs.Rules.{Perform, Undo, Redo}
 use Rattle.session_model.specs.Actions.{CreateAccessors, ExtractSuperclass, PushUpWithMethods}
 use Rattle.session_model.specs.Scripts.{Request}
-use Rattle.script_model.specs.Words.{rename_class, add_class, remove_class, add_inst_var, rename_inst_var, remove_inst_var, push_up_inst_var, push_down_inst_var, add_class_var, rename_class_var, remove_class_var, push_up_class_var, push_down_class_var, add_class_side_var, rename_class_side_var, remove_class_side_var, rename_selector, remove_method, push_up_method, push_down_method, remove_parameter, abstract_inst_var, extract_method, inline_method, extract_temp, inline_temp, rename_temp, undo, redo, create_accessors, extract_superclass, push_up_with_methods, add_parameter, apply_rule}
+use Rattle.script_model.specs.Words.{rename_class, add_class, remove_class, add_inst_var, rename_inst_var, remove_inst_var, push_up_inst_var, push_down_inst_var, add_class_var, rename_class_var, remove_class_var, push_up_class_var, push_down_class_var, add_class_side_var, rename_class_side_var, remove_class_side_var, rename_selector, remove_method, push_up_method, push_down_method, remove_parameter, abstract_inst_var, extract_method, inline_method, extract_temp, inline_temp, rename_temp, undo, redo, create_accessors, extract_superclass, push_up_with_methods, apply_rule}
 use Rattle.script_model.specs.Arguments.{a_class, a_variable, a_selector, a_number, Form, takes, takes_classes_behind, method_and, part_and, arguments_of}
 use Rattle.script_model.specs.Makers.{Text, Maker, single, of_none, of_one, of_two, of_three, of_classes, of_parameter, of_method, of_local, of_local_to, of_part, of_part_to}
 
@@ -44,6 +44,8 @@ table =
     ∷ row remove_method (takes (method_and [])) (of_method (λ c meta s. single (RemoveMethod c meta s)))
     ∷ row push_up_method (takes (method_and [])) (of_method (λ c meta s. single (PushUpMethod c meta s)))
     ∷ row push_down_method (takes (method_and [])) (of_method (λ c meta s. single (PushDownMethod c meta s)))
+    ∷ row remove_parameter (takes (a_selector ∷ a_number ∷ a_selector ∷ [])) (of_parameter (λ s k t. single (RemoveParameter s k t)))
+    ∷ row rename_temp (takes (method_and (a_variable ∷ a_variable ∷ []))) (of_local_to (λ c meta s x y. single (RenameTemp c meta s x y)))
     ∷ row create_accessors (takes (a_class ∷ a_variable ∷ [])) (of_two (λ c x. Perform (CreateAccessors c x (setter_selector x) (setter_argument x))))
     ∷ row extract_superclass (takes_classes_behind (a_class ∷ a_class ∷ a_class ∷ [])) (of_classes (λ d p under. Perform (ExtractSuperclass d p under)))
     ∷ row push_up_with_methods (takes (a_class ∷ a_variable ∷ [])) (of_two (λ c x. Perform (PushUpWithMethods c x)))
@@ -54,18 +56,16 @@ table =
 -- the commands that are still to come, as they will stand in the table
 abbrev pub rows_to_come : List Row
 rows_to_come =
-    row remove_parameter (takes (a_selector ∷ a_number ∷ a_selector ∷ [])) (of_parameter (λ s k t. single (RemoveParameter s k t)))
-    ∷ row abstract_inst_var (takes (a_class ∷ a_variable ∷ [])) (of_two (λ c x. single (AbstractInstVar c x (setter_selector x) (setter_argument x))))
+    row abstract_inst_var (takes (a_class ∷ a_variable ∷ [])) (of_two (λ c x. single (AbstractInstVar c x (setter_selector x) (setter_argument x))))
     ∷ row extract_method (takes (part_and (a_selector ∷ []))) (of_part_to (λ c meta s from to t. single (ExtractMethod c meta s from to t)))
     ∷ row inline_method (takes (part_and [])) (of_part (λ c meta s from to. single (InlineMethod c meta s from to)))
     ∷ row extract_temp (takes (part_and (a_variable ∷ []))) (of_part_to (λ c meta s from to x. single (ExtractTemp c meta s from to x)))
     ∷ row inline_temp (takes (method_and (a_variable ∷ []))) (of_local (λ c meta s x. single (InlineTemp c meta s x)))
-    ∷ row rename_temp (takes (method_and (a_variable ∷ a_variable ∷ []))) (of_local_to (λ c meta s x y. single (RenameTemp c meta s x y)))
     ∷ []
 
--- the words of commands that are still to come; two of them take more than words behind theirs
+-- the words of commands that are still to come; one of them takes more than words behind its own
 abbrev pub words_to_come : List Text
-words_to_come = map (λ (r : Row). r.word) rows_to_come ++ add_parameter ∷ apply_rule ∷ []
+words_to_come = map (λ (r : Row). r.word) rows_to_come ++ apply_rule ∷ []
 
 -- Why a line is wrong: its first word is no command's; it is that of a command which is still to come; the command takes other words; or there are as many commands before it as there may be.
 pub data Cause : Type 0 where

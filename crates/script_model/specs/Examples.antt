@@ -1,9 +1,10 @@
 -- Some lines, and what they ask for or why they ask for nothing.
 use Rattle.std.specs.Prelude.{◌≡◌, ℕ, true, false, List, [], ◌∷◌, ◌++◌, codes, Some, None, Result, Ok, Err}
 use Rattle.token_model.specs.declared.kind.Dialect.TheVariants.{Second}
-use Rattle.tree_model.specs.Tree.{MethodOf}
-use Rattle.grammar_model.specs.Spelling.{SpellsMethod}
-use Rattle.command_model.specs.Commands.{CommandOf, RenameClass, AddClass, RemoveClass, AddInstVar, RenameInstVar, RemoveInstVar, PushUpInstVar, PushDownInstVar, AddClassVar, RenameClassVar, RemoveClassVar, PushUpClassVar, PushDownClassVar, AddClassSideVar, RenameClassSideVar, RemoveClassSideVar, RenameSelector, RemoveMethod, PushUpMethod, PushDownMethod, AddMethod, RemoveParameter, AbstractInstVar, ExtractMethod, InlineMethod, ExtractTemp, InlineTemp, RenameTemp}
+use Rattle.tree_model.specs.Tree.{Notes, LiteralOf, number, char, array, word, no_literals, more_literals, MethodOf}
+use Rattle.grammar_model.specs.Spanned.{SpannedTree, Var, Literal, Send, NoTrees, NoStatements, MoreStatements, SpannedSequence}
+use Rattle.grammar_model.specs.Spelling.{SpellsDoItAt, SpellsMethod}
+use Rattle.command_model.specs.Commands.{CommandOf, RenameClass, AddClass, RemoveClass, AddInstVar, RenameInstVar, RemoveInstVar, PushUpInstVar, PushDownInstVar, AddClassVar, RenameClassVar, RemoveClassVar, PushUpClassVar, PushDownClassVar, AddClassSideVar, RenameClassSideVar, RemoveClassSideVar, RenameSelector, RemoveMethod, PushUpMethod, PushDownMethod, AddMethod, AddParameter, RemoveParameter, AbstractInstVar, ExtractMethod, InlineMethod, ExtractTemp, InlineTemp, RenameTemp}
 use Rattle.history_model.specs.Rules.{Perform, Undo, Redo}
 use Rattle.session_model.specs.Actions.{ActionOf, CreateAccessors, ExtractSuperclass, PushUpWithMethods}
 use Rattle.session_model.specs.Scripts.{Request}
@@ -80,6 +81,10 @@ commands =
     ∷ performs (codes "removeMethod C instance at:put:") (RemoveMethod c false put)
     ∷ performs (codes "pushUpMethod C class x") (PushUpMethod c true x)
     ∷ performs (codes "pushDownMethod C class at:put:") (PushDownMethod c true put)
+    ∷ performs (codes "removeParameter at:put: 2 x") (RemoveParameter put 2 x)
+    ∷ performs (codes "removeParameter  x: 0 x") (RemoveParameter (codes "x:") 0 x)
+    ∷ performs (codes "removeParameter + 999999999 x") (RemoveParameter (codes "+") 999999999 x)
+    ∷ performs (codes "renameTemp C instance at:put: x y") (RenameTemp c false put x y)
     ∷ composes (codes "createAccessors C x") (CreateAccessors c x (codes "x:") (codes "anObject"))
     ∷ composes (codes "createAccessors C anObject") (CreateAccessors c (codes "anObject") (codes "anObject:") (codes "aValue"))
     ∷ composes (codes "extractSuperclass C D C") (ExtractSuperclass c d (c ∷ []))
@@ -91,16 +96,11 @@ commands =
 -- lines of commands that are still to come
 abbrev pub lines_to_come : List Row
 lines_to_come =
-    performs (codes "removeParameter at:put: 2 x") (RemoveParameter put 2 x)
-    ∷ performs (codes "abstractInstVar C x") (AbstractInstVar c x (codes "x:") (codes "anObject"))
+    performs (codes "abstractInstVar C x") (AbstractInstVar c x (codes "x:") (codes "anObject"))
     ∷ performs (codes "extractMethod C instance x 0 12 at:put:") (ExtractMethod c false x 0 12 put)
     ∷ performs (codes "inlineMethod C instance x 8 999999999") (InlineMethod c false x 8 999999999)
     ∷ performs (codes "extractTemp C instance x 8 13 y") (ExtractTemp c false x 8 13 y)
     ∷ performs (codes "inlineTemp C class x y") (InlineTemp c true x y)
-    ∷ performs (codes "renameTemp C instance at:put: x y") (RenameTemp c false put x y)
-    ∷ wrong (codes "removeParameter x: 02 y") BadArgument
-    ∷ wrong (codes "removeParameter x: -2 y") BadArgument
-    ∷ wrong (codes "removeParameter x: 1000000000 y") BadArgument
     ∷ []
 
 abbrev pub wrong_lines : List Row
@@ -108,7 +108,6 @@ wrong_lines =
     wrong (codes "rename C D") UnknownCommand
     ∷ wrong (codes "RenameClass C D") UnknownCommand
     ∷ wrong (codes " -- C") UnknownCommand
-    ∷ wrong (codes "addParameter s") Unbuilt
     ∷ wrong (codes "applyRule") Unbuilt
     ∷ wrong (codes "inlineTemp A") Unbuilt
     ∷ wrong (codes "renameClass C") BadArgument
@@ -122,6 +121,12 @@ wrong_lines =
     ∷ wrong (codes "addInstVar C x:") BadArgument
     ∷ wrong (codes "extractSuperclass C D") BadArgument
     ∷ wrong (codes "removeMethod C Instance x") BadArgument
+    ∷ wrong (codes "removeParameter x: 02 y") BadArgument
+    ∷ wrong (codes "removeParameter x: -2 y") BadArgument
+    ∷ wrong (codes "removeParameter x: 1000000000 y") BadArgument
+    ∷ wrong (codes "removeParameter x: 1") BadArgument
+    ∷ wrong (codes "renameTemp C instance x y") BadArgument
+    ∷ wrong (codes "renameTemp C instance x y z:") BadArgument
     ∷ []
 
 -- lines of `addMethod` that are wrong
@@ -141,6 +146,52 @@ an_addition = codes " addMethod C  class accessing   x ^x  "
 abbrev pub IsAddition : Type 0
 IsAddition = (tree : MethodOf Text) → SpellsMethod Second false (codes "x ^x  ") tree → LineSays an_addition (Ok (single (AddMethod c true (codes "accessing") (codes "x ^x  ") tree)))
 
+-- lines of `addParameter` whose words are wrong
+abbrev pub wrong_parameters : List Row
+wrong_parameters =
+    wrong (codes "addParameter") BadArgument
+    ∷ wrong (codes "addParameter x x:") BadArgument
+    ∷ wrong (codes "addParameter 1 x: y 3") BadArgument
+    ∷ wrong (codes "addParameter x at:put y 3") BadArgument
+    ∷ wrong (codes "addParameter x x: Y: 3") BadArgument
+    ∷ []
+
+-- a line of `addParameter`, the text behind its words, the only statement of that text as a do-it, and what the line asks for
+pub record ParameterRow : Type 0 where
+  pub line : Text
+  pub passed : Text
+  pub node : SpannedTree
+  pub says : Result Request Cause
+
+-- each row is as the definition has it, where the text has that statement
+abbrev pub AllPassed : List ParameterRow → Type 0
+AllPassed [] = Unit {0}
+AllPassed (r ∷ rs) =
+    ((tree : SpannedSequence) (comments : Notes) (from : ℕ) → SpellsDoItAt Second r.passed tree → tree.statements ≡ MoreStatements comments from r.node NoStatements → LineSays r.line r.says) × AllPassed rs
+
+abbrev pub passes : Text → SpannedTree → LiteralOf Text → ParameterRow
+passes text node l =
+    record { line = codes "addParameter x  x: y" ++ text; passed = text; node = node; says = Ok (single (AddParameter x (codes "x:") y l)) }
+
+abbrev pub passes_not : Text → SpannedTree → ParameterRow
+passes_not text node = record { line = codes "addParameter x  x: y" ++ text; passed = text; node = node; says = Err BadArgument }
+
+-- Texts that are a literal, with blanks beside it; a blank behind a dollar sign is a character. Then texts that have more in them: a period, parentheses, a comment, bars, or a message; and a name that is no literal.
+abbrev pub parameters : List ParameterRow
+parameters =
+    passes (codes "  -7 ") (Literal 2 4 (number (codes "-7"))) (number (codes "-7"))
+    ∷ passes (codes " $  ") (Literal 1 3 (char 32)) (char 32)
+    ∷ passes (codes " #(1 nil)") (Literal 1 9 (array (more_literals (number (codes "1")) (more_literals (word (codes "nil")) no_literals))))
+    (array (more_literals (number (codes "1")) (more_literals (word (codes "nil")) no_literals)))
+    ∷ passes (codes " nil") (Var 1 4 (codes "nil")) (word (codes "nil"))
+    ∷ passes_not (codes " 7.") (Literal 1 2 (number (codes "7")))
+    ∷ passes_not (codes " (7)") (Literal 2 3 (number (codes "7")))
+    ∷ passes_not (codes " \"a\" 7") (Literal 5 6 (number (codes "7")))
+    ∷ passes_not (codes " | | 7") (Literal 5 6 (number (codes "7")))
+    ∷ passes_not (codes " 7 x") (Send 1 4 (Literal 1 2 (number (codes "7"))) x NoTrees)
+    ∷ passes_not (codes " self") (Var 1 5 (codes "self"))
+    ∷ []
+
 -- a script: lines that say nothing, one that ends with a carriage return, and a last one without a line feed
 abbrev pub example : Text
 example = codes "-- first" ++ 10 ∷ 13 ∷ 10 ∷ codes "undo" ++ 13 ∷ 10 ∷ 9 ∷ 32 ∷ 10 ∷ codes "redo"
@@ -159,7 +210,7 @@ AllRefused [] = Unit {0}
 AllRefused (r ∷ rs) = IsRefused r.text r.number r.cause × AllRefused rs
 
 abbrev pub refused : Text → ℕ → Cause → RefusedRow
-refused text number cause = record { text = text; number = number; cause = cause }
+refused text at cause = record { text = text; number = at; cause = cause }
 
 -- of several wrong lines the first is told, whatever its cause
 abbrev pub refused_scripts : List RefusedRow

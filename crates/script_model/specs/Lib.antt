@@ -4,5 +4,6 @@ pub mod Arguments
 pub mod Makers
 pub mod Commands
 pub mod Additions
+pub mod Parameters
 pub mod Scripts
 pub mod Examples

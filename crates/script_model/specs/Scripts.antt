@@ -2,10 +2,11 @@
 use Rattle.std.specs.Prelude.{◌≡◌, ℕ, ◌+◌, ◌≤◌, nat_lt, Bool, true, false, if◌then◌else◌, List, [], ◌∷◌, ◌++◌, length, Option, Some, None, Result, Ok, Err}
 use Rattle.rb_base.specs.Names.{text_eq}
 use Rattle.session_model.specs.Scripts.{Request}
-use Rattle.script_model.specs.Words.{add_method}
+use Rattle.script_model.specs.Words.{add_method, add_parameter}
 use Rattle.script_model.specs.Lines.{lines_of, words_of, is_skipped, spoken}
 use Rattle.script_model.specs.Commands.{Cause, TooMany, said_by}
 use Rattle.script_model.specs.Additions.{first_word, behind_word, AddsMethod}
+use Rattle.script_model.specs.Parameters.{AddsParameter}
 
 -- the most commands of a script
 abbrev pub command_limit : ℕ
@@ -19,10 +20,15 @@ said line = said_by (words_of line)
 abbrev pub adds_method : List ℕ → Bool
 adds_method line = text_eq (first_word line) add_method
 
--- what a line asks for, or why it asks for nothing: a line of words, or one of `addMethod`
+-- whether a line is one of `addParameter`
+abbrev pub adds_parameter : List ℕ → Bool
+adds_parameter line = text_eq (first_word line) add_parameter
+
+-- what a line asks for, or why it asks for nothing: a line of words, one of `addMethod`, or one of `addParameter`
 pub data LineSays (line : List ℕ) (answer : Result Request Cause) : Type 0 where
-  InWords : adds_method line ≡ false → answer ≡ said line → LineSays line answer
+  InWords : adds_method line ≡ false → adds_parameter line ≡ false → answer ≡ said line → LineSays line answer
   InText : adds_method line ≡ true → AddsMethod (behind_word line) answer → LineSays line answer
+  InLiteral : adds_parameter line ≡ true → AddsParameter (behind_word line) answer → LineSays line answer
 
 -- each of these lines asks for one of these, in order
 abbrev pub EachSays : List (List ℕ) → List Request → Type 0

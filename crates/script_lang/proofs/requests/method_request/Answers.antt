@@ -1,5 +1,5 @@
-use Rattle.std.proofs.Common.{sym, ◌∙◌, arith}
-use Rattle.script_lang.proofs.Selectors.{method-count, method-said}
+use Rattle.std.proofs.Common.{arith}
+use Rattle.script_lang.proofs.MethodWords.{method-count, method-said}
 use Rattle.script_lang.proofs.requests.method_request.Goals.{in_default-via-then-words-lt3, in_default-via-else-words-lt3+else-words-lt4}
 use Rattle.script_lang.proofs.requests.method_request.Goals as goal
 
@@ -13,5 +13,4 @@ returns-in_default-clause-wrong c = λ _.
 pub returns-clause-said : goal.returns-clause-said
 returns-clause-said c =
     rw c.method_command.ensures
-    (method-said c.args.verb c.args.words.now _ _ _ (omega (arith, c.in-len3.len_at_least, c.in-len3.len_below)) c.identifier.new.names c.selector.new.names c.in_ok-class.class c.in_ok-selector.selector c.in-Some.meta
-    c.in_ok-class.ensures.known c.in_ok-selector.ensures.grows c.in_ok-class.ensures.said (sym c.side.ensures ∙ c.in-Some.is) c.in_ok-selector.ensures.said)
+    (method-said c.args.verb c.args.words.now _ _ _ (omega (arith, c.in-len3.len_at_least, c.in-len3.len_below)) c.method_name.new.names c.in_ok-method.method c.in_ok-method.ensures.said)

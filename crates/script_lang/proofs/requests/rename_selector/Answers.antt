@@ -1,13 +1,13 @@
 use Rattle.std.proofs.Common.{arith}
-use Rattle.script_lang.proofs.Selectors.{selector-count, selector-said}
+use Rattle.script_lang.proofs.Selectors.{renaming-count, selector-said}
 use Rattle.script_lang.proofs.requests.rename_selector.Goals.{in_default-via-then-words-lt2, in_default-via-else-words-lt2+else-words-lt3}
 use Rattle.script_lang.proofs.requests.rename_selector.Goals as goal
 
 pub returns-in_default-clause-wrong : goal.returns-in_default-clause-wrong
 returns-in_default-clause-wrong c = λ _.
     elim c.in_default.branch [
-      | in_default-via-then-words-lt2 w ↦ selector-count c.args.words.now (λ e. grind (arith, e))
-      | in_default-via-else-words-lt2+else-words-lt3 w ↦ selector-count c.args.words.now (λ e. grind (arith, e))
+      | in_default-via-then-words-lt2 w ↦ renaming-count c.args.words.now (λ e. grind (arith, e))
+      | in_default-via-else-words-lt2+else-words-lt3 w ↦ renaming-count c.args.words.now (λ e. grind (arith, e))
     ]
 
 pub returns-clause-said : goal.returns-clause-said

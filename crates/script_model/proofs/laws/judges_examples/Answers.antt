@@ -1,4 +1,4 @@
-use Rattle.script_model.proofs.ExamplesJudged.{says_commands, will_say, finds_wrong_lines, finds_wrong_additions, adds, says_script, refuses_scripts, has_limit}
+use Rattle.script_model.proofs.ExamplesJudged.{says_commands, will_say, finds_wrong_lines, finds_wrong_additions, adds, finds_wrong_parameters, passes_parameters, says_script, refuses_scripts, has_limit}
 use Rattle.script_model.proofs.laws.judges_examples.Goals as goal
 
 pub returns-clause-commands : goal.returns-clause-commands
@@ -15,6 +15,12 @@ returns-clause-wrong_additions c = finds_wrong_additions
 
 pub returns-clause-addition : goal.returns-clause-addition
 returns-clause-addition c = adds
+
+pub returns-clause-wrong_parameters : goal.returns-clause-wrong_parameters
+returns-clause-wrong_parameters c = finds_wrong_parameters
+
+pub returns-clause-parameters : goal.returns-clause-parameters
+returns-clause-parameters c = passes_parameters
 
 pub returns-clause-script : goal.returns-clause-script
 returns-clause-script c = says_script
