@@ -1,17 +1,17 @@
 -- No answer says that the output failed.
-use Rattle.std.proofs.Common.{◌≡◌, ℕ, List, inl, inr, ap, sym, ◌∙◌, arith}
+use Rattle.std.proofs.Common.{◌≡◌, ℕ, Bool, List, inl, inr, ap, sym, ◌∙◌, arith}
 use Rattle.apply_model.specs.declared.status.Status as applied
 use Rattle.apply_model.specs.declared.status.Status.TheVariants as verdict
 use Rattle.image_model.specs.Image.{ImageOf}
 use Rattle.run_model.specs.Values.{Outcome, done, failed, spent}
 use Rattle.run_model.specs.Runs.{run}
 use Rattle.query_model.specs.Queries.{QueryOf}
-use Rattle.command_words.specs.Forms.{Form, Apply, Format, Run, Find, Later, NoForm, form_of}
+use Rattle.command_words.specs.Forms.{Form, Apply, Format, Run, Find, Strip, Help, Version, Later, NoForm, form_of}
 use Rattle.browse.specs.declared.status.Status.{Status}
 use Rattle.browse.specs.declared.status.Status.TheVariants as status
 use Rattle.browse.specs.Statuses.{number_of}
 use Rattle.browse.specs.Loads.{World, Loads, Given, Refused, Refuses}
-use Rattle.browse.specs.Answers.{status_applied, Applies, Formats, Formatted, Refused as Stopped, status_of, RunsIn, NoDoIt, Ran, Runs, NoImage, InImage, Finds, NoImageThere, Found, AnswersForm, Answers, image_limit, script_limit}
+use Rattle.browse.specs.Answers.{status_applied, Applies, Formats, Formatted, Refused as Stopped, status_of, RunsIn, NoDoIt, Ran, Runs, NoImage, InImage, Finds, NoImageThere, Found, StripsIn, NoStart, Stripped, Strips, NoImageToStrip, StripsImage, AnswersForm, Answers, image_limit, script_limit}
 
 -- the status does not say that the output failed
 abbrev IsOther : Status → Type 0
@@ -58,11 +58,22 @@ finds : (text : List ℕ) (q : QueryOf (List ℕ)) (s : Status) (x : List ℕ) �
 finds text q s x (NoImageThere r wrong is line) = other s status.ImageText is (λ e. omega (arith, e))
 finds text q s x (Found i read lines is) = other s status.Done is (λ e. omega (arith, e))
 
+strips_in : (i : ImageOf (List ℕ)) (expression : List ℕ) (sets : Bool) (s : Status) (x : List ℕ) → StripsIn i expression sets s x → IsOther s
+strips_in i expression sets s x (NoStart f wrong is line) = other s status.ScriptText is (λ e. omega (arith, e))
+strips_in i expression sets s x (Stripped j added is text) = other s status.Done is (λ e. omega (arith, e))
+
+strips : (text expression : List ℕ) (sets : Bool) (s : Status) (x : List ℕ) → Strips text expression sets s x → IsOther s
+strips text expression sets s x (NoImageToStrip r wrong is line) = other s status.ImageText is (λ e. omega (arith, e))
+strips text expression sets s x (StripsImage i read p) = strips_in i expression sets s x p
+
 form_other : (w : World) (form : Form) (s : Status) (x : List ℕ) → AnswersForm w form s x → IsOther s
 form_other w (Apply image script) s x p = loads w image image_limit s x _ (λ i q. loads w script script_limit s x _ (λ c. applies i c s x) q) p
 form_other w (Format image) s x p = loads w image image_limit s x _ (λ i. formats i s x) p
 form_other w (Run image expression budget) s x p = loads w image image_limit s x _ (λ i. runs i expression budget s x) p
 form_other w (Find image question) s x p = loads w image image_limit s x _ (λ i. finds i question s x) p
+form_other w (Strip image expression sets) s x p = loads w image image_limit s x _ (λ i. strips i expression sets s x) p
+form_other w Help s x p = other s status.Done p.0 (λ e. omega (arith, e))
+form_other w Version s x p = other s status.Done p.0 (λ e. omega (arith, e))
 form_other w Later s x p = other s status.Unbuilt p.0 (λ e. omega (arith, e))
 form_other w NoForm s x p = other s status.Usage p.0 (λ e. omega (arith, e))
 

@@ -1,5 +1,5 @@
 -- Where the outside tells of the files and no read fails, words have at most one answer.
-use Rattle.std.proofs.Common.{◌≡◌, ℕ, List, ◌<◌, length, inl, inr, ap, sym, subst, ◌∙◌, arith}
+use Rattle.std.proofs.Common.{◌≡◌, ℕ, Bool, List, ◌<◌, length, inl, inr, ap, sym, subst, ◌∙◌, arith}
 use Rattle.rb_base.specs.Outside.{Told, Untold, NoFile, File, IsNoFile, OnFile, MayGive, Rose}
 use Rattle.token_model.specs.declared.kind.Dialect.TheVariants.{Second}
 use Rattle.image_model.specs.Image.{ImageOf}
@@ -8,12 +8,14 @@ use Rattle.file_model.specs.Written.{file_of}
 use Rattle.file_model.proofs.OneImage.{one_image, one_refusal, no_image_where_refused}
 use Rattle.canonical_image.specs.Formatted.{formatted}
 use Rattle.browse.specs.declared.status.Status.{Status}
-use Rattle.command_words.specs.Forms.{Form, Apply, Format, Run, Find, Later, NoForm, files_of, form_of}
+use Rattle.command_words.specs.Forms.{Form, Apply, Format, Run, Find, Strip, Help, Version, Later, NoForm, files_of, form_of}
 use Rattle.browse.specs.Loads.{World, Loads, Given, Refused, Refuses, MayFail, IsTold, IsHonest}
 use Rattle.grammar_model.specs.Whole.{DoIt}
 use Rattle.grammar_model.proofs.Texts.{no_fault_DoIt, one_SpellsDoIt, one_HasFirstFault}
 use Rattle.tree_model.specs.Tree.{SequenceOf}
 use Rattle.image_model.specs.Image.{plus}
+use Rattle.image_model.specs.Words.{text_words}
+use Rattle.strip_model.specs.Reach.{reach}
 use Rattle.image_doits.specs.Added.{IsWithDoIt}
 use Rattle.run_model.specs.Runs.{run, printed_run}
 use Rattle.query_model.specs.Queries.{QueryOf}
@@ -23,7 +25,7 @@ use Rattle.file_model.specs.Causes.{Refusal}
 use Rattle.apply_model.specs.declared.status.Status as applied
 use Rattle.apply_model.specs.Applied as model
 use Rattle.browse.specs.ImageLines.{image_refusal, expression_refusal}
-use Rattle.browse.specs.Answers.{status_applied, Applies, Formats, Formatted, Refused as Stopped, status_of, RunsIn, NoDoIt, Ran, Runs, NoImage, InImage, Finds, NoImageThere, Found, AnswersForm, Answers, image_limit, script_limit}
+use Rattle.browse.specs.Answers.{status_applied, Applies, Formats, Formatted, Refused as Stopped, status_of, RunsIn, NoDoIt, Ran, Runs, NoImage, InImage, Finds, NoImageThere, Found, stripped_text, StripsIn, NoStart, Stripped, Strips, NoImageToStrip, StripsImage, AnswersForm, Answers, image_limit, script_limit}
 
 -- both answers are one
 abbrev pub SameAnswer : Status → Status → List ℕ → List ℕ → Type 0
@@ -115,6 +117,24 @@ finds_one text q s t x y (Found i read lines is) (NoImageThere r wrong is' line)
 finds_one text q s t x y (Found i read lines is) (Found j read' lines' is') =
     (is ∙ sym is', one_answer j q x y (subst (λ (k : ImageOf (List ℕ)). IsAnswer k q x) (one_image Second prelude_text text i j read read') lines) lines')
 
+-- an expression for which an image is stripped has one answer
+strips_in_one : (i : ImageOf (List ℕ)) (expression : List ℕ) (sets : Bool) (s t : Status) (x y : List ℕ) → StripsIn i expression sets s x → StripsIn i expression sets t y → SameAnswer s t x y
+strips_in_one i expression sets s t x y (NoStart f wrong is line) (NoStart g wrong' is' line') =
+    (is ∙ sym is', line ∙ ap expression_refusal (one_HasFirstFault Second DoIt expression f g wrong wrong') ∙ sym line')
+strips_in_one i expression sets s t x y (NoStart f wrong is line) (Stripped j added is' text) = absurd (no_fault_DoIt Second expression added.body f added.spelled wrong)
+strips_in_one i expression sets s t x y (Stripped j added is text) (NoStart f wrong is' line) = absurd (no_fault_DoIt Second expression added.body f added.spelled wrong)
+strips_in_one i expression sets s t x y (Stripped j added is text) (Stripped k added' is' text') =
+    (is ∙ sym is', text ∙ ap (λ (m : ImageOf (List ℕ)). stripped_text sets (reach text_words m) i) (with_one expression i j k added added') ∙ sym text')
+
+-- a text and an expression for which it is stripped have one answer
+strips_one : (text expression : List ℕ) (sets : Bool) (s t : Status) (x y : List ℕ) → Strips text expression sets s x → Strips text expression sets t y → SameAnswer s t x y
+strips_one text expression sets s t x y (NoImageToStrip r wrong is line) (NoImageToStrip q wrong' is' line') =
+    (is ∙ sym is', line ∙ ap image_refusal (one_refusal Second prelude_text text r q wrong wrong') ∙ sym line')
+strips_one text expression sets s t x y (NoImageToStrip r wrong is line) (StripsImage i read p) = absurd (no_image_where_refused Second prelude_text text i r read wrong)
+strips_one text expression sets s t x y (StripsImage i read p) (NoImageToStrip r wrong is line) = absurd (no_image_where_refused Second prelude_text text i r read wrong)
+strips_one text expression sets s t x y (StripsImage i read p) (StripsImage j read' q) =
+    strips_in_one j expression sets s t x y (subst (λ (k : ImageOf (List ℕ)). StripsIn k expression sets s x) (one_image Second prelude_text text i j read read') p) q
+
 -- two answers of `apply` to the same texts are one
 abbrev pub AppliesOnce : Type 0
 AppliesOnce =
@@ -137,6 +157,10 @@ module _ (once : AppliesOnce) where
       loads_one w image image_limit s t x y _ _ honest.told.0 honest.fine (λ i. runs_one i expression budget s t x y) p q
   form_one w (Find image question) s t x y honest p q =
       loads_one w image image_limit s t x y _ _ honest.told.0 honest.fine (λ i. finds_one i question s t x y) p q
+  form_one w (Strip image expression sets) s t x y honest p q =
+      loads_one w image image_limit s t x y _ _ honest.told.0 honest.fine (λ i. strips_one i expression sets s t x y) p q
+  form_one w Help s t x y honest p q = (p.0 ∙ sym q.0, p.1 ∙ sym q.1)
+  form_one w Version s t x y honest p q = (p.0 ∙ sym q.0, p.1 ∙ sym q.1)
   form_one w Later s t x y honest p q = (p.0 ∙ sym q.0, p.1 ∙ sym q.1)
   form_one w NoForm s t x y honest p q = (p.0 ∙ sym q.0, p.1 ∙ sym q.1)
 

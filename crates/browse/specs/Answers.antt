@@ -1,12 +1,14 @@
 -- What the words are answered with: a status, and the bytes that are sent.
-use Rattle.std.specs.Prelude.{◌≡◌, ℕ, List, codes}
+use Rattle.std.specs.Prelude.{◌≡◌, ℕ, List, codes, Bool, if◌then◌else◌}
 use Rattle.apply_model.specs.declared.status.Status as applied
 use Rattle.apply_model.specs.declared.status.Status.TheVariants as verdict
 use Rattle.apply_model.specs.Applied as model
 use Rattle.browse.specs.declared.status.Status.{Status}
 use Rattle.browse.specs.declared.status.Status.TheVariants as status
 use Rattle.token_model.specs.declared.kind.Dialect.TheVariants.{Second}
+use Rattle.rb_base.specs.Names.{text_eq}
 use Rattle.image_model.specs.Image.{ImageOf}
+use Rattle.image_model.specs.Words.{text_words}
 use Rattle.file_model.specs.Causes.{Refusal}
 use Rattle.file_model.specs.Reading.{IsImageOf, HasRefusal}
 use Rattle.file_model.specs.Written as written
@@ -20,7 +22,9 @@ use Rattle.run_model.specs.Runs.{run, printed_run}
 use Rattle.image_doits.specs.Added.{IsWithDoIt}
 use Rattle.query_model.specs.Queries.{QueryOf}
 use Rattle.query_model.specs.Lines.{IsAnswer}
-use Rattle.command_words.specs.Forms.{Form, Apply, Format, Run, Find, Later, NoForm, form_of}
+use Rattle.strip_model.specs.Reach.{ReachOf, reach}
+use Rattle.strip_model.specs.Stripped.{certificate, strip}
+use Rattle.command_words.specs.Forms.{Form, Apply, Format, Run, Find, Strip, Help, Version, Later, NoForm, form_of}
 use Rattle.browse.specs.Loads.{World, Loads, line}
 use Rattle.browse.specs.ImageLines.{image_refusal, expression_refusal}
 
@@ -37,6 +41,14 @@ unbuilt = line (codes "unbuilt")
 
 abbrev pub usage : List ℕ
 usage = line (codes "usage: browse COMMAND ARGUMENTS")
+
+-- the forms as they are typed, each with what it does
+abbrev pub help : List ℕ
+help = line (codes "usage: browse COMMAND ARGUMENTS\napply IMAGE SCRIPT: prints the file-out IMAGE as the commands of SCRIPT change it\nrun IMAGE EXPRESSION [BUDGET]: runs the do-its of IMAGE and then EXPRESSION, for at most BUDGET ticks\nfind IMAGE KIND NAME: lists what sends or implements a selector, or means a class or a variable\nformat IMAGE: prints IMAGE with each source in canonical text\nstrip IMAGE EXPRESSION [sets]: prints IMAGE without what its do-its and EXPRESSION cannot reach, or what they reach\n--help: prints these lines\n--version: prints the version of the program and of the logic that proves it")
+
+-- the version of the program, of the kit that builds it and of the logic that proves it
+abbrev pub version : List ℕ
+version = line (codes "browse 1.0 rattle-kit-13b logic dac8208d650f15bf")
 
 -- how a call ends whose files `apply` answers so
 abbrev pub status_applied : applied.Status → Status
@@ -77,12 +89,29 @@ pub data Finds (text : List ℕ) (q : QueryOf (List ℕ)) (s : Status) (sent : L
   NoImageThere : (r : Refusal) → HasRefusal Second prelude_text text r → s ≡ status.ImageText → sent ≡ image_refusal r → Finds text q s sent
   Found : (i : ImageOf (List ℕ)) → IsImageOf Second prelude_text text i → IsAnswer i q sent → s ≡ status.Done → Finds text q s sent
 
+-- what `strip` prints of an image of which this is reached: what is reached, or the file of the image without the rest
+abbrev pub stripped_text : Bool → ReachOf (List ℕ) → ImageOf (List ℕ) → List ℕ
+stripped_text sets r i = if sets then certificate r i else written.file_of (strip text_eq r i)
+
+-- `strip` answers this image and this expression with the status and the bytes: what the image reaches with the expression as its last do-it
+pub data StripsIn (i : ImageOf (List ℕ)) (expression : List ℕ) (sets : Bool) (s : Status) (sent : List ℕ) : Type 0 where
+  NoStart : (f : Fault) → HasFirstFault Second DoIt expression f → s ≡ status.ScriptText → sent ≡ expression_refusal f → StripsIn i expression sets s sent
+  Stripped : (j : ImageOf (List ℕ)) → IsWithDoIt expression i j → s ≡ status.Done → sent ≡ stripped_text sets (reach text_words j) i → StripsIn i expression sets s sent
+
+-- `strip` answers this text and this expression
+pub data Strips (text expression : List ℕ) (sets : Bool) (s : Status) (sent : List ℕ) : Type 0 where
+  NoImageToStrip : (r : Refusal) → HasRefusal Second prelude_text text r → s ≡ status.ImageText → sent ≡ image_refusal r → Strips text expression sets s sent
+  StripsImage : (i : ImageOf (List ℕ)) → IsImageOf Second prelude_text text i → StripsIn i expression sets s sent → Strips text expression sets s sent
+
 -- the form is answered with the status and the bytes
 abbrev pub AnswersForm : World → Form → Status → List ℕ → Type 0
 AnswersForm w (Apply image script) s sent = Loads w image image_limit s sent (λ i. Loads w script script_limit s sent (λ c. Applies i c s sent))
 AnswersForm w (Format image) s sent = Loads w image image_limit s sent (λ i. Formats i s sent)
 AnswersForm w (Run image expression budget) s sent = Loads w image image_limit s sent (λ i. Runs i expression budget s sent)
 AnswersForm w (Find image question) s sent = Loads w image image_limit s sent (λ i. Finds i question s sent)
+AnswersForm w (Strip image expression sets) s sent = Loads w image image_limit s sent (λ i. Strips i expression sets s sent)
+AnswersForm w Help s sent = (s ≡ status.Done) × (sent ≡ help)
+AnswersForm w Version s sent = (s ≡ status.Done) × (sent ≡ version)
 AnswersForm w Later s sent = (s ≡ status.Unbuilt) × (sent ≡ unbuilt)
 AnswersForm w NoForm s sent = (s ≡ status.Usage) × (sent ≡ usage)
 

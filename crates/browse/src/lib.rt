@@ -4,12 +4,14 @@
 mod apply;
 mod find;
 mod format;
+mod help;
 mod image_lines;
 mod load;
 mod query;
 mod run;
 mod send;
 mod status;
+mod strip;
 mod top;
 
 pub use status::Status;

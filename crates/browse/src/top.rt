@@ -9,10 +9,12 @@ ghost use Rattle.browse.specs.Answers.{Answers, usage};
 use crate::apply::{apply, unbuilt};
 use crate::find::find;
 use crate::format::format;
+use crate::help::{help, version};
 use crate::load::push_line;
 use crate::run::run;
 use crate::send::send;
 use crate::status::Status;
+use crate::strip::strip;
 use command_words::{Words, words_of};
 use rb_base::{Memory, Shelf, Sink, SinkError, Text};
 use std::alloc::Global;
@@ -47,6 +49,13 @@ fn answer<F: Shelf>(
             budget,
         } => run(alloc, shelf, image, expression, budget, out),
         Words::Find { image, question } => find(alloc, shelf, image, question, out),
+        Words::Strip {
+            image,
+            expression,
+            sets,
+        } => strip(alloc, shelf, image, expression, sets, out),
+        Words::Help => help(out),
+        Words::Version => version(out),
         Words::Later => unbuilt(out),
         Words::NoForm => usage(out),
     }

@@ -2,11 +2,10 @@
 use Rattle.std.proofs.Common.{◌≡◌, ℕ, ◌<◌, ◌≤◌, List, [], ◌∷◌, length, map, refl, arith}
 use Rattle.command_words.specs.Forms.{NoForm, form_of}
 
--- fewer than two words
-pub too_few : {X : Type 0} (f : X → List ℕ) (words : List X) → length words < 2 → NoForm ≡ form_of (map f words)
+-- no word
+pub too_few : {X : Type 0} (f : X → List ℕ) (words : List X) → length words < 1 → NoForm ≡ form_of (map f words)
 too_few f [] h = refl
-too_few f (a ∷ []) h = refl
-too_few f (a ∷ b ∷ words) h = absurd (omega (arith, h))
+too_few f (a ∷ words) h = absurd (omega (arith, h))
 
 -- five words or more
 pub too_many : {X : Type 0} (f : X → List ℕ) (words : List X) → 5 ≤ length words → NoForm ≡ form_of (map f words)

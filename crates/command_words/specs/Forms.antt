@@ -1,5 +1,5 @@
 -- The forms of a command line's words.
-use Rattle.std.specs.Prelude.{ℕ, Bool, ◌&&◌, ◌||◌, List, [], ◌∷◌, codes, if◌then◌else◌}
+use Rattle.std.specs.Prelude.{ℕ, Bool, true, false, ◌&&◌, ◌||◌, List, [], ◌∷◌, codes, if◌then◌else◌}
 use Rattle.std.specs.Option.{option_map_or}
 use Rattle.std.specs.Str.{bytes_eq}
 use Rattle.query_model.specs.Queries.{QueryOf}
@@ -18,10 +18,22 @@ pub data Form : Type 0 where
   Run : List ℕ → List ℕ → ℕ → Form
   -- `find IMAGE KIND NAME`, with what is asked
   Find : List ℕ → QueryOf (List ℕ) → Form
+  -- `strip IMAGE EXPRESSION`, and `strip IMAGE EXPRESSION sets` with true
+  Strip : List ℕ → List ℕ → Bool → Form
+  -- `--help`
+  Help : Form
+  -- `--version`
+  Version : Form
   -- words in a form that is not built yet
   Later : Form
   -- words in no form
   NoForm : Form
+
+-- `--help` and `--version`
+abbrev pub form_of_one : List ℕ → Form
+form_of_one word =
+    if bytes_eq word (codes "--help") then Help else
+    (if bytes_eq word (codes "--version") then Version else NoForm)
 
 -- `format IMAGE`, and `demo NUMBER` with a number from 1 to 2,000
 abbrev pub form_of_two : List ℕ → List ℕ → Form
@@ -29,16 +41,17 @@ form_of_two command word =
     if bytes_eq command (codes "format") then Format word else
     (if bytes_eq command (codes "demo") && is_number 2000 word then Later else NoForm)
 
--- `search IMAGE PATTERN`, `changes IMAGE SCRIPT`, `strip IMAGE EXPRESSION` and `team IMAGE LOG`
+-- `search IMAGE PATTERN`, `changes IMAGE SCRIPT` and `team IMAGE LOG`
 abbrev pub is_later_of_three : List ℕ → Bool
-is_later_of_three command = bytes_eq command (codes "search") || bytes_eq command (codes "changes") || bytes_eq command (codes "strip") || bytes_eq command (codes "team")
+is_later_of_three command = bytes_eq command (codes "search") || bytes_eq command (codes "changes") || bytes_eq command (codes "team")
 
--- `apply IMAGE SCRIPT`, `run IMAGE EXPRESSION` with 1,000,000 ticks, and the forms above
+-- `apply IMAGE SCRIPT`, `run IMAGE EXPRESSION` with 1,000,000 ticks, `strip IMAGE EXPRESSION`, and the forms above
 abbrev pub form_of_three : List ℕ → List ℕ → List ℕ → Form
 form_of_three command image word =
     if bytes_eq command (codes "apply") then Apply image word else
     (if bytes_eq command (codes "run") then Run image word 1000000 else
-    (if is_later_of_three command then Later else NoForm))
+    (if bytes_eq command (codes "strip") then Strip image word false else
+    (if is_later_of_three command then Later else NoForm)))
 
 -- `run IMAGE EXPRESSION BUDGET` with a budget from 1 to 10,000,000
 abbrev pub run_of : List ℕ → List ℕ → List ℕ → Form
@@ -48,18 +61,24 @@ run_of image expression budget = option_map_or (Run image expression) (number_of
 abbrev pub find_of : List ℕ → List ℕ → List ℕ → Form
 find_of image kind name = option_map_or (Find image) (question_of kind name) NoForm
 
--- `rewrite IMAGE PATTERN REPLACEMENT` and `strip IMAGE EXPRESSION sets`
-abbrev pub is_later_of_four : List ℕ → List ℕ → Bool
-is_later_of_four command last = bytes_eq command (codes "rewrite") || (bytes_eq command (codes "strip") && bytes_eq last (codes "sets"))
+-- `strip IMAGE EXPRESSION sets`
+abbrev pub strip_of : List ℕ → List ℕ → List ℕ → Form
+strip_of image expression last = if bytes_eq last (codes "sets") then Strip image expression true else NoForm
+
+-- `rewrite IMAGE PATTERN REPLACEMENT`
+abbrev pub is_later_of_four : List ℕ → Bool
+is_later_of_four command = bytes_eq command (codes "rewrite")
 
 -- the forms of four words above
 abbrev pub form_of_four : List ℕ → List ℕ → List ℕ → List ℕ → Form
 form_of_four command image word last =
     if bytes_eq command (codes "run") then run_of image word last else
     (if bytes_eq command (codes "find") then find_of image word last else
-    (if is_later_of_four command last then Later else NoForm))
+    (if bytes_eq command (codes "strip") then strip_of image word last else
+    (if is_later_of_four command then Later else NoForm)))
 
 abbrev pub form_of : List (List ℕ) → Form
+form_of (word ∷ []) = form_of_one word
 form_of (command ∷ word ∷ []) = form_of_two command word
 form_of (command ∷ image ∷ word ∷ []) = form_of_three command image word
 form_of (command ∷ image ∷ word ∷ last ∷ []) = form_of_four command image word last
@@ -71,6 +90,9 @@ files_of (Apply image script) = image ∷ script ∷ []
 files_of (Format image) = image ∷ []
 files_of (Run image expression budget) = image ∷ []
 files_of (Find image question) = image ∷ []
+files_of (Strip image expression sets) = image ∷ []
+files_of Help = []
+files_of Version = []
 files_of Later = []
 files_of NoForm = []
 
@@ -80,5 +102,8 @@ shows (words.Apply image script) = Apply image.now script.now
 shows (words.Format image) = Format image.now
 shows (words.Run image expression budget) = Run image.now expression.now budget
 shows (words.Find image question) = Find image.now (asks question)
+shows (words.Strip image expression sets) = Strip image.now expression.now sets
+shows words.Help = Help
+shows words.Version = Version
 shows words.Later = Later
 shows words.NoForm = NoForm

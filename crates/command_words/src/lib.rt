@@ -6,4 +6,5 @@ mod spelling;
 mod words;
 
 pub use questions::{Question, VariableKind};
+pub use spelling::number_of;
 pub use words::{Words, words_of};

@@ -84,7 +84,7 @@ fn is_numeral(word: &[u8]) -> bool
 }
 
 /// The number that the word writes, where it is a decimal number from 1 to `most` without a leading zero.
-pub(crate) fn number_of(word: &[u8], most: u32) -> Option<u32>
+pub fn number_of(word: &[u8], most: u32) -> Option<u32>
     ensures { result ≡ number_of most word.now }
 {
     if is_numeral(word) {

@@ -1,6 +1,6 @@
 // The words of a command line.
 ghost use Rattle.std.specs.Prelude.{◌≡◌, map, string_bytes};
-ghost use Rattle.command_words.specs.Forms.{form_of, form_of_two, form_of_three, form_of_four, run_of, find_of, is_later_of_three, is_later_of_four, shows};
+ghost use Rattle.command_words.specs.Forms.{form_of, form_of_one, form_of_two, form_of_three, form_of_four, run_of, find_of, strip_of, is_later_of_three, is_later_of_four, shows};
 
 use crate::questions::{Question, question_of};
 use crate::spelling::{is_number, number_of};
@@ -38,10 +38,34 @@ pub enum Words<'w> {
         image: &'w str,
         question: Question<'w>,
     },
+    /// `strip IMAGE EXPRESSION` or `strip IMAGE EXPRESSION sets`.
+    Strip {
+        image: &'w str,
+        expression: &'w str,
+        /// Whether the classes and the methods are asked for that are reached, and not the image.
+        sets: bool,
+    },
+    /// `--help`.
+    Help,
+    /// `--version`.
+    Version,
     /// Words in a form that is not built yet.
     Later,
     /// Words in no form.
     NoForm,
+}
+
+/// The form that one word is in.
+fn form_of_one<'w>(word: &str) -> Words<'w>
+    ensures { shows result ≡ form_of_one word.now }
+{
+    if word == "--help" {
+        Words::Help
+    } else if word == "--version" {
+        Words::Version
+    } else {
+        Words::NoForm
+    }
 }
 
 /// The form that two words are in.
@@ -61,7 +85,7 @@ fn form_of_two<'w>(command: &str, word: &'w str) -> Words<'w>
 fn is_later_of_three(command: &str) -> bool
     ensures { result ≡ is_later_of_three command.now }
 {
-    command == "search" || command == "changes" || command == "strip" || command == "team"
+    command == "search" || command == "changes" || command == "team"
 }
 
 /// The form that three words are in.
@@ -79,6 +103,12 @@ fn form_of_three<'w>(command: &str, image: &'w str, word: &'w str) -> Words<'w>
             expression: word,
             budget: USUAL_TICKS,
         }
+    } else if command == "strip" {
+        Words::Strip {
+            image,
+            expression: word,
+            sets: false,
+        }
     } else if is_later_of_three(command) {
         Words::Later
     } else {
@@ -86,11 +116,26 @@ fn form_of_three<'w>(command: &str, image: &'w str, word: &'w str) -> Words<'w>
     }
 }
 
-/// Whether four words are in a form that is not built yet.
-fn is_later_of_four(command: &str, last: &str) -> bool
-    ensures { result ≡ is_later_of_four command.now last.now }
+/// Whether the command is one of four words that is not built yet.
+fn is_later_of_four(command: &str) -> bool
+    ensures { result ≡ is_later_of_four command.now }
 {
-    command == "rewrite" || (command == "strip" && last == "sets")
+    command == "rewrite"
+}
+
+/// The form of what an expression reaches.
+fn strip_of<'w>(image: &'w str, expression: &'w str, last: &str) -> Words<'w>
+    ensures { shows result ≡ strip_of image.now expression.now last.now }
+{
+    if last == "sets" {
+        Words::Strip {
+            image,
+            expression,
+            sets: true,
+        }
+    } else {
+        Words::NoForm
+    }
 }
 
 /// The form that a run with a budget is in.
@@ -125,7 +170,9 @@ fn form_of_four<'w>(command: &str, image: &'w str, word: &'w str, last: &'w str)
         run_of(image, word, last)
     } else if command == "find" {
         find_of(image, word, last)
-    } else if is_later_of_four(command, last) {
+    } else if command == "strip" {
+        strip_of(image, word, last)
+    } else if is_later_of_four(command) {
         Words::Later
     } else {
         Words::NoForm
@@ -137,6 +184,7 @@ pub fn words_of<'w>(words: &'w [String]) -> Words<'w>
     ensures { shows result ≡ form_of (map string_bytes words.now) }
 {
     match words {
+        [word] => form_of_one(word.as_str()),
         [command, word] => form_of_two(command.as_str(), word.as_str()),
         [command, image, word] => form_of_three(command.as_str(), image.as_str(), word.as_str()),
         [command, image, word, last] => form_of_four(

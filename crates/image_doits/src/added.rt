@@ -32,8 +32,13 @@ fn parse_in(alloc: Global, text: &[u8], image: &mut Image) -> Result<Sequence, P
     parse_doit(alloc, text, image.names_mut())
 }
 
-/// The tree of a do-it over the names of the image, which for the rest is as it was.
-fn read_doit(alloc: Global, text: &[u8], image: &mut Image) -> Result<Sequence, ParseFault>
+/// The tree of a do-it of Smalltalk-80 (Goldberg and Robson 1983), with brace arrays, over the names of the image, to which
+/// those that are new are added; for the rest the image is as it was.
+///
+/// # Errors
+///
+/// The first fault of the text, at an offset in bytes from its start, or want of memory.
+pub fn read_doit(alloc: Global, text: &[u8], image: &mut Image) -> Result<Sequence, ParseFault>
     requires { IsOrderly image.old }
     ensures image { image_of image.new ≡ image_of image.old }
     ensures orderly { IsOrderly image.new }

@@ -3,4 +3,4 @@
 
 mod added;
 
-pub use added::add_doit;
+pub use added::{add_doit, read_doit};

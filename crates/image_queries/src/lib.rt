@@ -15,3 +15,4 @@ mod uses;
 
 pub use answers::report;
 pub use query::Query;
+pub use titles::{method_title, text_of};

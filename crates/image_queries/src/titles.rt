@@ -12,7 +12,7 @@ use rb_base::{Memory, NameId, Text};
 use std::alloc::Global;
 
 /// The text of a name, or nothing where there is no such name.
-fn text_of(image: &Image, name: NameId) -> &[u8]
+pub fn text_of(image: &Image, name: NameId) -> &[u8]
     ensures { result.now ≡ name_at image.now.names name }
 {
     let names = image.names();
@@ -35,11 +35,7 @@ fn class_name(image: &Image, class: ClassId) -> &[u8]
 }
 
 /// The title of a method of a live class: the class, its side and the selector.
-pub(crate) fn method_title(
-    alloc: Global,
-    image: &Image,
-    info: &MethodInfo<'_>,
-) -> Result<Text, Memory>
+pub fn method_title(alloc: Global, image: &Image, info: &MethodInfo<'_>) -> Result<Text, Memory>
     requires { IsLive image.now.class_order info.now.class }
     ensures { IfOk result (λ title. title ≡ title_of image.now.names image.now.classes info.now.class info.now.meta info.now.selector) }
 {

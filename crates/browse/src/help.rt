@@ -1,0 +1,38 @@
+// What the program says of itself.
+ghost use Rattle.std.specs.Prelude.{◌≡◌, [], IfOk, OnOk};
+ghost use Rattle.browse.specs.declared.status.Status.{Status};
+ghost use Rattle.browse.specs.Answers.{help, version};
+
+use crate::load::push_line;
+use crate::status::Status;
+use rb_base::{Memory, Text};
+
+/// The forms as they are typed, each with what it does.
+const HELP: &str = "usage: browse COMMAND ARGUMENTS
+apply IMAGE SCRIPT: prints the file-out IMAGE as the commands of SCRIPT change it
+run IMAGE EXPRESSION [BUDGET]: runs the do-its of IMAGE and then EXPRESSION, for at most BUDGET ticks
+find IMAGE KIND NAME: lists what sends or implements a selector, or means a class or a variable
+format IMAGE: prints IMAGE with each source in canonical text
+strip IMAGE EXPRESSION [sets]: prints IMAGE without what its do-its and EXPRESSION cannot reach, or what they reach
+--help: prints these lines
+--version: prints the version of the program and of the logic that proves it";
+
+/// The answer to `--help`.
+pub fn help(out: &mut Text) -> Result<Status, Memory>
+    requires { out.old ≡ [] }
+    ensures status { IfOk result (λ status. status ≡ Status.Done) }
+    ensures text { OnOk result (out.new ≡ help) }
+{
+    push_line(out, HELP, b"")?;
+    Ok(Status::Done)
+}
+
+/// The answer to `--version`.
+pub fn version(out: &mut Text) -> Result<Status, Memory>
+    requires { out.old ≡ [] }
+    ensures status { IfOk result (λ status. status ≡ Status.Done) }
+    ensures text { OnOk result (out.new ≡ version) }
+{
+    push_line(out, "browse 1.0 rattle-kit-13b logic dac8208d650f15bf", b"")?;
+    Ok(Status::Done)
+}

@@ -1,0 +1,3 @@
+mod Sources
+mod WhatIsLeft
+mod LinesLeft
