@@ -1,0 +1,60 @@
+// The script that renames classes and methods of the image, and the expression that runs the last method.
+ghost use Rattle.std.specs.Prelude.{◌≡◌, ◌++◌, OnOk};
+ghost use Rattle.image_maker.specs.Generated.{pieces, renaming_line, command_lines, script_text, expression_text};
+
+use crate::image::push_numbered;
+use rb_base::{Memory, Text};
+use std::alloc::Global;
+
+/// How many classes and methods the script renames at most.
+const MOST_RENAMED: u32 = 100;
+
+/// Appends the line that renames what has this number.
+fn push_renaming(
+    alloc: Global,
+    old: &str,
+    new: &str,
+    number: u32,
+    out: &mut Text,
+) -> Result<(), Memory>
+    ensures { OnOk result (out.new ≡ out.old ++ renaming_line old.now new.now number) }
+{
+    push_numbered(alloc, old, number, out)?;
+    push_numbered(alloc, new, number, out)?;
+    out.push_slice(b"\n")
+}
+
+/// Appends the two lines that rename the class and the method of this number.
+fn push_commands(alloc: Global, number: u32, out: &mut Text) -> Result<(), Memory>
+    ensures { OnOk result (out.new ≡ out.old ++ command_lines number) }
+{
+    push_renaming(alloc, "renameClass C", " D", number, out)?;
+    push_renaming(alloc, "renameSelector m", " k", number, out)
+}
+
+/// Appends the lines that rename so many classes and methods.
+fn push_all_commands(alloc: Global, count: u32, out: &mut Text) -> Result<(), Memory>
+    ensures { OnOk result (out.new ≡ out.old ++ pieces command_lines count) }
+{
+    for number in 0..count {
+        push_commands(alloc, number + 1, out)?;
+    }
+    Ok(())
+}
+
+/// Appends the script for the image of so many classes, which renames the first hundred classes and methods. On want of
+/// memory `out` may hold a part of it.
+pub fn make_script(alloc: Global, count: u32, out: &mut Text) -> Result<(), Memory>
+    ensures { OnOk result (out.new ≡ out.old ++ script_text count) }
+{
+    push_all_commands(alloc, count.min(MOST_RENAMED), out)
+}
+
+/// Appends the expression that sends the last method of the image of so many classes to a new object of its last class.
+/// On want of memory `out` may hold a part of it.
+pub fn make_expression(alloc: Global, count: u32, out: &mut Text) -> Result<(), Memory>
+    ensures { OnOk result (out.new ≡ out.old ++ expression_text count) }
+{
+    push_numbered(alloc, "C", count, out)?;
+    push_numbered(alloc, " new m", count, out)
+}
