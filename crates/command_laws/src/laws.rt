@@ -23,8 +23,9 @@ use history_laws::law_history;
 use kernel_image::{every_image_is_read_again, every_image_is_valid};
 
 /// Each lawful command keeps runs. It is one that moves no code, where the text of a method that it adds spells it and may stand
-/// as a chunk. Where none of its conditions is false in a valid image behind the kernel, the image after is valid, can be written
-/// where the image before can, has the kernel first where that has, and is matched by it up to what the command renames.
+/// as a chunk, and some text spells a literal that it lets messages pass. Where none of its conditions is false in a valid image
+/// behind the kernel, the image after is valid, can be written where the image before can, has the kernel first where that has,
+/// and is matched by it up to what the command renames.
 pub fn law_effect()
     ensures { (kernel : ImageOf Name) → IsKernelOf Second prelude_text kernel → AllKeepRuns kernel }
 {

@@ -23,7 +23,7 @@ use kernel_image::{
 /// Where no condition of a command that moves no code is false in a valid image, the image that the command makes of it is valid too; it can be
 /// written where the image before could be; and where the classes and methods of the kernel stood before those of the user,
 /// they do still. Of a method that is added it is asked that its text spells its tree, and for writing, that the text is not
-/// empty and begins with no blank.
+/// empty and begins with no blank; of a literal that messages are to pass, that some text spells it alone.
 pub fn law_effect_valid()
     ensures valid { (kernel image : ImageOf Text) (command : CommandOf Text) → IsKernelOf Second prelude_text kernel → IsValid text_words (reading_of Second kernel) image →
         MovesNoCode command → IsSpelled command → first_false text_asked image command ≡ None → IsValid text_words (reading_of Second kernel) (effect text_asked canonical command image) }
