@@ -7,7 +7,7 @@ use Rattle.token_model.specs.declared.kind.Dialect.TheVariants.{Second}
 use Rattle.tree_model.specs.Tree.{SequenceOf, MethodOf}
 use Rattle.grammar_model.specs.Whole.{Form as TextForm, DoIt, Method}
 use Rattle.grammar_model.specs.Checks.{Fault}
-use Rattle.grammar_model.specs.Spelling.{SpellsDoIt, SpellsMethod, HasFirstFault}
+use Rattle.grammar_model.specs.Spelling.{SpellsDoIt, SpellsMethod, HasFirstFault, HasFirstFaultAs}
 use Rattle.st_faults.specs.declared.fault.ParseFault.{ParseFault}
 use Rattle.st_faults.specs.Faults.{fault_of, IsRefused}
 use Rattle.chunk_format.specs.Chunks.{Piece}
@@ -37,12 +37,12 @@ not_empty : (s : Text) → 0 < length s → s ≢ []
 not_empty s h e = absurd (omega (arith, h, ap length e))
 
 -- the answer of a source with a fault
-fault_answered : (form : TextForm) (source : Text) (fault : ParseFault) (s : Stop) (P : Result Filing Cause → Type 0) → ((f : Fault) → HasFirstFault Second form source f → P (Err (Syntax f)))
+fault_answered : (form : TextForm) (source : Text) (fault : ParseFault) (s : Stop) (P : Result Filing Cause → Type 0) → ((f : Fault) → HasFirstFaultAs form source f → P (Err (Syntax f)))
     → ((f : Fault) → fault_of fault ≡ Some f → s ≡ stop.Refused (cause.Syntax fault)) → (fault_of fault ≡ None → s ≡ stop.Memory) → IsRefused form source fault
     → Answers P (Err s)
 fault_answered form source fault s P holds told memory first = by (fault_of fault) refl first
   where
-    by : (o : Option Fault) → fault_of fault ≡ o → MatchOption o (Unit {0}) (HasFirstFault Second form source) → Answers P (Err s)
+    by : (o : Option Fault) → fault_of fault ≡ o → MatchOption o (Unit {0}) (HasFirstFaultAs form source) → Answers P (Err s)
     by None e h = subst (λ (t : Stop). Answers P (Err t)) (sym (memory e)) tt
     by (Some f) e h = subst (λ (t : Stop). Answers P (Err t)) (sym (told f e)) (Syntax f, ap (option_map Syntax) e, holds f h)
 
@@ -108,7 +108,7 @@ module _ (kernel : Bool) (old : Filing) (source : Text) where
         }) a h
 
     -- a source with a fault
-    pub fault_taken : (form : TextForm) (fault : ParseFault) (s : Stop) → ((f : Fault) → HasFirstFault Second form source f → IsItem Second kernel old.run source (Faulty f))
+    pub fault_taken : (form : TextForm) (fault : ParseFault) (s : Stop) → ((f : Fault) → HasFirstFaultAs form source f → IsItem Second kernel old.run source (Faulty f))
         → ((f : Fault) → fault_of fault ≡ Some f → s ≡ stop.Refused (cause.Syntax fault)) → (fault_of fault ≡ None → s ≡ stop.Memory) → IsRefused form source fault
         → Answers (TakesSource kernel old source) (Err s)
     fault_taken form fault s item told memory first =

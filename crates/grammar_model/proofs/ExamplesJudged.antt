@@ -4,14 +4,16 @@ use Rattle.grammar_model.specs.Input.{Lexeme, Input, kind_of, next}
 use Rattle.grammar_model.specs.Whole.{Form, IsMethod, IsDoIt, UnaryPattern, WithBars, Plainly}
 use Rattle.grammar_model.specs.Checks.{Fault}
 use Rattle.grammar_model.specs.Spelling.{HasStop}
-use Rattle.grammar_model.specs.Ahead.{Longest, NoAssignment, NoName, NoBinary, NoKeyword, NoSemicolon}
+use Rattle.grammar_model.specs.Ahead.{Longest, NoAssignment, NoBinary, NoSemicolon, NoUnary, NoKey}
 use Rattle.grammar_model.specs.Spanned.{SpannedTree}
 use Rattle.grammar_model.specs.Chain.{Alone}
 use Rattle.grammar_model.specs.Literals.{Unsigned}
 use Rattle.grammar_model.specs.Grammar.{OneName, NoNames, OneParameter, NoParameters, DeclaresNone, Expression, Assigned, Simple, Operand, Variable, LiteralOperand, Grouped, BlockOperand, NoUnaries, NoBinaries, OneKeywords, NoKeywords, LastPart, ArgumentOfKeyword, NoCascade, OneCascade, OneMessage, LastMessage, UnaryMessage, WithParameters, Sequenced, Returned, OneStatement, Ended, Unended, UnendedReturn}
 use Rattle.grammar_model.specs.Machine.{start, run, Wrong, Missing, At, fault_at}
 use Rattle.grammar_model.specs.Examples.{lexemes, Row, Judges, AllJudged, doits, methods, kernel_methods, a_text, its_tokens, its_lexemes, a_method, its_tree, a_doit, its_sequence}
-use Rattle.grammar_model.specs.Lexemes.{lexemes_of}
+use Rattle.grammar_model.specs.Lexemes.{lexemes_by, lexemes_of}
+use Rattle.grammar_model.specs.PatternTokens.{pattern_terminal_of}
+use Rattle.grammar_model.specs.PatternExamples.{patterns, a_pattern, its_pieces, its_metas}
 use Rattle.grammar_model.proofs.WholeTexts.{gets_text}
 use Rattle.grammar_model.proofs.Stops.{first_fault}
 
@@ -54,12 +56,20 @@ judges_methods = all_judged methods refl
 pub judges_kernel_methods : AllJudged kernel_methods
 judges_kernel_methods = all_judged kernel_methods refl
 
+-- the examples of patterns
+pub judges_patterns : AllJudged patterns
+judges_patterns = all_judged patterns refl
+
+-- the example of a pattern's text
+pub sees_metas : lexemes_by pattern_terminal_of a_pattern [] its_pieces ≡ its_metas
+sees_metas = refl
+
 -- the example of a text
 pub sees_lexemes : lexemes_of a_text [] its_tokens ≡ its_lexemes
 sees_lexemes = refl
 
 -- a name or a numeral is an expression of its own
-alone : {i j : Input} {t : SpannedTree} → NoAssignment (kind_of i) (kind_of (next i)) → Operand Longest i (Alone t) j → NoName (kind_of j) → NoBinary (kind_of j) → NoKeyword (kind_of j) → NoSemicolon (kind_of j) → Expression Longest i t j
+alone : {i j : Input} {t : SpannedTree} → NoAssignment (kind_of i) (kind_of (next i)) → Operand Longest i (Alone t) j → NoUnary (kind_of j) → NoBinary (kind_of j) → NoKey (kind_of j) → NoSemicolon (kind_of j) → Expression Longest i t j
 alone plain o a b k c = Simple plain o (NoUnaries a) (NoBinaries b) (NoKeywords k) (NoCascade tt c)
 
 -- the example of a method has its tree

@@ -7,7 +7,7 @@ use Rattle.grammar_model.specs.Spanned.{Declared, SpannedTree, SpannedTrees, Spa
 use Rattle.grammar_model.specs.Chain.{Chain}
 use Rattle.grammar_model.specs.Ahead.{Longest, Any}
 use Rattle.grammar_model.specs.Literals.{ByteElements, OneByte, NoBytes, LiteralAt, Unsigned, Negative, Fixed, Array, ByteArray, Element, LiteralElement, InnerArray, InnerBytes, NameElement, KeywordElement, BinaryElement, Elements, OneElement, NoElements}
-use Rattle.grammar_model.specs.Grammar.{Temporaries, Periods, OnePeriod, NoPeriods, Names, OneName, NoNames, Parameters, OneParameter, NoParameters, Declares, DeclaresNone, Expression, Assigned, Simple, Operand, Variable, SuperName, LiteralOperand, Grouped, BlockOperand, BraceOperand, Unaries, OneUnary, NoUnaries, Binaries, OneBinary, NoBinaries, Keywords, OneKeywords, NoKeywords, Parts, LastPart, FurtherPart, Argument, BinaryArgument, KeywordArgument, ArgumentOfKeyword, Cascaded, NoCascade, OneCascade, Messages, OneMessage, LastMessage, Message, UnaryMessage, BinaryMessage, KeywordMessage, Items, NoItems, OneItem, FurtherItems, NextItem, LastItem, BlockBody, WithoutParameters, ParametersAlone, WithParameters, Sequence, Sequenced, Statements, BlankPeriod, NoMore, Returned, OneStatement, After, Ended, Unended, Finish, EndedReturn, UnendedReturn}
+use Rattle.grammar_model.specs.Grammar.{Temporaries, Periods, OnePeriod, NoPeriods, Names, OneName, NoNames, Parameters, OneParameter, NoParameters, Declares, DeclaresNone, Expression, Assigned, Simple, Operand, Variable, SuperName, LiteralOperand, Grouped, BlockOperand, BraceOperand, Unaries, OneUnary, NoUnaries, Binaries, OneBinary, NoBinaries, Keywords, OneKeywords, NoKeywords, Parts, LastPart, FurtherPart, Argument, BinaryArgument, KeywordArgument, ArgumentOfKeyword, Cascaded, NoCascade, OneCascade, Messages, OneMessage, LastMessage, Message, UnaryMessage, BinaryMessage, KeywordMessage, Items, NoItems, OneItem, FurtherItems, NextItem, LastItem, BlockBody, WithoutParameters, ParametersAlone, WithParameters, Sequence, Sequenced, Statements, BlankPeriod, NoMore, Returned, OneStatement, After, Ended, Unended, Finish, EndedReturn, UnendedReturn, MetaOperand, AnyUnary, AnyUnaryMessage, AnyStatement, AnyMessage, WholeMessage, AnyKeywords, AnyKeywordMessage}
 use Rattle.grammar_model.specs.Whole.{IsDoIt, PatternParts, LastPatternPart, FurtherPatternPart, Pattern, UnaryPattern, BinaryPattern, KeywordPattern, MethodBody, WithBars, WithoutBars, Behind, Plainly, Primitively, IsMethod}
 
 -- the numerals of a byte array, its rows ending anywhere
@@ -63,6 +63,10 @@ any_Temporaries : {i j : Input} {ds : List Declared} → Temporaries Longest i d
 any_Temporaries (Declares e d f) = Declares e (any_Names d) f
 any_Temporaries (DeclaresNone n) = DeclaresNone tt
 
+-- any message, its rows ending anywhere
+any_AnyMessage : {i j : Input} {s : Text} {xs : SpannedTrees} → AnyMessage Longest i s xs j → AnyMessage Any i s xs j
+any_AnyMessage (WholeMessage e f n) = WholeMessage e f tt
+
 mutual
   -- an expression, its rows ending anywhere
   any_Expression : {i j : Input} {t : SpannedTree} → Expression Longest i t j → Expression Any i t j
@@ -73,6 +77,7 @@ mutual
   any_Operand : {i j : Input} {r : Chain} → Operand Longest i r j → Operand Any i r j
   any_Operand (Variable e) = Variable e
   any_Operand (SuperName e) = SuperName e
+  any_Operand (MetaOperand e) = MetaOperand e
   any_Operand (LiteralOperand d) = LiteralOperand (any_LiteralAt d)
   any_Operand (Grouped e d c) = Grouped e (any_Expression d) c
   any_Operand (BlockOperand e b c) = BlockOperand e (any_BlockBody b) c
@@ -81,6 +86,7 @@ mutual
   -- unary messages, its rows ending anywhere
   any_Unaries : {f : ℕ} {i j : Input} {r u : Chain} → Unaries Longest f r i u j → Unaries Any f r i u j
   any_Unaries (OneUnary e d) = OneUnary e (any_Unaries d)
+  any_Unaries (AnyUnary e d) = AnyUnary e (any_Unaries d)
   any_Unaries (NoUnaries n) = NoUnaries tt
 
   -- binary messages, its rows ending anywhere
@@ -91,6 +97,7 @@ mutual
   -- a keyword message or none, its rows ending anywhere
   any_Keywords : {f : ℕ} {i j : Input} {r u : Chain} → Keywords Longest f r i u j → Keywords Any f r i u j
   any_Keywords (OneKeywords d) = OneKeywords (any_Parts d)
+  any_Keywords (AnyKeywords d) = AnyKeywords (any_AnyMessage d)
   any_Keywords (NoKeywords n) = NoKeywords tt
 
   -- keywords with their arguments, its rows ending anywhere
@@ -119,8 +126,10 @@ mutual
   -- one message of a cascade, its rows ending anywhere
   any_Message : {i j : Input} {s : Text} {xs : SpannedTrees} → Message Longest i s xs j → Message Any i s xs j
   any_Message (UnaryMessage e) = UnaryMessage e
+  any_Message (AnyUnaryMessage e) = AnyUnaryMessage e
   any_Message (BinaryMessage e x) = BinaryMessage e (any_Argument x)
   any_Message (KeywordMessage d) = KeywordMessage (any_Parts d)
+  any_Message (AnyKeywordMessage d) = AnyKeywordMessage (any_AnyMessage d)
 
   -- the items of a brace array, its rows ending anywhere
   any_Items : {i j : Input} {ts : SpannedTrees} → Items Longest i ts j → Items Any i ts j
@@ -147,6 +156,7 @@ mutual
   any_Statements (BlankPeriod e b) = BlankPeriod e (any_Statements b)
   any_Statements (NoMore n) = NoMore tt
   any_Statements (Returned e d f) = Returned e (any_Expression d) (any_Finish f)
+  any_Statements (AnyStatement e a) = AnyStatement e (any_After a)
   any_Statements (OneStatement d a) = OneStatement (any_Expression d) (any_After a)
 
   -- what stands behind a statement, its rows ending anywhere

@@ -12,6 +12,9 @@ pub mod Continuing
 pub mod Wishes
 pub mod Stops
 pub mod Either
+pub mod MetaTokens
+pub mod FormTokens
+pub mod FirstFaults
 pub mod Texts
 pub mod RowsLiterals
 pub mod Rows

@@ -1,10 +1,10 @@
 -- The tokens determine a literal, and the place behind it.
 use Rattle.std.proofs.Common.{◌≡◌, ℕ, ◌++◌, refl, ap, sym, subst, ◌∙◌, arith}
 use Rattle.tree_model.specs.Tree.{LiteralOf, number, symbol, array, bytes, LiteralsOf, more_literals}
-use Rattle.grammar_model.specs.Terminal.{Text, BinaryKind, SmallDigits, LargeDigits, OtherNumeral, Sign, Group, BlockStart, ArrayStart, Terminal, Name, Keyword, Binary, Numeral, Constant, Opens}
+use Rattle.grammar_model.specs.Terminal.{Text, BinaryKind, SmallDigits, LargeDigits, OtherNumeral, Sign, Group, BlockStart, ArrayStart, Terminal, Name, Keyword, Binary, Numeral, Constant, Opens, AnyKey, KeywordKind}
 use Rattle.grammar_model.specs.Input.{Input, kind_of, next}
 use Rattle.grammar_model.specs.Ahead.{Longest, IsDigits, NoDigits, NoElement}
-use Rattle.grammar_model.specs.Literals.{word_or_symbol, NoSign, IsJoined, KeywordRow, LastKeyword, JoinedKeyword, ByteElements, OneByte, NoBytes, LiteralAt, Unsigned, Negative, Fixed, Array, ByteArray, Element, LiteralElement, InnerArray, InnerBytes, NameElement, KeywordElement, BinaryElement, Elements, OneElement, NoElements}
+use Rattle.grammar_model.specs.Literals.{word_or_symbol, NoSign, IsJoined, KeywordRow, LastKeyword, JoinedKeyword, ByteElements, OneByte, NoBytes, LiteralAt, Unsigned, Negative, Fixed, Array, ByteArray, Element, LiteralElement, InnerArray, InnerBytes, NameElement, KeywordElement, BinaryElement, Elements, OneElement, NoElements, NoAnyKey}
 
 -- a fact of a kind, at the other of two equal places
 pub kind_at : {i i' : Input} {k : Terminal} (P : Terminal → Type 0) → i ≡ i' → kind_of i ≡ k → P (kind_of i') → P k
@@ -16,12 +16,12 @@ same_kind s e e' = sym e ∙ ap kind_of s ∙ e'
 
 -- a row of keywords has one text
 pub one_KeywordRow : {i j : Input} {k : Text} → KeywordRow i k j → {i' j' : Input} {k' : Text} → KeywordRow i' k' j' → i ≡ i' → (k ≡ k') × (j ≡ j')
-one_KeywordRow (LastKeyword {c} {k} e n) (LastKeyword {c = c'} {k = k'} e' n') s =
+one_KeywordRow (LastKeyword {c} {k} e pe n) (LastKeyword {c = c'} {k = k'} e' pe' n') s =
     let same : Keyword c k ≡ Keyword c' k' = same_kind s e e' in
     (cc, ap next s)
-one_KeywordRow (LastKeyword e n) (JoinedKeyword e' g d) s = absurd (n (subst IsJoined (sym s) g))
-one_KeywordRow (JoinedKeyword e g d) (LastKeyword e' n) s = absurd (n (subst IsJoined s g))
-one_KeywordRow (JoinedKeyword {c} {k} e g d) (JoinedKeyword {c = c'} {k = k'} e' g' d') s =
+one_KeywordRow (LastKeyword e pe n) (JoinedKeyword e' pe' g d) s = absurd (n (subst IsJoined (sym s) g))
+one_KeywordRow (JoinedKeyword e pe g d) (LastKeyword e' pe' n) s = absurd (n (subst IsJoined s g))
+one_KeywordRow (JoinedKeyword {c} {k} e pe g d) (JoinedKeyword {c = c'} {k = k'} e' pe' g' d') s =
     let same : Keyword c k ≡ Keyword c' k' = same_kind s e e' in
     let keys : k ≡ k' = cc in
     let p = one_KeywordRow d d' (ap next s) in
@@ -102,8 +102,8 @@ element_rule-LiteralAt (ByteArray e a c) = ap element_rule e
 
 -- a row of keywords begins with a keyword
 element_rule-KeywordRow : {i j : Input} {k : Text} → KeywordRow i k j → element_rule (kind_of i) ≡ 4
-element_rule-KeywordRow (LastKeyword e n) = ap element_rule e
-element_rule-KeywordRow (JoinedKeyword e g d) = ap element_rule e
+element_rule-KeywordRow (LastKeyword e pe n) = ap element_rule e
+element_rule-KeywordRow (JoinedKeyword e pe g d) = ap element_rule e
 
 -- a binary selector that is no sign
 element_rule-binary : (c : BinaryKind) (s : Text) → NoSign c → element_rule (Binary c s) ≡ 5
@@ -123,6 +123,11 @@ element_rule-Element (BinaryElement {c} {s} e h) = ap element_rule e ∙ element
 abbrev IsElementStart : Terminal → Type 0
 IsElementStart k = NoElement k → ⊥
 
+-- a keyword begins an element
+starts_key : (c : KeywordKind) (k : Text) → NoAnyKey c → IsElementStart (Keyword c k)
+starts_key AnyKey k p = absurd p
+starts_key c k p = λ h. h
+
 -- a literal begins as elements do
 starts_LiteralAt : {i j : Input} {l : LiteralOf Text} → LiteralAt Longest i l j → IsElementStart (kind_of i)
 starts_LiteralAt (Unsigned e) = subst IsElementStart (sym e) (λ h. h)
@@ -137,8 +142,8 @@ starts_Element (LiteralElement d) = starts_LiteralAt d
 starts_Element (InnerArray e a c) = subst IsElementStart (sym e) (λ h. h)
 starts_Element (InnerBytes e a c) = subst IsElementStart (sym e) (λ h. h)
 starts_Element (NameElement e) = subst IsElementStart (sym e) (λ h. h)
-starts_Element (KeywordElement (LastKeyword e n)) = subst IsElementStart (sym e) (λ h. h)
-starts_Element (KeywordElement (JoinedKeyword e g d)) = subst IsElementStart (sym e) (λ h. h)
+starts_Element (KeywordElement (LastKeyword {c} {k} e pe n)) = subst IsElementStart (sym e) (starts_key c k pe)
+starts_Element (KeywordElement (JoinedKeyword {c} {k} e pe g d)) = subst IsElementStart (sym e) (starts_key c k pe)
 starts_Element (BinaryElement e h) = subst IsElementStart (sym e) (λ h. h)
 
 mutual

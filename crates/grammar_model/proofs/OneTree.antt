@@ -1,13 +1,13 @@
 -- The tokens determine a tree, and the place behind it, with the comments that are held there.
 use Rattle.std.proofs.Common.{◌≡◌, ℕ, List, ◌∷◌, ◌++◌, refl, ap, sym, subst, arith}
 use Rattle.tree_model.specs.Tree.{Notes}
-use Rattle.grammar_model.specs.Terminal.{Text, NameKind, Ordinary, Super, Bar, Sign, Common, Less, Greater, Group, BlockStart, BraceStart, Terminal, Name, Keyword, Binary, Numeral, Constant, Opens, Closes, Assignment, Colon, Semicolon, Period, Caret}
+use Rattle.grammar_model.specs.Terminal.{Text, NameKind, Ordinary, Super, Bar, Sign, Common, Less, Greater, Group, BlockStart, BraceStart, Terminal, Name, Keyword, Binary, Numeral, Constant, Opens, Closes, Assignment, Colon, Semicolon, Period, Caret, OperandMeta, AnyName, StatementMeta, MessageMeta, AnyExpression}
 use Rattle.grammar_model.specs.Input.{Input, kind_of, from_of, next, clear, back}
 use Rattle.grammar_model.specs.Spanned.{Declared, SpannedTree, Var, Literal, Cascade, Assign, Block, Brace, Return, SpannedTrees, NoTrees, MoreTrees, one_tree, SpannedMessages, MoreMessages, SpannedStatements, NoStatements, MoreStatements}
 use Rattle.grammar_model.specs.Chain.{Chain, Waiting, Alone, whole, sent}
-use Rattle.grammar_model.specs.Ahead.{Longest, NoName, NoKeyword, NoBinary, NoBar, NoSemicolon, NoColon, NoPeriod, NoOperand, NoStatement, NoAssignment, IsOperandStart}
+use Rattle.grammar_model.specs.Ahead.{Longest, NoName, NoKeyword, NoBinary, NoBar, NoSemicolon, NoColon, NoPeriod, NoOperand, NoStatement, NoAssignment, IsOperandStart, NoUnary, NoKey}
 use Rattle.grammar_model.specs.Literals.{Unsigned, Negative, Fixed, Array, ByteArray}
-use Rattle.grammar_model.specs.Grammar.{Periods, OnePeriod, NoPeriods, Names, OneName, NoNames, Parameters, OneParameter, NoParameters, Temporaries, Declares, DeclaresNone, Expression, Assigned, Simple, Operand, Variable, SuperName, LiteralOperand, Grouped, BlockOperand, BraceOperand, Unaries, OneUnary, NoUnaries, Binaries, OneBinary, NoBinaries, Keywords, OneKeywords, NoKeywords, Parts, LastPart, FurtherPart, Argument, BinaryArgument, KeywordArgument, ArgumentOfKeyword, Cascaded, NoCascade, OneCascade, Messages, OneMessage, LastMessage, Message, UnaryMessage, BinaryMessage, KeywordMessage, Items, NoItems, OneItem, FurtherItems, NextItem, LastItem, BlockBody, WithoutParameters, ParametersAlone, WithParameters, Sequence, Sequenced, Statements, BlankPeriod, NoMore, Returned, OneStatement, After, Ended, Unended, Finish, EndedReturn, UnendedReturn}
+use Rattle.grammar_model.specs.Grammar.{Periods, OnePeriod, NoPeriods, Names, OneName, NoNames, Parameters, OneParameter, NoParameters, Temporaries, Declares, DeclaresNone, Expression, Assigned, Simple, Operand, Variable, SuperName, LiteralOperand, Grouped, BlockOperand, BraceOperand, Unaries, OneUnary, NoUnaries, Binaries, OneBinary, NoBinaries, Keywords, OneKeywords, NoKeywords, Parts, LastPart, FurtherPart, Argument, BinaryArgument, KeywordArgument, ArgumentOfKeyword, Cascaded, NoCascade, OneCascade, Messages, OneMessage, LastMessage, Message, UnaryMessage, BinaryMessage, KeywordMessage, Items, NoItems, OneItem, FurtherItems, NextItem, LastItem, BlockBody, WithoutParameters, ParametersAlone, WithParameters, Sequence, Sequenced, Statements, BlankPeriod, NoMore, Returned, OneStatement, After, Ended, Unended, Finish, EndedReturn, UnendedReturn, MetaOperand, AnyUnary, AnyUnaryMessage, AnyStatement, AnyMessage, WholeMessage, AnyKeywords, AnyKeywordMessage}
 use Rattle.grammar_model.proofs.OneLiteral.{kind_at, same_kind, same_rule, one_LiteralAt}
 
 -- the rule of operands that fits a token
@@ -17,6 +17,7 @@ operand_rule (Name Super n) = 1
 operand_rule (Opens Group) = 3
 operand_rule (Opens BlockStart) = 4
 operand_rule (Opens BraceStart) = 5
+operand_rule (OperandMeta m n) = 6
 operand_rule k = 2
 
 -- the rule that spells an operand
@@ -27,6 +28,7 @@ rule_of_Operand (LiteralOperand d) = 2
 rule_of_Operand (Grouped e d c) = 3
 rule_of_Operand (BlockOperand e d c) = 4
 rule_of_Operand (BraceOperand e d c) = 5
+rule_of_Operand (MetaOperand e) = 6
 
 -- it is the rule of the first token
 operand_rule-Operand : {i j : Input} {r : Chain} (d : Operand Longest i r j) → operand_rule (kind_of i) ≡ rule_of_Operand d
@@ -40,6 +42,7 @@ operand_rule-Operand (LiteralOperand (ByteArray e a c)) = ap operand_rule e
 operand_rule-Operand (Grouped e d c) = ap operand_rule e
 operand_rule-Operand (BlockOperand e d c) = ap operand_rule e
 operand_rule-Operand (BraceOperand e d c) = ap operand_rule e
+operand_rule-Operand (MetaOperand e) = ap operand_rule e
 
 -- an operand begins with a token that operands begin with
 pub starts_Operand : {i j : Input} {r : Chain} → Operand Longest i r j → IsOperandStart (kind_of i)
@@ -53,6 +56,7 @@ starts_Operand (LiteralOperand (ByteArray e a c)) = subst IsOperandStart (sym e)
 starts_Operand (Grouped e d c) = subst IsOperandStart (sym e) tt
 starts_Operand (BlockOperand e d c) = subst IsOperandStart (sym e) tt
 starts_Operand (BraceOperand e d c) = subst IsOperandStart (sym e) tt
+starts_Operand (MetaOperand e) = subst IsOperandStart (sym e) tt
 
 -- an expression begins with such a token too
 pub starts_Expression : {i j : Input} {t : SpannedTree} → Expression Longest i t j → IsOperandStart (kind_of i)
@@ -66,6 +70,7 @@ start_clash (Binary Sign b) s h = h
 start_clash (Numeral c t) s h = h
 start_clash (Constant l) s h = h
 start_clash (Opens o) s h = h
+start_clash (OperandMeta m n) s h = h
 start_clash k s h = s
 
 -- what ends statements begins no operand
@@ -79,7 +84,10 @@ NoStatement-NoOperand (Binary Bar s) h = tt
 NoStatement-NoOperand (Numeral c t) h = h
 NoStatement-NoOperand (Constant l) h = h
 NoStatement-NoOperand (Opens o) h = h
+NoStatement-NoOperand (OperandMeta m n) h = h
 NoStatement-NoOperand (Keyword c k) h = tt
+NoStatement-NoOperand (StatementMeta n) h = tt
+NoStatement-NoOperand (MessageMeta n) h = tt
 NoStatement-NoOperand (Closes c) h = tt
 NoStatement-NoOperand Assignment h = tt
 NoStatement-NoOperand Colon h = tt
@@ -136,24 +144,52 @@ starts_Parts : {i j : Input} {s : Text} {xs : SpannedTrees} → Parts Longest i 
 starts_Parts (LastPart e x n) h = subst NoKeyword e h
 starts_Parts (FurtherPart e x d) h = subst NoKeyword e h
 
+-- what begins no keyword message is no keyword
+no_keyword : (k : Terminal) → NoKey k → NoKeyword k
+no_keyword (Keyword c n) h = h
+no_keyword k h = tt
+
+-- any message begins with its own token
+starts_AnyMessage : {i j : Input} {s : Text} {xs : SpannedTrees} → AnyMessage Longest i s xs j → NoKey (kind_of i) → ⊥
+starts_AnyMessage (WholeMessage e f n) h = subst NoKey e h
+
+-- which is no keyword
+other_AnyMessage : {i j : Input} {s : Text} {xs : SpannedTrees} → AnyMessage Longest i s xs j → NoKeyword (kind_of i)
+other_AnyMessage (WholeMessage e f n) = subst NoKeyword (sym e) tt
+
+-- any message: the tokens determine it
+one_AnyMessage : {i j : Input} {k : Text} {xs : SpannedTrees} → AnyMessage Longest i k xs j → {i' j' : Input} {k' : Text} {xs' : SpannedTrees} → AnyMessage Longest i' k' xs' j' → i ≡ i' → (k ≡ k') × (xs ≡ xs') × (j ≡ j')
+one_AnyMessage (WholeMessage {k} {n} e f h) (WholeMessage {k = k'} {n = n'} e' f' h') s =
+    let a : MessageMeta k ≡ MessageMeta k' = same_kind s e e' in
+    let b : OperandMeta AnyExpression n ≡ OperandMeta AnyExpression n' = same_kind (ap next s) f f' in
+    let keys : k ≡ k' = cc in
+    let names : n ≡ n' = cc in
+    (keys, (λ v. one_tree (Var (from_of (next (s v))) (next (next (s v))).last (names v))), (λ v. next (next (s v))))
+
 -- the rule of a cascade's messages that fits a token
 abbrev message_rule : Terminal → ℕ
 message_rule (Name c n) = 0
+message_rule (OperandMeta AnyName n) = 3
 message_rule (Binary c s) = 1
+message_rule (MessageMeta s) = 4
 message_rule k = 2
 
 -- the rule that spells a message
 abbrev rule_of_Message : {i j : Input} {s : Text} {xs : SpannedTrees} → Message Longest i s xs j → ℕ
 rule_of_Message (UnaryMessage e) = 0
+rule_of_Message (AnyUnaryMessage e) = 3
 rule_of_Message (BinaryMessage e x) = 1
 rule_of_Message (KeywordMessage d) = 2
+rule_of_Message (AnyKeywordMessage d) = 4
 
 -- it is the rule of the first token
 message_rule-Message : {i j : Input} {s : Text} {xs : SpannedTrees} (d : Message Longest i s xs j) → message_rule (kind_of i) ≡ rule_of_Message d
 message_rule-Message (UnaryMessage e) = ap message_rule e
+message_rule-Message (AnyUnaryMessage e) = ap message_rule e
 message_rule-Message (BinaryMessage e x) = ap message_rule e
 message_rule-Message (KeywordMessage (LastPart e x n)) = ap message_rule e
 message_rule-Message (KeywordMessage (FurtherPart e x d)) = ap message_rule e
+message_rule-Message (AnyKeywordMessage (WholeMessage e f h)) = ap message_rule e
 
 mutual
   -- the tokens determine an expression, and the place behind it
@@ -182,6 +218,10 @@ mutual
       let k : Name Super n ≡ Name Super n' = same_kind s e e' in
       let same : n ≡ n' = cc in
       ((λ v. Waiting (from_of (s v)) (next (s v)).last (same v)), ap next s)
+  one_Operand (MetaOperand {m} {n} e) (MetaOperand {m = m'} {n = n'} e') s =
+      let k : OperandMeta m n ≡ OperandMeta m' n' = same_kind s e e' in
+      let same : n ≡ n' = cc in
+      ((λ v. Alone (Var (from_of (s v)) (next (s v)).last (same v))), ap next s)
   one_Operand (LiteralOperand d) (LiteralOperand d') s =
       let p = one_LiteralAt d d' s in
       ((λ v. Alone (Literal (from_of (s v)) (p.1 v).last (p.0 v))), p.1)
@@ -200,8 +240,16 @@ mutual
       let k : Name c n ≡ Name c' n' = same_kind s e e' in
       let same : n ≡ n' = cc in
       one_Unaries u u' g (λ v. sent (g v) (next (s v)).last (q v) (same v) NoTrees) (ap next s)
-  one_Unaries (OneUnary e u) (NoUnaries h) g q s = absurd (kind_at NoName s e h)
-  one_Unaries (NoUnaries h) (OneUnary e u) g q s = absurd (kind_at NoName (sym s) e h)
+  one_Unaries (AnyUnary {n} e u) (AnyUnary {n = n'} e' u') g q s =
+      let k : OperandMeta AnyName n ≡ OperandMeta AnyName n' = same_kind s e e' in
+      let same : n ≡ n' = cc in
+      one_Unaries u u' g (λ v. sent (g v) (next (s v)).last (q v) (same v) NoTrees) (ap next s)
+  one_Unaries (OneUnary {c} {n} e u) (AnyUnary {n = n'} e' u') g q s = let k : Name c n ≡ OperandMeta AnyName n' = same_kind s e e' in cc
+  one_Unaries (AnyUnary {n} e u) (OneUnary {c = c'} {n = n'} e' u') g q s = let k : OperandMeta AnyName n ≡ Name c' n' = same_kind s e e' in cc
+  one_Unaries (AnyUnary e u) (NoUnaries h) g q s = absurd (kind_at NoUnary s e h)
+  one_Unaries (NoUnaries h) (AnyUnary e u) g q s = absurd (kind_at NoUnary (sym s) e h)
+  one_Unaries (OneUnary e u) (NoUnaries h) g q s = absurd (kind_at NoUnary s e h)
+  one_Unaries (NoUnaries h) (OneUnary e u) g q s = absurd (kind_at NoUnary (sym s) e h)
   one_Unaries (NoUnaries h) (NoUnaries h') g q s = (q, s)
 
   -- binary messages: the tokens determine it
@@ -220,8 +268,15 @@ mutual
   one_Keywords (OneKeywords d) (OneKeywords d') g q s =
       let p = one_Parts d d' s in
       ((λ v. sent (g v) (p.2 v).last (q v) (p.0 v) (p.1 v)), p.2)
-  one_Keywords (OneKeywords d) (NoKeywords h) g q s = absurd (starts_Parts d (subst (λ i. NoKeyword (kind_of i)) (sym s) h))
-  one_Keywords (NoKeywords h) (OneKeywords d) g q s = absurd (starts_Parts d (subst (λ i. NoKeyword (kind_of i)) s h))
+  one_Keywords (AnyKeywords d) (AnyKeywords d') g q s =
+      let p = one_AnyMessage d d' s in
+      ((λ v. sent (g v) (p.2 v).last (q v) (p.0 v) (p.1 v)), p.2)
+  one_Keywords (OneKeywords d) (AnyKeywords d') g q s = absurd (starts_Parts d (subst (λ i. NoKeyword (kind_of i)) (sym s) (other_AnyMessage d')))
+  one_Keywords (AnyKeywords d) (OneKeywords d') g q s = absurd (starts_Parts d' (subst (λ i. NoKeyword (kind_of i)) s (other_AnyMessage d)))
+  one_Keywords (OneKeywords d) (NoKeywords h) g q s = absurd (starts_Parts d (no_keyword _ (subst (λ i. NoKey (kind_of i)) (sym s) h)))
+  one_Keywords (NoKeywords h) (OneKeywords d) g q s = absurd (starts_Parts d (no_keyword _ (subst (λ i. NoKey (kind_of i)) s h)))
+  one_Keywords (AnyKeywords d) (NoKeywords h) g q s = absurd (starts_AnyMessage d (subst (λ i. NoKey (kind_of i)) (sym s) h))
+  one_Keywords (NoKeywords h) (AnyKeywords d) g q s = absurd (starts_AnyMessage d (subst (λ i. NoKey (kind_of i)) s h))
   one_Keywords (NoKeywords h) (NoKeywords h') g q s = (q, s)
 
   -- keywords with their arguments: the tokens determine it
@@ -237,8 +292,8 @@ mutual
       let p = one_KeywordArgument x x' (ap next s) in
       let q = one_Parts d d' p.1 in
       ((λ v. same v ++ q.0 v), (λ v. MoreTrees (p.0 v) (q.1 v)), q.2)
-  one_Parts (LastPart e x h) (FurtherPart e' x' d) s = let p = one_KeywordArgument x x' (ap next s) in absurd (starts_Parts d (subst (λ i. NoKeyword (kind_of i)) p.1 h))
-  one_Parts (FurtherPart e x d) (LastPart e' x' h) s = let p = one_KeywordArgument x x' (ap next s) in absurd (starts_Parts d (subst (λ i. NoKeyword (kind_of i)) (sym p.1) h))
+  one_Parts (LastPart e x h) (FurtherPart e' x' d) s = let p = one_KeywordArgument x x' (ap next s) in absurd (starts_Parts d (no_keyword _ (subst (λ i. NoKey (kind_of i)) p.1 h)))
+  one_Parts (FurtherPart e x d) (LastPart e' x' h) s = let p = one_KeywordArgument x x' (ap next s) in absurd (starts_Parts d (no_keyword _ (subst (λ i. NoKey (kind_of i)) (sym p.1) h)))
 
   -- the argument of a binary message: the tokens determine it
   pub one_Argument : {i j : Input} {t : SpannedTree} → Argument Longest i t j → {i' j' : Input} {t' : SpannedTree} → Argument Longest i' t' j' → i ≡ i' → (t ≡ t') × (j ≡ j')
@@ -283,12 +338,16 @@ mutual
   one_Message (UnaryMessage {c} {n} e) (UnaryMessage {c = c'} {n = n'} e') s =
       let k : Name c n ≡ Name c' n' = same_kind s e e' in
       (cc, refl, ap next s)
+  one_Message (AnyUnaryMessage {n} e) (AnyUnaryMessage {n = n'} e') s =
+      let k : OperandMeta AnyName n ≡ OperandMeta AnyName n' = same_kind s e e' in
+      (cc, refl, ap next s)
   one_Message (BinaryMessage {c} {s = b} e x) (BinaryMessage {c = c'} {s = b'} e' x') s =
       let k : Binary c b ≡ Binary c' b' = same_kind s e e' in
       let same : b ≡ b' = cc in
       let p = one_Argument x x' (ap next s) in
       (same, ap one_tree p.0, p.1)
   one_Message (KeywordMessage d) (KeywordMessage d') s = one_Parts d d' s
+  one_Message (AnyKeywordMessage d) (AnyKeywordMessage d') s = one_AnyMessage d d' s
   one_Message d d' s = let e = same_rule message_rule s (message_rule-Message d) (message_rule-Message d') in absurd (omega arith)
 
   -- the items of a brace array: the tokens determine it
@@ -342,6 +401,19 @@ mutual
       let p = one_Expression d d' s in
       let q = one_After a a' p.1 in
       ((λ v. MoreStatements (q.0 v) (from_of (s v)) (p.0 v) (q.1 v)), q.2)
+  one_Statements (AnyStatement {n} e a) (AnyStatement {n = n'} e' a') s =
+      let k : StatementMeta n ≡ StatementMeta n' = same_kind s e e' in
+      let same : n ≡ n' = cc in
+      let q = one_After a a' (ap next s) in
+      ((λ v. MoreStatements (q.0 v) (from_of (s v)) (Var (from_of (s v)) (next (s v)).last (same v)) (q.1 v)), q.2)
+  one_Statements (AnyStatement e a) (OneStatement d a') s = absurd (kind_at IsOperandStart s e (starts_Expression d))
+  one_Statements (OneStatement d a) (AnyStatement e a') s = absurd (kind_at IsOperandStart (sym s) e (starts_Expression d))
+  one_Statements (AnyStatement e a) (BlankPeriod e' b) s = let k = same_kind s e e' in cc
+  one_Statements (BlankPeriod e b) (AnyStatement e' a) s = let k = same_kind s e e' in cc
+  one_Statements (AnyStatement e a) (Returned e' d f) s = let k = same_kind s e e' in cc
+  one_Statements (Returned e d f) (AnyStatement e' a) s = let k = same_kind s e e' in cc
+  one_Statements (AnyStatement e a) (NoMore h) s = absurd (kind_at NoStatement s e h)
+  one_Statements (NoMore h) (AnyStatement e a) s = absurd (kind_at NoStatement (sym s) e h)
   one_Statements (BlankPeriod e b) (NoMore h) s = absurd (kind_at NoStatement s e h)
   one_Statements (NoMore h) (BlankPeriod e b) s = absurd (kind_at NoStatement (sym s) e h)
   one_Statements (BlankPeriod e b) (Returned e' d f) s = let k = same_kind s e e' in cc

@@ -6,7 +6,7 @@ use Rattle.grammar_model.specs.Terminal.{Text, NameKind, Less, SmallDigits, Text
 use Rattle.grammar_model.specs.Input.{Lexeme, lex, Input, first_kind, kind_of, from_of, next, clear}
 use Rattle.grammar_model.specs.Spanned.{Declared, SpannedStatements, SpannedSequence, SpannedMethod}
 use Rattle.grammar_model.specs.Ahead.{Longest, NoKeyword, NoBar, IsOperandStart}
-use Rattle.grammar_model.specs.Grammar.{Statements, BlankPeriod, NoMore, Returned, OneStatement}
+use Rattle.grammar_model.specs.Grammar.{Statements, BlankPeriod, NoMore, Returned, OneStatement, AnyStatement}
 use Rattle.grammar_model.specs.Whole.{IsOver, IsDoIt, PatternParts, LastPatternPart, FurtherPatternPart, Pattern, UnaryPattern, BinaryPattern, KeywordPattern, MethodBody, WithBars, WithoutBars, Primitive, OnePrimitive, Behind, Plainly, Primitively, IsMethod}
 use Rattle.grammar_model.proofs.OneLiteral.{kind_at, same_kind, same_rule}
 use Rattle.grammar_model.proofs.OneTree.{one_Names, one_Sequence, one_Statements, starts_Expression}
@@ -105,6 +105,7 @@ pub closing_bracket : {i : Input} {ss : SpannedStatements} {j : Input} {c : Note
 closing_bracket e (BlankPeriod f b) o = let k = sym e ∙ f in cc
 closing_bracket e (NoMore h) o = let k = sym e ∙ ap first_kind o.over in cc
 closing_bracket e (Returned f d b) o = let k = sym e ∙ f in cc
+closing_bracket e (AnyStatement f a) o = let k = sym e ∙ f in cc
 closing_bracket e (OneStatement d a) o = subst IsOperandStart e (starts_Expression d)
 
 -- a body is no primitive

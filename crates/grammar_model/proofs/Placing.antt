@@ -1,14 +1,14 @@
 -- The trees that the grammar spells of tokens in order are well placed.
 use Rattle.std.proofs.Common.{◌≡◌, ℕ, suc, ◌<◌, ◌≤◌, arith, List, [], ◌∷◌, refl, sym, subst, inl, inr, le_refl}
 use Rattle.tree_model.specs.Tree.{Notes, LiteralOf, LiteralsOf}
-use Rattle.grammar_model.specs.Terminal.{Text, Name, Keyword, Binary, Numeral, Constant, Opens, Closes, Assignment, Colon, Semicolon, Period, Caret, Ordinary, Super, Sign, Bar, Group, BlockStart, BraceStart, ArrayStart, BytesStart, GroupEnd, BlockEnd, BraceEnd, Terminal}
+use Rattle.grammar_model.specs.Terminal.{Text, Name, Keyword, Binary, Numeral, Constant, Opens, Closes, Assignment, Colon, Semicolon, Period, Caret, Ordinary, Super, Sign, Bar, Group, BlockStart, BraceStart, ArrayStart, BytesStart, GroupEnd, BlockEnd, BraceEnd, Terminal, OperandMeta, AnyName, StatementMeta, AnyExpression, MessageMeta}
 use Rattle.grammar_model.specs.Input.{Lexeme, lex, Input, kind_of, from_of, next, clear}
 use Rattle.grammar_model.specs.Spanned.{Declared, SpannedTree, Var, Literal, Send, Cascade, Assign, Block, Brace, Return, SpannedTrees, NoTrees, MoreTrees, one_tree, SpannedMessages, MoreMessages, SpannedStatements}
 use Rattle.grammar_model.specs.Spans.{begin_of, end_of, spanned_append, spanned_arguments, spanned_statements, spanned_children}
 use Rattle.grammar_model.specs.Chain.{Chain, Waiting, Alone, Told, whole, sent}
 use Rattle.grammar_model.specs.Ahead.{Longest, NoSemicolon}
 use Rattle.grammar_model.specs.Literals.{KeywordRow, LastKeyword, JoinedKeyword, ByteElements, OneByte, NoBytes, LiteralAt, Unsigned, Negative, Fixed, Array, ByteArray, Element, LiteralElement, InnerArray, InnerBytes, NameElement, KeywordElement, BinaryElement, Elements, OneElement, NoElements}
-use Rattle.grammar_model.specs.Grammar.{Periods, OnePeriod, NoPeriods, Names, OneName, NoNames, Parameters, OneParameter, NoParameters, Temporaries, Declares, DeclaresNone, Expression, Assigned, Simple, Operand, Variable, SuperName, LiteralOperand, Grouped, BlockOperand, BraceOperand, Unaries, OneUnary, NoUnaries, Binaries, OneBinary, NoBinaries, Keywords, OneKeywords, NoKeywords, Parts, LastPart, FurtherPart, Argument, BinaryArgument, KeywordArgument, ArgumentOfKeyword, Cascaded, NoCascade, OneCascade, Messages, OneMessage, LastMessage, Message, UnaryMessage, BinaryMessage, KeywordMessage, Items, NoItems, OneItem, FurtherItems, NextItem, LastItem, BlockBody, WithoutParameters, ParametersAlone, WithParameters, Sequence, Sequenced, Statements, BlankPeriod, NoMore, Returned, OneStatement, After, Ended, Unended, Finish, EndedReturn, UnendedReturn}
+use Rattle.grammar_model.specs.Grammar.{Periods, OnePeriod, NoPeriods, Names, OneName, NoNames, Parameters, OneParameter, NoParameters, Temporaries, Declares, DeclaresNone, Expression, Assigned, Simple, Operand, Variable, SuperName, LiteralOperand, Grouped, BlockOperand, BraceOperand, Unaries, OneUnary, NoUnaries, Binaries, OneBinary, NoBinaries, Keywords, OneKeywords, NoKeywords, Parts, LastPart, FurtherPart, Argument, BinaryArgument, KeywordArgument, ArgumentOfKeyword, Cascaded, NoCascade, OneCascade, Messages, OneMessage, LastMessage, Message, UnaryMessage, BinaryMessage, KeywordMessage, Items, NoItems, OneItem, FurtherItems, NextItem, LastItem, BlockBody, WithoutParameters, ParametersAlone, WithParameters, Sequence, Sequenced, Statements, BlankPeriod, NoMore, Returned, OneStatement, After, Ended, Unended, Finish, EndedReturn, UnendedReturn, MetaOperand, AnyUnary, AnyUnaryMessage, AnyStatement, AnyMessage, WholeMessage, AnyKeywords, AnyKeywordMessage}
 use Rattle.grammar_model.proofs.Reading.{IsReal}
 use Rattle.grammar_model.proofs.Spans.{AreBetween, AreNarrower, IsPlaced, Placed, IsOpened, AllPlaced, NonePlaced, MorePlaced, placed_some}
 
@@ -78,8 +78,8 @@ moves_ByteElements (NoBytes n) s = record { onward = le_refl _; sorted = s }
 
 -- a row of keywords, passed
 moves_KeywordRow : {i j : Input} {k : Text} → KeywordRow i k j → IsSorted i → Over i j
-moves_KeywordRow {i} (LastKeyword {c} {k} e n) s = one_over i (Keyword c k) e tt s
-moves_KeywordRow {i} (JoinedKeyword {c} {k} e g d) s = let p = passed i (Keyword c k) e tt s in then_moved p (over_moved (moves_KeywordRow d p.sorted))
+moves_KeywordRow {i} (LastKeyword {c} {k} e q n) s = one_over i (Keyword c k) e tt s
+moves_KeywordRow {i} (JoinedKeyword {c} {k} e q g d) s = let p = passed i (Keyword c k) e tt s in then_moved p (over_moved (moves_KeywordRow d p.sorted))
 
 mutual
   -- a literal, passed
@@ -328,6 +328,14 @@ cascade_placed : {i j : Input} (g h : ℕ) (r : SpannedTree) (s : Text) (xs : Sp
 cascade_placed {i} {j} g h r s xs ms (Placed some b n (MorePlaced p a) o) to more m =
     placed_cascade g j.last r (MoreMessages s xs ms) b.0 p (omega (arith, between_end xs (end_of r) h b.2)) (between_append xs (spanned_arguments ms) (end_of r) i.last j.last (higher xs (end_of r) h i.last to b.2) m.between) (placed_append xs (spanned_arguments ms) a m.placed)
 
+-- any message is well placed
+stands_AnyMessage : {i j : Input} {k : Text} {xs : SpannedTrees} → AnyMessage Longest i k xs j → IsSorted i → RowStands i xs j
+stands_AnyMessage {i} (WholeMessage {k} {n} e f h) s =
+    let p = passed i (MessageMeta k) e tt s in
+    let q = passed (next i) (OperandMeta AnyExpression n) f tt p.sorted in
+    let x : Stands (next i) (Var (from_of (next i)) (next (next i)).last n) (next (next i)) = record { before = q.before; from = le_refl _; some = q.some; to = le_refl _; placed = placed_leaf (Var (from_of (next i)) (next (next i)).last n) refl q.some tt; sorted = q.sorted } in
+    binary_row p x
+
 mutual
   -- an expression is well placed
   stands_Expression : {i j : Input} {t : SpannedTree} → Expression Longest i t j → IsSorted i → Stands i t j
@@ -345,6 +353,7 @@ mutual
   stands_Operand : {i j : Input} {r : Chain} → Operand Longest i r j → IsSorted i → OperandStands i r j
   stands_Operand {i} (Variable {n} e) s = leaf_stands (Alone (Var (from_of i) (next i).last n)) refl refl refl tt (one_over i (Name Ordinary n) e tt s)
   stands_Operand {i} (SuperName {n} e) s = leaf_stands (Waiting (from_of i) (next i).last n) refl refl refl tt (one_over i (Name Super n) e tt s)
+  stands_Operand {i} (MetaOperand {m} {n} e) s = leaf_stands (Alone (Var (from_of i) (next i).last n)) refl refl refl tt (one_over i (OperandMeta m n) e tt s)
   stands_Operand {i} {j} (LiteralOperand {l} d) s = leaf_stands (Alone (Literal (from_of i) j.last l)) refl refl refl tt (moves_LiteralAt d s)
   stands_Operand {i} (Grouped e d c) s = let p = passed i (Opens Group) e tt s in group_stands p (stands_Expression d p.sorted) c
   stands_Operand {i} (BlockOperand {m} {ps} {ds} {ss} e b c) s =
@@ -358,6 +367,7 @@ mutual
   -- unary messages, well placed
   stands_Unaries : {f : ℕ} {i j : Input} {r u : Chain} → Unaries Longest f r i u j → ChainStands f r i → ChainStands f u j
   stands_Unaries {i} (OneUnary {c} {n} e d) a = stands_Unaries d (tells n a (unary_row (Name c n) e tt a.sorted))
+  stands_Unaries {i} (AnyUnary {n} e d) a = stands_Unaries d (tells n a (unary_row (OperandMeta AnyName n) e tt a.sorted))
   stands_Unaries (NoUnaries h) a = a
 
   -- binary messages, well placed
@@ -368,6 +378,7 @@ mutual
   -- a keyword message or none, well placed
   stands_Keywords : {f : ℕ} {i j : Input} {r u : Chain} → Keywords Longest f r i u j → ChainStands f r i → ChainStands f u j
   stands_Keywords (OneKeywords {s = k} d) a = tells k a (stands_Parts d a.sorted)
+  stands_Keywords (AnyKeywords {s = k} d) a = tells k a (stands_AnyMessage d a.sorted)
   stands_Keywords (NoKeywords h) a = a
 
   -- keywords with their arguments, well placed
@@ -411,8 +422,10 @@ mutual
   -- one message of a cascade, well placed
   stands_Message : {i j : Input} {k : Text} {xs : SpannedTrees} → Message Longest i k xs j → IsSorted i → RowStands i xs j
   stands_Message {i} (UnaryMessage {c} {n} e) s = unary_row (Name c n) e tt s
+  stands_Message {i} (AnyUnaryMessage {n} e) s = unary_row (OperandMeta AnyName n) e tt s
   stands_Message {i} (BinaryMessage {c} {s = b} e x) s = let p = passed i (Binary c b) e tt s in binary_row p (stands_Argument x p.sorted)
   stands_Message (KeywordMessage d) s = stands_Parts d s
+  stands_Message (AnyKeywordMessage d) s = stands_AnyMessage d s
 
   -- the items of a brace array, well placed
   stands_Items : {i j : Input} {ts : SpannedTrees} → Items Longest i ts j → IsSorted i → TreesStand i ts j
@@ -444,6 +457,10 @@ mutual
       let w : IsPlaced (Return (from_of i) m.last t) = placed_one t (Return (from_of i) m.last t) refl (omega (arith, p.some, x.before, x.from)) x.placed x.to tt in
       let r = moves_Finish f x.sorted in
       record { between = (p.before, placed_some w, r.onward); placed = MorePlaced w NonePlaced; sorted = r.sorted }
+  stands_Statements {i} (AnyStatement {n} e a) s =
+      let p = passed i (StatementMeta n) e tt s in
+      let x : Stands i (Var (from_of i) (next i).last n) (next i) = record { before = p.before; from = le_refl _; some = p.some; to = le_refl _; placed = placed_leaf (Var (from_of i) (next i).last n) refl p.some tt; sorted = p.sorted } in
+      more_stand x (stands_After a x.sorted)
   stands_Statements (OneStatement d a) s = let x = stands_Expression d s in more_stand x (stands_After a x.sorted)
 
   -- what stands behind a statement, well placed

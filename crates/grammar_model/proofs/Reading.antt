@@ -3,12 +3,12 @@ use Rattle.std.proofs.Common.{◌≡◌, ℕ, Bool, true, false, List, [], ◌�
 use Rattle.std.specs.Prelude.{Option}
 use Rattle.std.specs.Option.{option_map_or}
 use Rattle.tree_model.specs.Tree.{Notes}
-use Rattle.grammar_model.specs.Terminal.{Text, NameKind, Ordinary, Super, KeywordKind, BinaryKind, Sign, Less, Bar, SmallDigits, LargeDigits, Group, BlockStart, BraceStart, ArrayStart, BytesStart, Closing, GroupEnd, BlockEnd, BraceEnd, TextEnd, Terminal, Name, Keyword, Binary, Numeral, Constant, Opens, Closes, Assignment, Colon, Semicolon, Period, Caret}
+use Rattle.grammar_model.specs.Terminal.{Text, NameKind, Ordinary, Super, KeywordKind, BinaryKind, Sign, Less, Bar, SmallDigits, LargeDigits, Group, BlockStart, BraceStart, ArrayStart, BytesStart, Closing, GroupEnd, BlockEnd, BraceEnd, TextEnd, Terminal, Name, Keyword, Binary, Numeral, Constant, Opens, Closes, Assignment, Colon, Semicolon, Period, Caret, OperandMeta, AnyName, StatementMeta, AnyKey, MessageMeta}
 use Rattle.grammar_model.specs.Input.{Lexeme, lex, first_kind, others}
 use Rattle.grammar_model.specs.Spanned.{SpannedTree, SpannedTrees}
 use Rattle.grammar_model.specs.Chain.{Chain, Waiting, Alone, Told, sent, IsWhole}
-use Rattle.grammar_model.specs.Ahead.{NoName, NoKeyword, NoBinary, NoBar, NoSemicolon, NoColon, NoPeriod, NoDigits, NoElement, NoOperand, NoStatement, NoAssignment, IsOperandStart}
-use Rattle.grammar_model.specs.Machine.{Part, Stack, TheExpression, TheArgument, TheKeywordArgument, BehindName, BehindFirstSuper, BehindSuper, BehindSuperOfKeyword, BehindSuperOfBinary, UnaryOfBinary, UnaryOfKeyword, BinaryOfKeyword, UnaryMessages, BinaryMessages, KeywordMessages, TheCascade, TheElements, TheBytes, TheItems, FurtherItem, TheBlock, TheSequence, TheStatements, BehindStatement, BehindReturn, PatternRest, Awaits, begin_operand, body_part, step, wish, may_start, At, run}
+use Rattle.grammar_model.specs.Ahead.{NoName, NoKeyword, NoBinary, NoBar, NoSemicolon, NoColon, NoPeriod, NoDigits, NoElement, NoOperand, NoStatement, NoAssignment, IsOperandStart, NoUnary, NoKey}
+use Rattle.grammar_model.specs.Machine.{Part, Stack, TheExpression, TheArgument, TheKeywordArgument, BehindName, BehindFirstSuper, BehindSuper, BehindSuperOfKeyword, BehindSuperOfBinary, UnaryOfBinary, UnaryOfKeyword, BinaryOfKeyword, UnaryMessages, BinaryMessages, KeywordMessages, TheCascade, TheElements, TheBytes, TheItems, FurtherItem, TheBlock, TheSequence, TheStatements, BehindStatement, BehindReturn, PatternRest, Awaits, begin_operand, body_part, step, wish, may_start, At, run, AnyArgument, BehindAnyMessage}
 
 -- any token but the end of a text
 abbrev pub IsReal : Terminal → Type 0
@@ -118,6 +118,18 @@ step-unary InBinary (Waiting a b m) c n ss f e s xs = refl
 step-unary InBinary (Alone t) c n ss f e s xs = refl
 step-unary InBinary (Told a b r m ys) c n ss f e s xs = refl
 
+-- any unary message is read
+pub step-any_unary : (p : Position) (r : Chain) (n : Text) (ss : Stack) (f e : ℕ) (s : Text) (xs : SpannedTrees) → step (unary_part p r ∷ ss) (OperandMeta AnyName n) ≡ Some (unary_part p (sent f e r s xs) ∷ ss)
+step-any_unary InExpression (Waiting a b m) n ss f e s xs = refl
+step-any_unary InExpression (Alone t) n ss f e s xs = refl
+step-any_unary InExpression (Told a b r m ys) n ss f e s xs = refl
+step-any_unary InKeyword (Waiting a b m) n ss f e s xs = refl
+step-any_unary InKeyword (Alone t) n ss f e s xs = refl
+step-any_unary InKeyword (Told a b r m ys) n ss f e s xs = refl
+step-any_unary InBinary (Waiting a b m) n ss f e s xs = refl
+step-any_unary InBinary (Alone t) n ss f e s xs = refl
+step-any_unary InBinary (Told a b r m ys) n ss f e s xs = refl
+
 -- a binary message of a keyword's argument
 pub step-argument : (r : Chain) (c : BinaryKind) (n : Text) (ss : Stack) (f e : ℕ) (s : Text) (xs : SpannedTrees) → step (argument_part r ∷ ss) (Binary c n) ≡ Some (TheArgument ∷ argument_part (sent f e r s xs) ∷ ss)
 step-argument (Waiting a b m) c n ss f e s xs = refl
@@ -136,6 +148,12 @@ step-keyword (Waiting a b m) c n ss = refl
 step-keyword (Alone t) c n ss = refl
 step-keyword (Told a b r m ys) c n ss = refl
 
+-- any message
+pub step-any_message : (r : Chain) (n : Text) (ss : Stack) → step (binary_part r ∷ ss) (MessageMeta n) ≡ Some (AnyArgument ∷ BehindAnyMessage (is_told r) ∷ ss)
+step-any_message (Waiting a b m) n ss = refl
+step-any_message (Alone t) n ss = refl
+step-any_message (Told a b r m ys) n ss = refl
+
 -- what reads a cascade behind one more message
 pub cascade_part-sent : (f e : ℕ) (r : Chain) (s : Text) (xs : SpannedTrees) → cascade_part (sent f e r s xs) ≡ KeywordMessages (is_told r)
 cascade_part-sent f e (Waiting a b m) s xs = refl
@@ -143,33 +161,39 @@ cascade_part-sent f e (Alone t) s xs = refl
 cascade_part-sent f e (Told a b r m ys) s xs = refl
 
 -- behind unary messages
-pub unary_end-argument : (ts : List Lexeme) (u : Chain) (ss : Stack) → NoName (first_kind ts) → run (unary_part InKeyword u ∷ ss) ts ≡ run (argument_part u ∷ ss) ts
+pub unary_end-argument : (ts : List Lexeme) (u : Chain) (ss : Stack) → NoUnary (first_kind ts) → run (unary_part InKeyword u ∷ ss) ts ≡ run (argument_part u ∷ ss) ts
 unary_end-argument ts (Waiting f e n) ss h = refl
 unary_end-argument [] (Alone t) ss h = refl
 unary_end-argument (lex c f e (Name k n) ∷ ts) (Alone t) ss h = absurd h
+unary_end-argument (lex c f e (OperandMeta AnyName n) ∷ ts) (Alone t) ss h = absurd h
 unary_end-argument (lex c f e k ∷ ts) (Alone t) ss h = refl
 unary_end-argument [] (Told a b r s xs) ss h = refl
 unary_end-argument (lex c f e (Name k n) ∷ ts) (Told a b r s xs) ss h = absurd h
+unary_end-argument (lex c f e (OperandMeta AnyName n) ∷ ts) (Told a b r s xs) ss h = absurd h
 unary_end-argument (lex c f e k ∷ ts) (Told a b r s xs) ss h = refl
 
 -- the same in an expression
-pub unary_end-expression : (ts : List Lexeme) (u : Chain) (ss : Stack) → NoName (first_kind ts) → run (unary_part InExpression u ∷ ss) ts ≡ run (binary_part u ∷ ss) ts
+pub unary_end-expression : (ts : List Lexeme) (u : Chain) (ss : Stack) → NoUnary (first_kind ts) → run (unary_part InExpression u ∷ ss) ts ≡ run (binary_part u ∷ ss) ts
 unary_end-expression ts (Waiting f e n) ss h = refl
 unary_end-expression [] (Alone t) ss h = refl
 unary_end-expression (lex c f e (Name k n) ∷ ts) (Alone t) ss h = absurd h
+unary_end-expression (lex c f e (OperandMeta AnyName n) ∷ ts) (Alone t) ss h = absurd h
 unary_end-expression (lex c f e k ∷ ts) (Alone t) ss h = refl
 unary_end-expression [] (Told a b r s xs) ss h = refl
 unary_end-expression (lex c f e (Name k n) ∷ ts) (Told a b r s xs) ss h = absurd h
+unary_end-expression (lex c f e (OperandMeta AnyName n) ∷ ts) (Told a b r s xs) ss h = absurd h
 unary_end-expression (lex c f e k ∷ ts) (Told a b r s xs) ss h = refl
 
 -- the same in a binary message's argument
-pub unary_end-binary : (ts : List Lexeme) (u : Chain) (ss : Stack) → IsWhole u → NoName (first_kind ts) → run (unary_part InBinary u ∷ ss) ts ≡ run ss ts
+pub unary_end-binary : (ts : List Lexeme) (u : Chain) (ss : Stack) → IsWhole u → NoUnary (first_kind ts) → run (unary_part InBinary u ∷ ss) ts ≡ run ss ts
 unary_end-binary ts (Waiting f e n) ss w h = absurd w
 unary_end-binary [] (Alone t) ss w h = refl
 unary_end-binary (lex c f e (Name k n) ∷ ts) (Alone t) ss w h = absurd h
+unary_end-binary (lex c f e (OperandMeta AnyName n) ∷ ts) (Alone t) ss w h = absurd h
 unary_end-binary (lex c f e k ∷ ts) (Alone t) ss w h = refl
 unary_end-binary [] (Told a b r s xs) ss w h = refl
 unary_end-binary (lex c f e (Name k n) ∷ ts) (Told a b r s xs) ss w h = absurd h
+unary_end-binary (lex c f e (OperandMeta AnyName n) ∷ ts) (Told a b r s xs) ss w h = absurd h
 unary_end-binary (lex c f e k ∷ ts) (Told a b r s xs) ss w h = refl
 
 -- behind the binary messages of a keyword's argument
@@ -183,34 +207,46 @@ argument_end (lex c f e (Binary k n) ∷ ts) (Told a b r s xs) ss w h = absurd h
 argument_end (lex c f e k ∷ ts) (Told a b r s xs) ss w h = refl
 
 -- behind the binary messages of an expression where no keyword stands
-pub binary_end : (ts : List Lexeme) (u : Chain) (ss : Stack) → NoBinary (first_kind ts) → NoKeyword (first_kind ts) → run (binary_part u ∷ ss) ts ≡ run (cascade_part u ∷ ss) ts
+pub binary_end : (ts : List Lexeme) (u : Chain) (ss : Stack) → NoBinary (first_kind ts) → NoKey (first_kind ts) → run (binary_part u ∷ ss) ts ≡ run (cascade_part u ∷ ss) ts
 binary_end ts (Waiting f e n) ss b h = refl
 binary_end [] (Alone t) ss b h = refl
 binary_end (lex c f e (Binary k n) ∷ ts) (Alone t) ss b h = absurd b
 binary_end (lex c f e (Keyword k n) ∷ ts) (Alone t) ss b h = absurd h
+binary_end (lex c f e (MessageMeta n) ∷ ts) (Alone t) ss b h = absurd h
 binary_end (lex c f e k ∷ ts) (Alone t) ss b h = refl
 binary_end [] (Told a d r s xs) ss b h = refl
 binary_end (lex c f e (Binary k n) ∷ ts) (Told a d r s xs) ss b h = absurd b
 binary_end (lex c f e (Keyword k n) ∷ ts) (Told a d r s xs) ss b h = absurd h
+binary_end (lex c f e (MessageMeta n) ∷ ts) (Told a d r s xs) ss b h = absurd h
 binary_end (lex c f e k ∷ ts) (Told a d r s xs) ss b h = refl
 
 -- where no keyword and no cascade follows
-pub cascade_end : (ts : List Lexeme) (u : Chain) (ss : Stack) → IsWhole u → NoKeyword (first_kind ts) → NoSemicolon (first_kind ts) → run (cascade_part u ∷ ss) ts ≡ run ss ts
+pub cascade_end : (ts : List Lexeme) (u : Chain) (ss : Stack) → IsWhole u → NoKey (first_kind ts) → NoSemicolon (first_kind ts) → run (cascade_part u ∷ ss) ts ≡ run ss ts
 cascade_end ts (Waiting f e n) ss w k h = absurd w
 cascade_end [] (Alone t) ss w k h = refl
 cascade_end (lex c f e (Keyword m n) ∷ ts) (Alone t) ss w k h = absurd k
+cascade_end (lex c f e (MessageMeta n) ∷ ts) (Alone t) ss w k h = absurd k
 cascade_end (lex c f e Semicolon ∷ ts) (Alone t) ss w k h = absurd h
 cascade_end (lex c f e m ∷ ts) (Alone t) ss w k h = refl
 cascade_end [] (Told a b r s xs) ss w k h = refl
 cascade_end (lex c f e (Keyword m n) ∷ ts) (Told a b r s xs) ss w k h = absurd k
+cascade_end (lex c f e (MessageMeta n) ∷ ts) (Told a b r s xs) ss w k h = absurd k
 cascade_end (lex c f e Semicolon ∷ ts) (Told a b r s xs) ss w k h = absurd h
 cascade_end (lex c f e m ∷ ts) (Told a b r s xs) ss w k h = refl
 
 -- behind keywords from whose receiver a cascade can go on
-pub keywords_end : (ts : List Lexeme) (ss : Stack) → NoKeyword (first_kind ts) → run (KeywordMessages true ∷ ss) ts ≡ run (TheCascade ∷ ss) ts
+pub keywords_end : (ts : List Lexeme) (ss : Stack) → NoKey (first_kind ts) → run (KeywordMessages true ∷ ss) ts ≡ run (TheCascade ∷ ss) ts
 keywords_end [] ss h = refl
 keywords_end (lex c f e (Keyword m n) ∷ ts) ss h = absurd h
+keywords_end (lex c f e (MessageMeta n) ∷ ts) ss h = absurd h
 keywords_end (lex c f e k ∷ ts) ss h = refl
+
+-- behind any message as behind keywords
+pub any_end : (ts : List Lexeme) (told : Bool) (ss : Stack) → NoKey (first_kind ts) → run (BehindAnyMessage told ∷ ss) ts ≡ run (KeywordMessages told ∷ ss) ts
+any_end [] told ss h = refl
+any_end (lex c f e (Keyword m n) ∷ ts) told ss h = absurd h
+any_end (lex c f e (MessageMeta n) ∷ ts) told ss h = absurd h
+any_end (lex c f e k ∷ ts) told ss h = refl
 
 -- behind the messages of a cascade
 pub messages_end : (ts : List Lexeme) (ss : Stack) → NoSemicolon (first_kind ts) → run (TheCascade ∷ ss) ts ≡ run ss ts
@@ -240,6 +276,7 @@ item_end (lex c f e k ∷ ts) ss h = refl
 pub elements_end : (ts : List Lexeme) (ss : Stack) → NoElement (first_kind ts) → Takes ss (first_kind ts) → run (TheElements ∷ ss) ts ≡ run ss ts
 elements_end [] ss h t = refl
 elements_end (lex c f e (Name k n) ∷ ts) ss h t = absurd h
+elements_end (lex c f e (Keyword AnyKey n) ∷ ts) ss h t = either_way _ _ _ _ _ t.steps
 elements_end (lex c f e (Keyword k n) ∷ ts) ss h t = absurd h
 elements_end (lex c f e (Binary k n) ∷ ts) ss h t = absurd h
 elements_end (lex c f e (Numeral k n) ∷ ts) ss h t = absurd h
@@ -263,6 +300,7 @@ items_end (lex c f e (Binary Sign n) ∷ ts) ss h t = absurd h
 items_end (lex c f e (Numeral k n) ∷ ts) ss h t = absurd h
 items_end (lex c f e (Constant l) ∷ ts) ss h t = absurd h
 items_end (lex c f e (Opens o) ∷ ts) ss h t = absurd h
+items_end (lex c f e (OperandMeta m n) ∷ ts) ss h t = absurd h
 items_end (lex c f e k ∷ ts) ss h t = either_way _ _ _ _ _ t.steps
 
 -- behind statements
@@ -273,7 +311,9 @@ statements_end (lex c f e (Binary Sign n) ∷ ts) ss h t = absurd h
 statements_end (lex c f e (Numeral k n) ∷ ts) ss h t = absurd h
 statements_end (lex c f e (Constant l) ∷ ts) ss h t = absurd h
 statements_end (lex c f e (Opens o) ∷ ts) ss h t = absurd h
+statements_end (lex c f e (OperandMeta m n) ∷ ts) ss h t = absurd h
 statements_end (lex c f e Caret ∷ ts) ss h t = absurd h
+statements_end (lex c f e (StatementMeta n) ∷ ts) ss h t = absurd h
 statements_end (lex c f e Period ∷ ts) ss h t = absurd h
 statements_end (lex c f e k ∷ ts) ss h t = either_way _ _ _ _ _ t.steps
 
@@ -319,6 +359,7 @@ as_statement (lex c f e (Opens BlockStart) ∷ ts) ss h = refl
 as_statement (lex c f e (Opens BraceStart) ∷ ts) ss h = refl
 as_statement (lex c f e (Opens ArrayStart) ∷ ts) ss h = refl
 as_statement (lex c f e (Opens BytesStart) ∷ ts) ss h = refl
+as_statement (lex c f e (OperandMeta m n) ∷ ts) ss h = refl
 as_statement (lex c f e k ∷ ts) ss h = absurd h
 
 -- an item of a brace array stands there too
@@ -334,6 +375,7 @@ as_item (lex c f e (Opens BlockStart) ∷ ts) ss h = refl
 as_item (lex c f e (Opens BraceStart) ∷ ts) ss h = refl
 as_item (lex c f e (Opens ArrayStart) ∷ ts) ss h = refl
 as_item (lex c f e (Opens BytesStart) ∷ ts) ss h = refl
+as_item (lex c f e (OperandMeta m n) ∷ ts) ss h = refl
 as_item (lex c f e k ∷ ts) ss h = absurd h
 
 -- a block without parameters is a sequence

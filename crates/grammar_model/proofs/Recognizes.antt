@@ -1,16 +1,16 @@
 -- What the grammar spells, the machine reads.
 use Rattle.std.proofs.Common.{◌≡◌, ℕ, Bool, true, List, ◌∷◌, Some, None, refl, ap, sym, ◌∙◌}
 use Rattle.tree_model.specs.Tree.{Notes, LiteralOf, LiteralsOf}
-use Rattle.grammar_model.specs.Terminal.{Text, NameKind, Ordinary, Super, KeywordKind, BinaryKind, Sign, Bar, SmallDigits, LargeDigits, OtherNumeral, Group, BlockStart, BraceStart, ArrayStart, BytesStart, GroupEnd, BlockEnd, BraceEnd, Terminal, Name, Keyword, Binary, Numeral, Constant, Opens, Closes, Assignment, Colon, Semicolon, Period, Caret}
+use Rattle.grammar_model.specs.Terminal.{Text, NameKind, Ordinary, Super, KeywordKind, BinaryKind, Sign, Bar, SmallDigits, LargeDigits, OtherNumeral, Group, BlockStart, BraceStart, ArrayStart, BytesStart, GroupEnd, BlockEnd, BraceEnd, Terminal, Name, Keyword, Binary, Numeral, Constant, Opens, Closes, Assignment, Colon, Semicolon, Period, Caret, OperandMeta, AnyName, StatementMeta, AnyKey, AnyExpression, MessageMeta}
 use Rattle.grammar_model.specs.Input.{Lexeme, Input, first_kind, others, kind_of, next}
 use Rattle.grammar_model.specs.Spanned.{Declared, SpannedTree, SpannedTrees, SpannedMessages, SpannedStatements, one_tree, NoTrees}
 use Rattle.grammar_model.specs.Chain.{Chain, Alone}
-use Rattle.grammar_model.specs.Ahead.{Longest, NoName, NoKeyword, NoBinary, IsDigits}
-use Rattle.grammar_model.specs.Literals.{NoSign, KeywordRow, LastKeyword, JoinedKeyword, ByteElements, OneByte, NoBytes, LiteralAt, Unsigned, Negative, Fixed, Array, ByteArray, Element, LiteralElement, InnerArray, InnerBytes, NameElement, KeywordElement, BinaryElement, Elements, OneElement, NoElements}
-use Rattle.grammar_model.specs.Grammar.{Periods, OnePeriod, NoPeriods, Names, OneName, NoNames, Parameters, OneParameter, NoParameters, Temporaries, Declares, DeclaresNone, Expression, Assigned, Simple, Operand, Variable, SuperName, LiteralOperand, Grouped, BlockOperand, BraceOperand, Unaries, OneUnary, NoUnaries, Binaries, OneBinary, NoBinaries, Keywords, OneKeywords, NoKeywords, Parts, LastPart, FurtherPart, Argument, BinaryArgument, KeywordArgument, ArgumentOfKeyword, Cascaded, NoCascade, OneCascade, Messages, OneMessage, LastMessage, Message, UnaryMessage, BinaryMessage, KeywordMessage, Items, NoItems, OneItem, FurtherItems, NextItem, LastItem, BlockBody, WithoutParameters, ParametersAlone, WithParameters, Sequence, Sequenced, Statements, BlankPeriod, NoMore, Returned, OneStatement, After, Ended, Unended, Finish, EndedReturn, UnendedReturn}
-use Rattle.grammar_model.specs.Machine.{Stack, TheExpression, TheArgument, TheKeywordArgument, BehindName, BehindFirstSuper, KeywordMessages, TheMessage, TheCascade, TheNumeral, TheElements, TheBytes, TheItems, FurtherItem, TheBlock, TheParameter, TheParameters, TheSequence, TheNames, TheStatements, BehindStatement, BehindReturn, Awaits, begin_operand, step, run}
+use Rattle.grammar_model.specs.Ahead.{Longest, NoBinary, IsDigits, NoUnary, NoKey}
+use Rattle.grammar_model.specs.Literals.{NoSign, KeywordRow, LastKeyword, JoinedKeyword, ByteElements, OneByte, NoBytes, LiteralAt, Unsigned, Negative, Fixed, Array, ByteArray, Element, LiteralElement, InnerArray, InnerBytes, NameElement, KeywordElement, BinaryElement, Elements, OneElement, NoElements, NoAnyKey}
+use Rattle.grammar_model.specs.Grammar.{Periods, OnePeriod, NoPeriods, Names, OneName, NoNames, Parameters, OneParameter, NoParameters, Temporaries, Declares, DeclaresNone, Expression, Assigned, Simple, Operand, Variable, SuperName, LiteralOperand, Grouped, BlockOperand, BraceOperand, Unaries, OneUnary, NoUnaries, Binaries, OneBinary, NoBinaries, Keywords, OneKeywords, NoKeywords, Parts, LastPart, FurtherPart, Argument, BinaryArgument, KeywordArgument, ArgumentOfKeyword, Cascaded, NoCascade, OneCascade, Messages, OneMessage, LastMessage, Message, UnaryMessage, BinaryMessage, KeywordMessage, Items, NoItems, OneItem, FurtherItems, NextItem, LastItem, BlockBody, WithoutParameters, ParametersAlone, WithParameters, Sequence, Sequenced, Statements, BlankPeriod, NoMore, Returned, OneStatement, After, Ended, Unended, Finish, EndedReturn, UnendedReturn, MetaOperand, AnyUnary, AnyUnaryMessage, AnyStatement, AnyMessage, WholeMessage, AnyKeywords, AnyKeywordMessage}
+use Rattle.grammar_model.specs.Machine.{Stack, TheExpression, TheArgument, TheKeywordArgument, BehindName, BehindFirstSuper, KeywordMessages, TheMessage, TheCascade, TheNumeral, TheElements, TheBytes, TheItems, FurtherItem, TheBlock, TheParameter, TheParameters, TheSequence, TheNames, TheStatements, BehindStatement, BehindReturn, Awaits, begin_operand, step, run, AnyArgument, BehindAnyMessage}
 use Rattle.grammar_model.proofs.OneTree.{starts_Expression}
-use Rattle.grammar_model.proofs.Reading.{reads, reads_alike, Takes, takes_closing, Position, InExpression, InKeyword, InBinary, operand_part, unary_part, argument_part, binary_part, cascade_part, is_told, IsLiteralStart, step-operand, step-unary, step-argument, step-binary, step-keyword, cascade_part-sent, unary_end-argument, unary_end-expression, unary_end-binary, argument_end, binary_end, cascade_end, keywords_end, messages_end, statement_end, return_end, item_end, elements_end, bytes_end, items_end, statements_end, MayBeOperand, reads_name, reads_super, as_statement, as_item, as_sequence, as_statements}
+use Rattle.grammar_model.proofs.Reading.{reads, reads_alike, Takes, takes_closing, Position, InExpression, InKeyword, InBinary, operand_part, unary_part, argument_part, binary_part, cascade_part, is_told, IsLiteralStart, step-operand, step-unary, step-any_unary, step-argument, step-binary, step-keyword, cascade_part-sent, unary_end-argument, unary_end-expression, unary_end-binary, argument_end, binary_end, cascade_end, keywords_end, messages_end, statement_end, return_end, item_end, elements_end, bytes_end, items_end, statements_end, MayBeOperand, reads_name, reads_super, as_statement, as_item, as_sequence, as_statements, step-any_message, any_end}
 
 -- what a closing mark ends
 closes : (ss : Stack) (ts : List Lexeme) → first_kind ts ≡ Closes GroupEnd → run (Awaits GroupEnd ∷ ss) ts ≡ run ss (others ts)
@@ -37,10 +37,15 @@ reads_ByteElements {i} (OneByte {c} {t} e h d) ss k =
     reads (TheBytes ∷ ss) (TheBytes ∷ ss) i.rest (Numeral c t) e tt (ap (step (TheBytes ∷ ss)) (sym e) ∙ step-digits (kind_of i) ss h) ∙ reads_ByteElements d ss k
 reads_ByteElements {i} (NoBytes n) ss k = bytes_end i.rest ss n k
 
+-- a keyword among elements
+step-key : (c : KeywordKind) (k : Text) (ss : Stack) → NoAnyKey c → step (TheElements ∷ ss) (Keyword c k) ≡ Some (TheElements ∷ ss)
+step-key AnyKey k ss p = absurd p
+step-key c k ss p = refl
+
 -- a row of keywords among elements
 pub reads_KeywordRow : {i j : Input} {k : Text} → KeywordRow i k j → (ss : Stack) → run (TheElements ∷ ss) i.rest ≡ run (TheElements ∷ ss) j.rest
-reads_KeywordRow {i} (LastKeyword {c} {k} e n) ss = reads _ _ i.rest (Keyword c k) e tt refl
-reads_KeywordRow {i} (JoinedKeyword {c} {k} e g d) ss = reads _ _ i.rest (Keyword c k) e tt refl ∙ reads_KeywordRow d ss
+reads_KeywordRow {i} (LastKeyword {c} {k} e q n) ss = reads _ _ i.rest (Keyword c k) e tt (step-key c k ss q)
+reads_KeywordRow {i} (JoinedKeyword {c} {k} e q g d) ss = reads _ _ i.rest (Keyword c k) e tt (step-key c k ss q) ∙ reads_KeywordRow d ss
 
 -- a binary selector among elements
 step-element : (c : BinaryKind) (s : Text) (ss : Stack) → NoSign c → step (TheElements ∷ ss) (Binary c s) ≡ Some (TheElements ∷ ss)
@@ -112,8 +117,9 @@ reads_Temporaries {i} (Declares {j} {s} {t} e d f) ss = reads _ _ i.rest (Binary
 reads_Temporaries {i} (DeclaresNone h) ss = as_statements i.rest ss h
 
 -- rows end where their tokens end
-pub ends_Unaries : {f : ℕ} {i j : Input} {r u : Chain} → Unaries Longest f r i u j → NoName (kind_of j)
+pub ends_Unaries : {f : ℕ} {i j : Input} {r u : Chain} → Unaries Longest f r i u j → NoUnary (kind_of j)
 ends_Unaries (OneUnary e u) = ends_Unaries u
+ends_Unaries (AnyUnary e u) = ends_Unaries u
 ends_Unaries (NoUnaries h) = h
 
 -- binary messages end before other tokens
@@ -122,13 +128,18 @@ ends_Binaries (OneBinary e x u) = ends_Binaries u
 ends_Binaries (NoBinaries h) = h
 
 -- keywords end before other tokens
-pub ends_Parts : {i j : Input} {k : Text} {xs : SpannedTrees} → Parts Longest i k xs j → NoKeyword (kind_of j)
+pub ends_Parts : {i j : Input} {k : Text} {xs : SpannedTrees} → Parts Longest i k xs j → NoKey (kind_of j)
 ends_Parts (LastPart e x h) = h
 ends_Parts (FurtherPart e x d) = ends_Parts d
 
+-- any message ends before other tokens
+pub ends_AnyMessage : {i j : Input} {k : Text} {xs : SpannedTrees} → AnyMessage Longest i k xs j → NoKey (kind_of j)
+ends_AnyMessage (WholeMessage e f h) = h
+
 -- a keyword message ends before other tokens
-pub ends_Keywords : {f : ℕ} {i j : Input} {r u : Chain} → Keywords Longest f r i u j → NoKeyword (kind_of j)
+pub ends_Keywords : {f : ℕ} {i j : Input} {r u : Chain} → Keywords Longest f r i u j → NoKey (kind_of j)
 ends_Keywords (OneKeywords d) = ends_Parts d
+ends_Keywords (AnyKeywords d) = ends_AnyMessage d
 ends_Keywords (NoKeywords h) = h
 
 -- a keyword message and the messages of a cascade begin with these tokens
@@ -136,9 +147,15 @@ first_keyword : {i j : Input} {k : Text} {xs : SpannedTrees} → Parts Longest i
 first_keyword (LastPart {c} {k} e x h) = (c, k, e)
 first_keyword (FurtherPart {c} {k} e x d) = (c, k, e)
 
+-- any message, read by the machine
+reads_AnyMessage : {i j : Input} {k : Text} {xs : SpannedTrees} → AnyMessage Longest i k xs j → (top : Stack) (told : Bool) (ss : Stack) → ((n : Text) → step top (MessageMeta n) ≡ Some (AnyArgument ∷ BehindAnyMessage told ∷ ss)) → run top i.rest ≡ run (KeywordMessages told ∷ ss) j.rest
+reads_AnyMessage {i} (WholeMessage {k} {n} e f h) top told ss b =
+    reads top _ i.rest (MessageMeta k) e tt (b k) ∙ reads (AnyArgument ∷ BehindAnyMessage told ∷ ss) _ (next i).rest (OperandMeta AnyExpression n) f tt refl ∙ any_end (next (next i)).rest told ss h
+
 -- unary messages, read by the machine
 pub reads_Unaries : {f : ℕ} {i j : Input} {r u : Chain} → Unaries Longest f r i u j → (p : Position) (ss : Stack) → run (unary_part p r ∷ ss) i.rest ≡ run (unary_part p u ∷ ss) j.rest
 reads_Unaries {f} {i} {r} (OneUnary {c} {n} e u) p ss = reads _ _ i.rest (Name c n) e tt (step-unary p r c n ss f (next i).last n NoTrees) ∙ reads_Unaries u p ss
+reads_Unaries {f} {i} {r} (AnyUnary {n} e u) p ss = reads _ _ i.rest (OperandMeta AnyName n) e tt (step-any_unary p r n ss f (next i).last n NoTrees) ∙ reads_Unaries u p ss
 reads_Unaries (NoUnaries h) p ss = refl
 
 -- literals begin where an operand may
@@ -167,6 +184,7 @@ mutual
   pub reads_Operand : {i j : Input} {r : Chain} → Operand Longest i r j → (p : Position) (ss : Stack) → MayBeOperand p i.rest → run (operand_part p ∷ ss) i.rest ≡ run (unary_part p r ∷ ss) j.rest
   reads_Operand {i} (Variable {n} e) p ss h = reads_name p i.rest n _ ss h e
   reads_Operand {i} (SuperName {n} e) p ss h = reads_super p i.rest _ _ n ss h e
+  reads_Operand {i} (MetaOperand {m} {n} e) p ss h = reads _ _ i.rest (OperandMeta m n) e tt (step-operand p (OperandMeta m n) ss _ tt)
   reads_Operand (LiteralOperand d) p ss h = reads_LiteralAt d _ _ (position_begins p _ ss)
   reads_Operand {i} (Grouped {m} e d c) p ss h =
       reads _ _ i.rest (Opens Group) e tt (step-operand p (Opens Group) ss _ tt) ∙ reads_Expression d _ ∙ closes _ m.rest c
@@ -193,6 +211,8 @@ mutual
       let k = first_keyword d in
       reads_alike (binary_part r ∷ ss) (KeywordMessages (is_told r) ∷ ss) _ i.rest (Keyword k.0 k.1) k.2 tt (step-keyword r k.0 k.1 ss) refl ∙ reads_Parts d (is_told r) ss ∙
       ap (λ p. run (p ∷ ss) j.rest) (sym (cascade_part-sent f j.last r s xs))
+  reads_Keywords {f} {j} {r} (AnyKeywords {s} {xs} d) ss h =
+      reads_AnyMessage d (binary_part r ∷ ss) (is_told r) ss (λ n. step-any_message r n ss) ∙ ap (λ p. run (p ∷ ss) j.rest) (sym (cascade_part-sent f j.last r s xs))
   reads_Keywords {i} {r} (NoKeywords n) ss h = binary_end i.rest r ss h n
 
   -- keywords with their arguments, read by the machine
@@ -210,7 +230,7 @@ mutual
       reads_Operand o InKeyword ss tt ∙ reads_Unaries us InKeyword ss ∙ unary_end-argument n.rest u ss (ends_Unaries us) ∙ reads_ArgumentBinaries bs ss ∙ argument_end j.rest b ss w (ends_Binaries bs)
 
   -- a cascade or none, read by the machine
-  pub reads_Cascaded : {r : Chain} {i j : Input} {t : SpannedTree} → Cascaded Longest r i t j → (ss : Stack) → NoKeyword (kind_of i) → run (cascade_part r ∷ ss) i.rest ≡ run ss j.rest
+  pub reads_Cascaded : {r : Chain} {i j : Input} {t : SpannedTree} → Cascaded Longest r i t j → (ss : Stack) → NoKey (kind_of i) → run (cascade_part r ∷ ss) i.rest ≡ run ss j.rest
   reads_Cascaded {r} {i} (NoCascade w h) ss k = cascade_end i.rest r ss w k h
   reads_Cascaded {i} (OneCascade e d) ss k = reads_alike _ (TheCascade ∷ ss) _ i.rest Semicolon e tt refl refl ∙ reads_Messages d ss
 
@@ -222,10 +242,12 @@ mutual
   -- one message of a cascade, read by the machine
   pub reads_Message : {i j : Input} {k : Text} {xs : SpannedTrees} → Message Longest i k xs j → (ss : Stack) → run (TheMessage ∷ ss) i.rest ≡ run (TheCascade ∷ ss) j.rest
   reads_Message {i} (UnaryMessage {c} {n} e) ss = reads _ _ i.rest (Name c n) e tt refl
+  reads_Message {i} (AnyUnaryMessage {n} e) ss = reads _ _ i.rest (OperandMeta AnyName n) e tt refl
   reads_Message {i} (BinaryMessage {c} {s} e a) ss = reads _ _ i.rest (Binary c s) e tt refl ∙ reads_Argument a _
   reads_Message {i} {j} (KeywordMessage d) ss =
       let k = first_keyword d in
       reads_alike _ (KeywordMessages true ∷ ss) _ i.rest (Keyword k.0 k.1) k.2 tt refl refl ∙ reads_Parts d true ss ∙ keywords_end j.rest ss (ends_Parts d)
+  reads_Message {j} (AnyKeywordMessage d) ss = reads_AnyMessage d (TheMessage ∷ ss) true ss (λ n. refl) ∙ keywords_end j.rest ss (ends_AnyMessage d)
 
   -- the items of a brace array, read by the machine
   pub reads_Items : {i j : Input} {ts : SpannedTrees} → Items Longest i ts j → (ss : Stack) → Takes ss (kind_of j) → run (TheItems ∷ ss) i.rest ≡ run ss j.rest
@@ -252,6 +274,7 @@ mutual
   reads_Statements {i} (BlankPeriod e b) ss k = reads _ _ i.rest Period e tt refl ∙ reads_Statements b ss k
   reads_Statements {i} (NoMore h) ss k = statements_end i.rest ss h k
   reads_Statements {i} (Returned e d f) ss k = reads _ _ i.rest Caret e tt refl ∙ reads_Expression d (BehindReturn ∷ ss) ∙ reads_Finish f ss
+  reads_Statements {i} (AnyStatement {n} e a) ss k = reads _ _ i.rest (StatementMeta n) e tt refl ∙ reads_After a ss k
   reads_Statements {i} (OneStatement d a) ss k = as_statement i.rest ss (starts_Expression d) ∙ reads_Expression d (BehindStatement ∷ ss) ∙ reads_After a ss k
 
   -- what stands behind a statement, read by the machine

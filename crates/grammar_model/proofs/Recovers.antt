@@ -3,15 +3,15 @@ use Rattle.std.proofs.Common.{◌≡◌, ℕ, zero, suc, ◌+◌, ◌*◌, ◌�
 use Rattle.std.specs.Prelude.{Option}
 use Rattle.std.specs.Option.{option_map_or}
 use Rattle.tree_model.specs.Tree.{Notes}
-use Rattle.grammar_model.specs.Terminal.{Text, Ordinary, Super, KeywordKind, BinaryKind, Sign, Bar, Group, BlockStart, BraceStart, ArrayStart, BytesStart, GroupEnd, BlockEnd, BraceEnd, Terminal, Name, Keyword, Binary, Numeral, Constant, Opens, Closes, Assignment, Colon, Semicolon, Period, Caret}
+use Rattle.grammar_model.specs.Terminal.{Text, Ordinary, Super, KeywordKind, BinaryKind, Sign, Bar, Group, BlockStart, BraceStart, ArrayStart, BytesStart, GroupEnd, BlockEnd, BraceEnd, Terminal, Name, Keyword, Binary, Numeral, Constant, Opens, Closes, Assignment, Colon, Semicolon, Period, Caret, OperandMeta, AnyName, StatementMeta, AnyExpression, MessageMeta}
 use Rattle.grammar_model.specs.Input.{Lexeme, lex, Input, first_kind, others, kind_of, from_of, next, back}
 use Rattle.grammar_model.specs.Spanned.{Declared, SpannedTree, Var, Literal, Cascade, Assign, Block, Brace, Return, SpannedTrees, NoTrees, MoreTrees, one_tree, NoMessages, MoreMessages, SpannedStatements, NoStatements, MoreStatements}
 use Rattle.grammar_model.specs.Chain.{Chain, Waiting, Alone, Told, whole, sent, IsWhole}
-use Rattle.grammar_model.specs.Ahead.{Longest, NoName, NoKeyword, NoBinary, NoColon}
-use Rattle.grammar_model.specs.Grammar.{Periods, OnePeriod, NoPeriods, Names, OneName, NoNames, Parameters, OneParameter, NoParameters, Temporaries, Declares, DeclaresNone, Expression, Assigned, Simple, Operand, Variable, SuperName, LiteralOperand, Grouped, BlockOperand, BraceOperand, Unaries, OneUnary, NoUnaries, Binaries, OneBinary, NoBinaries, Keywords, OneKeywords, NoKeywords, Parts, LastPart, FurtherPart, Argument, BinaryArgument, KeywordArgument, ArgumentOfKeyword, Cascaded, NoCascade, OneCascade, Messages, OneMessage, LastMessage, Message, UnaryMessage, BinaryMessage, KeywordMessage, Items, NoItems, OneItem, FurtherItems, NextItem, LastItem, BlockBody, WithoutParameters, ParametersAlone, WithParameters, Sequence, Sequenced, Statements, BlankPeriod, NoMore, Returned, OneStatement, After, Ended, Unended, Finish, EndedReturn, UnendedReturn}
-use Rattle.grammar_model.specs.Machine.{Part, Stack, TheExpression, TheArgument, TheKeywordArgument, BehindSuper, BehindSuperOfKeyword, BehindSuperOfBinary, KeywordMessages, TheMessage, TheCascade, TheItems, FurtherItem, TheBlock, TheParameter, TheParameters, TheSequence, TheNames, TheStatements, BehindStatement, BehindReturn, Awaits, step, run, wish, may_start, At}
-use Rattle.grammar_model.proofs.Reading.{reads, Position, InExpression, InKeyword, InBinary, operand_part, unary_part, argument_part, binary_part, cascade_part, is_told, IsLiteralStart, step-operand, step-unary, step-argument, step-binary, step-keyword, cascade_part-sent, unary_end-argument, unary_end-expression, unary_end-binary, argument_end, binary_end, cascade_end, keywords_end, MayBeOperand, reads_name, reads_super, as_statement, as_item, as_sequence, as_statements}
-use Rattle.grammar_model.proofs.Recognizes.{position_begins, ends_Unaries, ends_Binaries, ends_Parts, ends_Keywords, reads_target}
+use Rattle.grammar_model.specs.Ahead.{Longest, NoBinary, NoColon, NoUnary, NoKey}
+use Rattle.grammar_model.specs.Grammar.{Periods, OnePeriod, NoPeriods, Names, OneName, NoNames, Parameters, OneParameter, NoParameters, Temporaries, Declares, DeclaresNone, Expression, Assigned, Simple, Operand, Variable, SuperName, LiteralOperand, Grouped, BlockOperand, BraceOperand, Unaries, OneUnary, NoUnaries, Binaries, OneBinary, NoBinaries, Keywords, OneKeywords, NoKeywords, Parts, LastPart, FurtherPart, Argument, BinaryArgument, KeywordArgument, ArgumentOfKeyword, Cascaded, NoCascade, OneCascade, Messages, OneMessage, LastMessage, Message, UnaryMessage, BinaryMessage, KeywordMessage, Items, NoItems, OneItem, FurtherItems, NextItem, LastItem, BlockBody, WithoutParameters, ParametersAlone, WithParameters, Sequence, Sequenced, Statements, BlankPeriod, NoMore, Returned, OneStatement, After, Ended, Unended, Finish, EndedReturn, UnendedReturn, MetaOperand, AnyUnary, AnyUnaryMessage, AnyStatement, AnyMessage, WholeMessage, AnyKeywords, AnyKeywordMessage}
+use Rattle.grammar_model.specs.Machine.{Part, Stack, TheExpression, TheArgument, TheKeywordArgument, BehindSuper, BehindSuperOfKeyword, BehindSuperOfBinary, KeywordMessages, TheMessage, TheCascade, TheItems, FurtherItem, TheBlock, TheParameter, TheParameters, TheSequence, TheNames, TheStatements, BehindStatement, BehindReturn, Awaits, step, run, wish, may_start, At, AnyArgument, BehindAnyMessage}
+use Rattle.grammar_model.proofs.Reading.{reads, Position, InExpression, InKeyword, InBinary, operand_part, unary_part, argument_part, binary_part, cascade_part, is_told, IsLiteralStart, step-operand, step-unary, step-any_unary, step-argument, step-binary, step-keyword, cascade_part-sent, unary_end-argument, unary_end-expression, unary_end-binary, argument_end, binary_end, cascade_end, keywords_end, MayBeOperand, reads_name, reads_super, as_statement, as_item, as_sequence, as_statements, step-any_message, any_end}
+use Rattle.grammar_model.proofs.Recognizes.{position_begins, ends_Unaries, ends_Binaries, ends_Parts, ends_Keywords, reads_target, ends_AnyMessage}
 use Rattle.grammar_model.proofs.RecoversLiterals.{Got, place, Shut, closed, block_closed, brace_closed, stuck, gets_LiteralAt}
 
 -- From some place on X spells a chain, and the rest is read by the part that belongs to it.
@@ -52,43 +52,48 @@ if_waiting-Binaries P (NoBinaries n) h = h
 -- the same for a keyword message
 if_waiting-Keywords : (P : Terminal → Type 0) {f : ℕ} {i j : Input} {r u : Chain} → Keywords Longest f r i u j → IfWaiting P r (kind_of i) → IfWaiting P u (kind_of j)
 if_waiting-Keywords P (OneKeywords d) h = if_waiting-sent P _ _ _ _ _ _
+if_waiting-Keywords P (AnyKeywords d) h = if_waiting-sent P _ _ _ _ _ _
 if_waiting-Keywords P (NoKeywords n) h = h
 
 -- super can not be left without a message
-super_stops : (ts : List Lexeme) (ss : Stack) → NoName (first_kind ts) → NoBinary (first_kind ts) → NoKeyword (first_kind ts) → run (BehindSuper ∷ ss) ts ≡ None → ⊥
+super_stops : (ts : List Lexeme) (ss : Stack) → NoUnary (first_kind ts) → NoBinary (first_kind ts) → NoKey (first_kind ts) → run (BehindSuper ∷ ss) ts ≡ None → ⊥
 super_stops [] ss a b c r = cc
 super_stops (lex c f e (Name k m) ∷ ts) ss x y z r = x
+super_stops (lex c f e (OperandMeta AnyName m) ∷ ts) ss x y z r = x
 super_stops (lex c f e (Binary k m) ∷ ts) ss x y z r = y
 super_stops (lex c f e (Keyword k m) ∷ ts) ss x y z r = z
+super_stops (lex c f e (MessageMeta m) ∷ ts) ss x y z r = z
 super_stops (lex c f e k ∷ ts) ss x y z r = cc
 
 -- super as a keyword's argument
-super_stops-keyword : (ts : List Lexeme) (ss : Stack) → NoName (first_kind ts) → NoBinary (first_kind ts) → run (BehindSuperOfKeyword ∷ ss) ts ≡ None → ⊥
+super_stops-keyword : (ts : List Lexeme) (ss : Stack) → NoUnary (first_kind ts) → NoBinary (first_kind ts) → run (BehindSuperOfKeyword ∷ ss) ts ≡ None → ⊥
 super_stops-keyword [] ss a b r = cc
 super_stops-keyword (lex c f e (Name k m) ∷ ts) ss x y r = x
+super_stops-keyword (lex c f e (OperandMeta AnyName m) ∷ ts) ss x y r = x
 super_stops-keyword (lex c f e (Binary k m) ∷ ts) ss x y r = y
 super_stops-keyword (lex c f e k ∷ ts) ss x y r = cc
 
 -- super as a binary message's argument
-super_stops-binary : (ts : List Lexeme) (ss : Stack) → NoName (first_kind ts) → run (BehindSuperOfBinary ∷ ss) ts ≡ None → ⊥
+super_stops-binary : (ts : List Lexeme) (ss : Stack) → NoUnary (first_kind ts) → run (BehindSuperOfBinary ∷ ss) ts ≡ None → ⊥
 super_stops-binary [] ss a r = cc
 super_stops-binary (lex c f e (Name k m) ∷ ts) ss x r = x
+super_stops-binary (lex c f e (OperandMeta AnyName m) ∷ ts) ss x r = x
 super_stops-binary (lex c f e k ∷ ts) ss x r = cc
 
 -- super has its message behind an expression
-whole_expression : (u : Chain) (ts : List Lexeme) (ss : Stack) → IfWaiting NoName u (first_kind ts) → IfWaiting NoBinary u (first_kind ts) → NoKeyword (first_kind ts) → run (cascade_part u ∷ ss) ts ≡ None → IsWhole u
+whole_expression : (u : Chain) (ts : List Lexeme) (ss : Stack) → IfWaiting NoUnary u (first_kind ts) → IfWaiting NoBinary u (first_kind ts) → NoKey (first_kind ts) → run (cascade_part u ∷ ss) ts ≡ None → IsWhole u
 whole_expression (Waiting f e n) ts ss a b c r = super_stops ts ss a b c r
 whole_expression (Alone t) ts ss a b c r = tt
 whole_expression (Told f e t s xs) ts ss a b c r = tt
 
 -- super has its message behind a keyword's argument
-whole_keyword : (u : Chain) (ts : List Lexeme) (ss : Stack) → IfWaiting NoName u (first_kind ts) → NoBinary (first_kind ts) → run (argument_part u ∷ ss) ts ≡ None → IsWhole u
+whole_keyword : (u : Chain) (ts : List Lexeme) (ss : Stack) → IfWaiting NoUnary u (first_kind ts) → NoBinary (first_kind ts) → run (argument_part u ∷ ss) ts ≡ None → IsWhole u
 whole_keyword (Waiting f e n) ts ss a b r = super_stops-keyword ts ss a b r
 whole_keyword (Alone t) ts ss a b r = tt
 whole_keyword (Told f e t s xs) ts ss a b r = tt
 
 -- super has its message behind a binary message's argument
-whole_binary : (u : Chain) (ts : List Lexeme) (ss : Stack) → NoName (first_kind ts) → run (unary_part InBinary u ∷ ss) ts ≡ None → IsWhole u
+whole_binary : (u : Chain) (ts : List Lexeme) (ss : Stack) → NoUnary (first_kind ts) → run (unary_part InBinary u ∷ ss) ts ≡ None → IsWhole u
 whole_binary (Waiting f e n) ts ss a r = super_stops-binary ts ss a r
 whole_binary (Alone t) ts ss a r = tt
 whole_binary (Told f e t s xs) ts ss a r = tt
@@ -193,7 +198,25 @@ gets_Unaries p f0 r h l [] ss q = record { what = r; stop = place h l []; spells
 gets_Unaries p f0 r h l (lex c f e (Name k m) ∷ ts) ss q =
     let g = gets_Unaries p f0 (sent f0 e r m NoTrees) (h ++ c) e ts ss (sym (reads (unary_part p r ∷ ss) _ (lex c f e (Name k m) ∷ ts) (Name k m) refl tt (step-unary p r k m ss f0 e m NoTrees)) ∙ q) in
     record { what = g.what; stop = g.stop; spells = OneUnary refl g.spells; shorter = omega (arith, g.shorter); goes_on = g.goes_on }
+gets_Unaries p f0 r h l (lex c f e (OperandMeta AnyName m) ∷ ts) ss q =
+    let g = gets_Unaries p f0 (sent f0 e r m NoTrees) (h ++ c) e ts ss (sym (reads (unary_part p r ∷ ss) _ (lex c f e (OperandMeta AnyName m) ∷ ts) (OperandMeta AnyName m) refl tt (step-any_unary p r m ss f0 e m NoTrees)) ∙ q) in
+    record { what = g.what; stop = g.stop; spells = AnyUnary refl g.spells; shorter = omega (arith, g.shorter); goes_on = g.goes_on }
 gets_Unaries p f0 r h l (lex c f e k ∷ ts) ss q = record { what = r; stop = place h l (lex c f e k ∷ ts); spells = NoUnaries tt; shorter = le_refl _; goes_on = q }
+
+-- no keyword follows any message
+any_stops : (ts : List Lexeme) (told : Bool) (ss : Stack) → run (BehindAnyMessage told ∷ ss) ts ≡ None → NoKey (first_kind ts)
+any_stops [] told ss r = tt
+any_stops (lex c f e (Keyword k m) ∷ ts) told ss r = cc
+any_stops (lex c f e (MessageMeta m) ∷ ts) told ss r = cc
+any_stops (lex c f e k ∷ ts) told ss r = tt
+
+-- any message, the first token of which was read
+gets_AnyMessage : (told : Bool) (h : Notes) (l : ℕ) (c : Notes) (f e : ℕ) (m : Text) (ts : List Lexeme) (ss : Stack) → run (AnyArgument ∷ BehindAnyMessage told ∷ ss) ts ≡ None →
+    Got {A = Text × SpannedTrees} (λ v j. AnyMessage Longest (place h l (lex c f e (MessageMeta m) ∷ ts)) v.0 v.1 j) ts (KeywordMessages told ∷ ss)
+gets_AnyMessage told h l c f e m [] ss r = cc
+gets_AnyMessage told h l c f e m (lex c' f' e' (OperandMeta AnyExpression n) ∷ ts) ss r =
+    record { what = (m, one_tree (Var f' e' n)); stop = place ((h ++ c) ++ c') e' ts; spells = WholeMessage refl refl (any_stops ts told ss r); shorter = omega arith; goes_on = sym (any_end ts told ss (any_stops ts told ss r)) ∙ r }
+gets_AnyMessage told h l c f e m (lex c' f' e' k ∷ ts) ss r = cc
 
 -- some tree
 abbrev nowhere : SpannedTree
@@ -233,13 +256,13 @@ simple : {i k j : Input} {r : Chain} {t : SpannedTree} → MayBeOperand InExpres
 simple plain o u = Simple plain o u.unaries u.tail.binaries u.tail.tail.keywords u.tail.tail.cascade
 
 -- super has its message where an expression ends
-cascade_whole : {f : ℕ} {i j : Input} {r u : Chain} → Keywords Longest f r i u j → IfWaiting NoName r (kind_of i) → NoBinary (kind_of i) → (ss : Stack) → run (cascade_part u ∷ ss) j.rest ≡ None → IsWhole u
+cascade_whole : {f : ℕ} {i j : Input} {r u : Chain} → Keywords Longest f r i u j → IfWaiting NoUnary r (kind_of i) → NoBinary (kind_of i) → (ss : Stack) → run (cascade_part u ∷ ss) j.rest ≡ None → IsWhole u
 cascade_whole {i} {j} {r} {u} d name binary ss q =
-    whole_expression u j.rest ss (if_waiting-Keywords NoName d name) (if_waiting-Keywords NoBinary d (if_waiting NoBinary r (kind_of i) binary)) (ends_Keywords d) q
+    whole_expression u j.rest ss (if_waiting-Keywords NoUnary d name) (if_waiting-Keywords NoBinary d (if_waiting NoBinary r (kind_of i) binary)) (ends_Keywords d) q
 
 -- super has its message where a keyword's argument ends
-argument_whole : {f : ℕ} {i j : Input} {r u : Chain} → Binaries Longest f r i u j → NoName (kind_of i) → (ss : Stack) → run (argument_part u ∷ ss) j.rest ≡ None → IsWhole u
-argument_whole {i} {j} {r} {u} d name ss q = whole_keyword u j.rest ss (if_waiting-Binaries NoName d (if_waiting NoName r (kind_of i) name)) (ends_Binaries d) q
+argument_whole : {f : ℕ} {i j : Input} {r u : Chain} → Binaries Longest f r i u j → NoUnary (kind_of i) → (ss : Stack) → run (argument_part u ∷ ss) j.rest ≡ None → IsWhole u
+argument_whole {i} {j} {r} {u} d name ss q = whole_keyword u j.rest ss (if_waiting-Binaries NoUnary d (if_waiting NoUnary r (kind_of i) name)) (ends_Binaries d) q
 
 -- a literal where an operand is expected
 literal_operand : (p : Position) (h : Notes) (l : ℕ) (ts : List Lexeme) (ss : Stack) → IsLiteralStart (first_kind ts) → run (operand_part p ∷ ss) ts ≡ None → GotChain (λ r j. (suc (length j.rest) ≤ length ts) × Operand Longest (place h l ts) r j) (unary_part p) ts ss
@@ -250,7 +273,7 @@ literal_operand p h l ts ss s r =
 
 mutual
   -- an expression, which the grammar spells where the machine reads it
-  gets_Expression : (n : ℕ) (h : Notes) (l : ℕ) (ts : List Lexeme) (ss : Stack) → 16 * length ts + 5 ≤ n → run (TheExpression ∷ ss) ts ≡ None → Got (λ t j. Expression Longest (place h l ts) t j) ts ss
+  pub gets_Expression : (n : ℕ) (h : Notes) (l : ℕ) (ts : List Lexeme) (ss : Stack) → 16 * length ts + 5 ≤ n → run (TheExpression ∷ ss) ts ≡ None → Got (λ t j. Expression Longest (place h l ts) t j) ts ss
   gets_Expression zero h l ts ss le r = absurd (omega arith)
   gets_Expression (suc n) h l (lex c f e (Name k m) ∷ lex c' f' e' Assignment ∷ ts) ss le r =
       let g = gets_Expression n ((h ++ c) ++ c') e' ts ss (omega arith) (sym (reads_target k (lex c f e (Name k m) ∷ lex c' f' e' Assignment ∷ ts) m ss refl refl) ∙ r) in
@@ -274,15 +297,15 @@ mutual
       record { what = g.what; stop = g.stop; spells = record { chain = u.what; middle = u.stop; unaries = u.spells; tail = g.spells }; shorter = omega (arith, u.shorter, g.shorter); goes_on = g.goes_on }
 
   -- what stands behind its unary messages, which the grammar spells where the machine reads it
-  gets_BinaryTail : (n : ℕ) (f : ℕ) (r : Chain) (h : Notes) (l : ℕ) (ts : List Lexeme) (ss : Stack) → NoName (first_kind ts) → 16 * length ts + 5 ≤ n → run (binary_part r ∷ ss) ts ≡ None → Got (λ t j. BinaryTail f r (place h l ts) t j) ts ss
+  gets_BinaryTail : (n : ℕ) (f : ℕ) (r : Chain) (h : Notes) (l : ℕ) (ts : List Lexeme) (ss : Stack) → NoUnary (first_kind ts) → 16 * length ts + 5 ≤ n → run (binary_part r ∷ ss) ts ≡ None → Got (λ t j. BinaryTail f r (place h l ts) t j) ts ss
   gets_BinaryTail zero f r h l ts ss name le q = absurd (omega arith)
   gets_BinaryTail (suc n) f r h l ts ss name le q =
       let b = gets_Binaries n of_expression f r h l ts ss (omega arith) q in
-      let g = gets_KeywordTail n f b.what b.stop.held b.stop.last b.stop.rest ss (if_waiting-Binaries NoName b.spells (if_waiting NoName r (first_kind ts) name)) (ends_Binaries b.spells) (omega (arith, b.shorter)) b.goes_on in
+      let g = gets_KeywordTail n f b.what b.stop.held b.stop.last b.stop.rest ss (if_waiting-Binaries NoUnary b.spells (if_waiting NoUnary r (first_kind ts) name)) (ends_Binaries b.spells) (omega (arith, b.shorter)) b.goes_on in
       record { what = g.what; stop = g.stop; spells = record { chain = b.what; middle = b.stop; binaries = b.spells; tail = g.spells }; shorter = omega (arith, b.shorter, g.shorter); goes_on = g.goes_on }
 
   -- what stands behind its binary messages, which the grammar spells where the machine reads it
-  gets_KeywordTail : (n : ℕ) (f : ℕ) (r : Chain) (h : Notes) (l : ℕ) (ts : List Lexeme) (ss : Stack) → IfWaiting NoName r (first_kind ts) → NoBinary (first_kind ts) → 16 * length ts + 4 ≤ n → run (binary_part r ∷ ss) ts ≡ None → Got (λ t j. KeywordTail f r (place h l ts) t j) ts ss
+  gets_KeywordTail : (n : ℕ) (f : ℕ) (r : Chain) (h : Notes) (l : ℕ) (ts : List Lexeme) (ss : Stack) → IfWaiting NoUnary r (first_kind ts) → NoBinary (first_kind ts) → 16 * length ts + 4 ≤ n → run (binary_part r ∷ ss) ts ≡ None → Got (λ t j. KeywordTail f r (place h l ts) t j) ts ss
   gets_KeywordTail zero f r h l ts ss name binary le q = absurd (omega arith)
   gets_KeywordTail (suc n) f r h l ts ss name binary le q =
       let k = gets_Keywords n f r h l ts ss binary (omega arith) q in
@@ -297,6 +320,8 @@ mutual
       record { what = Alone (Var f e m); stop = place (h ++ c) e ts; spells = (omega arith, Variable refl); shorter = omega arith; goes_on = sym (reads_name p (lex c f e (Name Ordinary m) ∷ ts) m (Var f e m) ss plain refl) ∙ r }
   gets_Operand (suc n) p h l (lex c f e (Name Super m) ∷ ts) ss plain le r =
       record { what = Waiting f e m; stop = place (h ++ c) e ts; spells = (omega arith, SuperName refl); shorter = omega arith; goes_on = sym (reads_super p (lex c f e (Name Super m) ∷ ts) f e m ss plain refl) ∙ r }
+  gets_Operand (suc n) p h l (lex c f e (OperandMeta k m) ∷ ts) ss plain le r =
+      record { what = Alone (Var f e m); stop = place (h ++ c) e ts; spells = (omega arith, MetaOperand refl); shorter = omega arith; goes_on = sym (reads (operand_part p ∷ ss) (unary_part p (Alone (Var f e m)) ∷ ss) (lex c f e (OperandMeta k m) ∷ ts) (OperandMeta k m) refl tt (step-operand p (OperandMeta k m) ss (Var f e m) tt)) ∙ r }
   gets_Operand (suc n) p h l (lex c f e (Binary Sign m) ∷ ts) ss plain le r = literal_operand p h l (lex c f e (Binary Sign m) ∷ ts) ss tt r
   gets_Operand (suc n) p h l (lex c f e (Numeral k m) ∷ ts) ss plain le r = literal_operand p h l (lex c f e (Numeral k m) ∷ ts) ss tt r
   gets_Operand (suc n) p h l (lex c f e (Constant m) ∷ ts) ss plain le r = literal_operand p h l (lex c f e (Constant m) ∷ ts) ss tt r
@@ -338,6 +363,9 @@ mutual
   gets_Keywords (suc n) f0 r h l (lex c f e (Keyword k m) ∷ ts) ss none le q =
       let g = gets_Parts n (is_told r) h l c f e k m ts ss (omega arith) (sym (reads (binary_part r ∷ ss) _ (lex c f e (Keyword k m) ∷ ts) (Keyword k m) refl tt (step-keyword r k m ss)) ∙ q) in
       record { what = sent f0 g.stop.last r g.what.0 g.what.1; stop = g.stop; spells = OneKeywords g.spells; shorter = omega (arith, g.shorter); goes_on = subst (λ x. run (x ∷ ss) g.stop.rest ≡ None) (sym (cascade_part-sent f0 g.stop.last r g.what.0 g.what.1)) g.goes_on }
+  gets_Keywords (suc n) f0 r h l (lex c f e (MessageMeta m) ∷ ts) ss none le q =
+      let g = gets_AnyMessage (is_told r) h l c f e m ts ss (sym (reads (binary_part r ∷ ss) _ (lex c f e (MessageMeta m) ∷ ts) (MessageMeta m) refl tt (step-any_message r m ss)) ∙ q) in
+      record { what = sent f0 g.stop.last r g.what.0 g.what.1; stop = g.stop; spells = AnyKeywords g.spells; shorter = omega (arith, g.shorter); goes_on = subst (λ x. run (x ∷ ss) g.stop.rest ≡ None) (sym (cascade_part-sent f0 g.stop.last r g.what.0 g.what.1)) g.goes_on }
   gets_Keywords (suc n) f0 r h l ts ss none le q = record { what = r; stop = place h l ts; spells = NoKeywords tt; shorter = le_refl _; goes_on = sym (binary_end ts r ss none tt) ∙ q }
 
   -- keywords and arguments, the first keyword of which was read
@@ -356,6 +384,7 @@ mutual
   gets_FurtherParts (suc n) told i k m is x h l (lex c f e (Keyword k' m') ∷ ts) ss d le r =
       let g = gets_Parts n told h l c f e k' m' ts ss (omega arith) r in
       record { what = (m ++ g.what.0, MoreTrees x g.what.1); stop = g.stop; spells = FurtherPart is d g.spells; shorter = omega (arith, g.shorter); goes_on = g.goes_on }
+  gets_FurtherParts (suc n) told i k m is x h l (lex c f e (MessageMeta m') ∷ ts) ss d le r = cc
   gets_FurtherParts (suc n) told i k m is x h l ts ss d le r = record { what = (m, one_tree x); stop = place h l ts; spells = LastPart is d tt; shorter = le_refl _; goes_on = r }
 
   -- the argument of a binary message, which the grammar spells where the machine reads it
@@ -386,7 +415,7 @@ mutual
       record { what = b.what; stop = b.stop; spells = record { chain = u.what; middle = u.stop; unaries = u.spells; binaries = b.spells; is_whole = w }; shorter = omega (arith, u.shorter, b.shorter); goes_on = sym (argument_end b.stop.rest b.what ss w (ends_Binaries b.spells)) ∙ b.goes_on }
 
   -- a cascade or none, which the grammar spells where the machine reads it
-  gets_Cascaded : (n : ℕ) (r : Chain) (h : Notes) (l : ℕ) (ts : List Lexeme) (ss : Stack) → IsWhole r → NoKeyword (first_kind ts) → 16 * length ts + 2 ≤ n → run (cascade_part r ∷ ss) ts ≡ None → Got (λ t j. Cascaded Longest r (place h l ts) t j) ts ss
+  gets_Cascaded : (n : ℕ) (r : Chain) (h : Notes) (l : ℕ) (ts : List Lexeme) (ss : Stack) → IsWhole r → NoKey (first_kind ts) → 16 * length ts + 2 ≤ n → run (cascade_part r ∷ ss) ts ≡ None → Got (λ t j. Cascaded Longest r (place h l ts) t j) ts ss
   gets_Cascaded zero r h l ts ss w none le q = absurd (omega arith)
   gets_Cascaded (suc n) (Waiting a b m) h l (lex c f e Semicolon ∷ ts) ss w none le q = absurd w
   gets_Cascaded (suc n) (Alone t) h l (lex c f e Semicolon ∷ ts) ss w none le q = cc
@@ -410,12 +439,16 @@ mutual
   gets_Message zero h l ts ss le r = absurd (omega arith)
   gets_Message (suc n) h l [] ss le r = cc
   gets_Message (suc n) h l (lex c f e (Name k m) ∷ ts) ss le r = record { what = (m, NoTrees); stop = place (h ++ c) e ts; spells = UnaryMessage refl; shorter = omega arith; goes_on = r }
+  gets_Message (suc n) h l (lex c f e (OperandMeta AnyName m) ∷ ts) ss le r = record { what = (m, NoTrees); stop = place (h ++ c) e ts; spells = AnyUnaryMessage refl; shorter = omega arith; goes_on = r }
   gets_Message (suc n) h l (lex c f e (Binary k m) ∷ ts) ss le r =
       let a = gets_Argument n (h ++ c) e ts (TheCascade ∷ ss) (omega arith) r in
       record { what = (m, one_tree a.what); stop = a.stop; spells = BinaryMessage refl a.spells; shorter = omega (arith, a.shorter); goes_on = a.goes_on }
   gets_Message (suc n) h l (lex c f e (Keyword k m) ∷ ts) ss le r =
       let g = gets_Parts n true h l c f e k m ts ss (omega arith) r in
       record { what = g.what; stop = g.stop; spells = KeywordMessage g.spells; shorter = omega (arith, g.shorter); goes_on = sym (keywords_end g.stop.rest ss (ends_Parts g.spells)) ∙ g.goes_on }
+  gets_Message (suc n) h l (lex c f e (MessageMeta m) ∷ ts) ss le r =
+      let g = gets_AnyMessage true h l c f e m ts ss r in
+      record { what = g.what; stop = g.stop; spells = AnyKeywordMessage g.spells; shorter = omega (arith, g.shorter); goes_on = sym (keywords_end g.stop.rest ss (ends_AnyMessage g.spells)) ∙ g.goes_on }
   gets_Message (suc n) h l (lex c f e k ∷ ts) ss le r = cc
 
   -- the items of a brace array, which the grammar spells where the machine reads it
@@ -426,6 +459,7 @@ mutual
   gets_Items (suc n) h l (lex c f e (Binary Sign m) ∷ ts) ss le r = gets_Item n h l (lex c f e (Binary Sign m) ∷ ts) ss (omega arith) r
   gets_Items (suc n) h l (lex c f e (Numeral k m) ∷ ts) ss le r = gets_Item n h l (lex c f e (Numeral k m) ∷ ts) ss (omega arith) r
   gets_Items (suc n) h l (lex c f e (Constant m) ∷ ts) ss le r = gets_Item n h l (lex c f e (Constant m) ∷ ts) ss (omega arith) r
+  gets_Items (suc n) h l (lex c f e (OperandMeta k m) ∷ ts) ss le r = gets_Item n h l (lex c f e (OperandMeta k m) ∷ ts) ss (omega arith) r
   gets_Items (suc n) h l (lex c f e (Opens o) ∷ ts) ss le r = gets_Item n h l (lex c f e (Opens o) ∷ ts) ss (omega arith) (sym (as_item (lex c f e (Opens o) ∷ ts) ss tt) ∙ r)
   gets_Items (suc n) h l (lex c f e k ∷ ts) ss le r =
       record { what = NoTrees; stop = place h l (lex c f e k ∷ ts); spells = NoItems tt; shorter = le_refl _; goes_on = other_default (λ s. run s ts) (step ss k) (At (lex c f e k ∷ ts) (wish (TheItems ∷ ss)) (may_start (TheItems ∷ ss))) (At (lex c f e k ∷ ts) (wish ss) (may_start ss)) r }
@@ -482,10 +516,14 @@ mutual
       let d = gets_Expression n (h ++ c) e ts (BehindReturn ∷ ss) (omega arith) r in
       let p = gets_Finish d.stop.held d.stop.last d.stop.rest ss d.goes_on in
       record { what = MoreStatements p.what f (Return f d.stop.last d.what) NoStatements; stop = p.stop; spells = Returned refl d.spells p.spells; shorter = omega (arith, d.shorter, p.shorter); goes_on = p.goes_on }
+  gets_Statements (suc n) h l (lex c f e (StatementMeta m) ∷ ts) ss le r =
+      let a = gets_After n (h ++ c) e ts ss (omega arith) r in
+      record { what = MoreStatements a.what.0 f (Var f e m) a.what.1; stop = a.stop; spells = AnyStatement refl a.spells; shorter = omega (arith, a.shorter); goes_on = a.goes_on }
   gets_Statements (suc n) h l (lex c f e (Name k m) ∷ ts) ss le r = gets_Statement n h l (lex c f e (Name k m) ∷ ts) ss (omega arith) (sym (as_statement (lex c f e (Name k m) ∷ ts) ss tt) ∙ r)
   gets_Statements (suc n) h l (lex c f e (Binary Sign m) ∷ ts) ss le r = gets_Statement n h l (lex c f e (Binary Sign m) ∷ ts) ss (omega arith) r
   gets_Statements (suc n) h l (lex c f e (Numeral k m) ∷ ts) ss le r = gets_Statement n h l (lex c f e (Numeral k m) ∷ ts) ss (omega arith) r
   gets_Statements (suc n) h l (lex c f e (Constant m) ∷ ts) ss le r = gets_Statement n h l (lex c f e (Constant m) ∷ ts) ss (omega arith) r
+  gets_Statements (suc n) h l (lex c f e (OperandMeta k m) ∷ ts) ss le r = gets_Statement n h l (lex c f e (OperandMeta k m) ∷ ts) ss (omega arith) r
   gets_Statements (suc n) h l (lex c f e (Opens o) ∷ ts) ss le r = gets_Statement n h l (lex c f e (Opens o) ∷ ts) ss (omega arith) (sym (as_statement (lex c f e (Opens o) ∷ ts) ss tt) ∙ r)
   gets_Statements (suc n) h l (lex c f e k ∷ ts) ss le r =
       record { what = NoStatements; stop = place h l (lex c f e k ∷ ts); spells = NoMore tt; shorter = le_refl _; goes_on = other_default (λ s. run s ts) (step ss k) (At (lex c f e k ∷ ts) (wish (TheStatements ∷ ss)) (may_start (TheStatements ∷ ss))) (At (lex c f e k ∷ ts) (wish ss) (may_start ss)) r }

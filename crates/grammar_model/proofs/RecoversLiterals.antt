@@ -2,10 +2,10 @@
 use Rattle.std.proofs.Common.{◌≡◌, ℕ, zero, suc, ◌+◌, ◌*◌, ◌≤◌, List, [], ◌∷◌, ◌++◌, length, None, refl, sym, ◌∙◌, arith, le_refl, subst}
 use Rattle.std.proofs.Math.Decide.{ℕ_discrete}
 use Rattle.tree_model.specs.Tree.{Notes, LiteralOf, number, symbol, array, bytes, no_literals, more_literals}
-use Rattle.grammar_model.specs.Terminal.{Text, KeywordKind, Sign, NumeralKind, SmallDigits, LargeDigits, Group, BlockStart, ArrayStart, BytesStart, GroupEnd, BlockEnd, BraceEnd, Terminal, Name, Keyword, Binary, Numeral, Constant, Opens, Closes}
+use Rattle.grammar_model.specs.Terminal.{Text, KeywordKind, Sign, NumeralKind, SmallDigits, LargeDigits, Group, BlockStart, ArrayStart, BytesStart, GroupEnd, BlockEnd, BraceEnd, Terminal, Name, Keyword, Binary, Numeral, Constant, Opens, Closes, AnyKeyword, PrimitiveKeyword}
 use Rattle.grammar_model.specs.Input.{Lexeme, lex, Input, first_kind, others, kind_of, next}
 use Rattle.grammar_model.specs.Ahead.{Longest}
-use Rattle.grammar_model.specs.Literals.{word_or_symbol, KeywordRow, LastKeyword, JoinedKeyword, ByteElements, OneByte, NoBytes, LiteralAt, Unsigned, Negative, Fixed, Array, ByteArray, Element, LiteralElement, InnerArray, InnerBytes, NameElement, KeywordElement, BinaryElement, Elements, OneElement, NoElements}
+use Rattle.grammar_model.specs.Literals.{word_or_symbol, KeywordRow, LastKeyword, JoinedKeyword, ByteElements, OneByte, NoBytes, LiteralAt, Unsigned, Negative, Fixed, Array, ByteArray, Element, LiteralElement, InnerArray, InnerBytes, NameElement, KeywordElement, BinaryElement, Elements, OneElement, NoElements, NoAnyKey}
 use Rattle.grammar_model.specs.Machine.{Stack, TheNumeral, TheElements, TheBytes, Awaits, step, run}
 use Rattle.grammar_model.proofs.Reading.{reads, wrong_at, IsLiteralStart}
 use Rattle.grammar_model.proofs.Recognizes.{BeginsLiteral, elements_begin}
@@ -65,17 +65,25 @@ gets_ByteElements h l (lex c f e (Closes BlockEnd) ∷ ts) ss r = record { what 
 gets_ByteElements h l (lex c f e k ∷ ts) ss r = cc
 
 -- a row of keywords, the first of which was read
-gets_KeywordRow : (h : Notes) (l : ℕ) (c : Notes) (f e : ℕ) (k : KeywordKind) (n : Text) (ts : List Lexeme) (ss : Stack) → run (TheElements ∷ ss) ts ≡ None → Got (λ s j. KeywordRow (place h l (lex c f e (Keyword k n) ∷ ts)) s j) ts (TheElements ∷ ss)
-gets_KeywordRow h l c f e k n [] ss r = record { what = n; stop = place (h ++ c) e []; spells = LastKeyword refl (λ j. j.keyword); shorter = le_refl _; goes_on = r }
-gets_KeywordRow h l c f e k n (lex c' f' e' (Keyword k' n') ∷ ts) ss r =
-    let single : ¬ (f' ≡ e) → Got (λ s j. KeywordRow (place h l (lex c f e (Keyword k n) ∷ lex c' f' e' (Keyword k' n') ∷ ts)) s j) (lex c' f' e' (Keyword k' n') ∷ ts) (TheElements ∷ ss) =
-    λ apart. record { what = n; stop = place (h ++ c) e (lex c' f' e' (Keyword k' n') ∷ ts); spells = LastKeyword refl (λ j. apart j.at); shorter = le_refl _; goes_on = r } in
-    let g = gets_KeywordRow (h ++ c) e c' f' e' k' n' ts ss r in
+gets_KeywordRow : (h : Notes) (l : ℕ) (c : Notes) (f e : ℕ) (k : KeywordKind) (n : Text) → NoAnyKey k → (ts : List Lexeme) (ss : Stack) → run (TheElements ∷ ss) ts ≡ None → Got (λ s j. KeywordRow (place h l (lex c f e (Keyword k n) ∷ ts)) s j) ts (TheElements ∷ ss)
+gets_KeywordRow h l c f e k n q [] ss r = record { what = n; stop = place (h ++ c) e []; spells = LastKeyword refl q (λ j. j.keyword); shorter = le_refl _; goes_on = r }
+gets_KeywordRow h l c f e k n q (lex c' f' e' (Keyword AnyKeyword n') ∷ ts) ss r =
+    let single : ¬ (f' ≡ e) → Got (λ s j. KeywordRow (place h l (lex c f e (Keyword k n) ∷ lex c' f' e' (Keyword AnyKeyword n') ∷ ts)) s j) (lex c' f' e' (Keyword AnyKeyword n') ∷ ts) (TheElements ∷ ss) =
+    λ apart. record { what = n; stop = place (h ++ c) e (lex c' f' e' (Keyword AnyKeyword n') ∷ ts); spells = LastKeyword refl q (λ j. apart j.at); shorter = le_refl _; goes_on = r } in
+    let g = gets_KeywordRow (h ++ c) e c' f' e' AnyKeyword n' tt ts ss r in
     elim (ℕ_discrete f' e) [
-      | yes same ↦ record { what = n ++ g.what; stop = g.stop; spells = JoinedKeyword refl (record { keyword = tt; at = same }) g.spells; shorter = omega (arith, g.shorter); goes_on = g.goes_on }
+      | yes same ↦ record { what = n ++ g.what; stop = g.stop; spells = JoinedKeyword refl q (record { keyword = tt; at = same }) g.spells; shorter = omega (arith, g.shorter); goes_on = g.goes_on }
       | no apart ↦ single apart
     ]
-gets_KeywordRow h l c f e k n (lex c' f' e' m ∷ ts) ss r = record { what = n; stop = place (h ++ c) e (lex c' f' e' m ∷ ts); spells = LastKeyword refl (λ j. j.keyword); shorter = le_refl _; goes_on = r }
+gets_KeywordRow h l c f e k n q (lex c' f' e' (Keyword PrimitiveKeyword n') ∷ ts) ss r =
+    let single : ¬ (f' ≡ e) → Got (λ s j. KeywordRow (place h l (lex c f e (Keyword k n) ∷ lex c' f' e' (Keyword PrimitiveKeyword n') ∷ ts)) s j) (lex c' f' e' (Keyword PrimitiveKeyword n') ∷ ts) (TheElements ∷ ss) =
+    λ apart. record { what = n; stop = place (h ++ c) e (lex c' f' e' (Keyword PrimitiveKeyword n') ∷ ts); spells = LastKeyword refl q (λ j. apart j.at); shorter = le_refl _; goes_on = r } in
+    let g = gets_KeywordRow (h ++ c) e c' f' e' PrimitiveKeyword n' tt ts ss r in
+    elim (ℕ_discrete f' e) [
+      | yes same ↦ record { what = n ++ g.what; stop = g.stop; spells = JoinedKeyword refl q (record { keyword = tt; at = same }) g.spells; shorter = omega (arith, g.shorter); goes_on = g.goes_on }
+      | no apart ↦ single apart
+    ]
+gets_KeywordRow h l c f e k n q (lex c' f' e' m ∷ ts) ss r = record { what = n; stop = place (h ++ c) e (lex c' f' e' m ∷ ts); spells = LastKeyword refl q (λ j. j.keyword); shorter = le_refl _; goes_on = r }
 
 -- the numeral behind a sign
 gets_Numeral : (h : Notes) (l : ℕ) (ts : List Lexeme) (ss : Stack) → run (TheNumeral ∷ ss) ts ≡ None → Got {A = NumeralKind × Text} (λ v j. (suc (length j.rest) ≤ length ts) × (kind_of (place h l ts) ≡ Numeral v.0 v.1) × (j ≡ next (place h l ts))) ts ss
@@ -90,9 +98,12 @@ mutual
   gets_Elements (suc n) h l [] ss le r = cc
   gets_Elements (suc n) h l (lex c f e (Closes GroupEnd) ∷ ts) ss le r = record { what = no_literals; stop = place h l (lex c f e (Closes GroupEnd) ∷ ts); spells = NoElements tt; shorter = le_refl _; goes_on = r }
   gets_Elements (suc n) h l (lex c f e (Name k v) ∷ ts) ss le r = more_elements n h l (lex c f e (Name k v) ∷ ts) ss (word_or_symbol v) (place (h ++ c) e ts) (NameElement refl) (omega arith) (omega arith) r
-  gets_Elements (suc n) h l (lex c f e (Keyword k v) ∷ ts) ss le r =
-      let g = gets_KeywordRow h l c f e k v ts (Awaits GroupEnd ∷ ss) r in
-      more_elements n h l (lex c f e (Keyword k v) ∷ ts) ss (symbol g.what) g.stop (KeywordElement g.spells) (omega (arith, g.shorter)) (omega arith) g.goes_on
+  gets_Elements (suc n) h l (lex c f e (Keyword AnyKeyword v) ∷ ts) ss le r =
+      let g = gets_KeywordRow h l c f e AnyKeyword v tt ts (Awaits GroupEnd ∷ ss) r in
+      more_elements n h l (lex c f e (Keyword AnyKeyword v) ∷ ts) ss (symbol g.what) g.stop (KeywordElement g.spells) (omega (arith, g.shorter)) (omega arith) g.goes_on
+  gets_Elements (suc n) h l (lex c f e (Keyword PrimitiveKeyword v) ∷ ts) ss le r =
+      let g = gets_KeywordRow h l c f e PrimitiveKeyword v tt ts (Awaits GroupEnd ∷ ss) r in
+      more_elements n h l (lex c f e (Keyword PrimitiveKeyword v) ∷ ts) ss (symbol g.what) g.stop (KeywordElement g.spells) (omega (arith, g.shorter)) (omega arith) g.goes_on
   gets_Elements (suc n) h l (lex c f e (Binary Sign v) ∷ ts) ss le r =
       let g = gets_LiteralAt n h l (lex c f e (Binary Sign v) ∷ ts) (TheElements ∷ Awaits GroupEnd ∷ ss) (TheElements ∷ Awaits GroupEnd ∷ ss) (elements_begin _) tt (omega arith) r in
       more_elements n h l (lex c f e (Binary Sign v) ∷ ts) ss g.what g.stop (LiteralElement g.spells.1) g.spells.0 (omega arith) g.goes_on

@@ -1,13 +1,13 @@
 -- Rows that may end anywhere end where no more of their tokens stand: looking ahead excludes no text.
 use Rattle.std.proofs.Common.{◌≡◌, ℕ, Bool, Option, List, ap, sym, subst}
 use Rattle.tree_model.specs.Tree.{Notes, LiteralOf}
-use Rattle.grammar_model.specs.Terminal.{Text, Common, Sign, Less, Greater, Bar, Closing, TextEnd, Terminal, Name, Keyword, Binary, Numeral, Constant, Opens, Closes, Assignment, Colon, Semicolon, Period, Caret}
+use Rattle.grammar_model.specs.Terminal.{Text, Common, Sign, Less, Greater, Bar, Closing, TextEnd, Terminal, Name, Keyword, Binary, Numeral, Constant, Opens, Closes, Assignment, Colon, Semicolon, Period, Caret, OperandMeta, AnyName, StatementMeta, MessageMeta}
 use Rattle.grammar_model.specs.Input.{Lexeme, Input, first_kind, kind_of, next}
 use Rattle.grammar_model.specs.Spanned.{Declared, SpannedTree, SpannedTrees, SpannedMessages, SpannedStatements, SpannedSequence, SpannedMethod}
 use Rattle.grammar_model.specs.Chain.{Chain}
-use Rattle.grammar_model.specs.Ahead.{Longest, Any, NoName, NoKeyword, NoBinary, NoBar, NoSemicolon, NoColon, NoPeriod, NoOperand, NoStatement, NoAssignment, IsOperandStart}
+use Rattle.grammar_model.specs.Ahead.{Longest, Any, NoName, NoKeyword, NoBinary, NoBar, NoSemicolon, NoColon, NoPeriod, NoOperand, NoStatement, NoAssignment, IsOperandStart, NoUnary, NoKey}
 use Rattle.grammar_model.specs.Literals.{LiteralAt, Unsigned, Negative, Fixed, Array, ByteArray}
-use Rattle.grammar_model.specs.Grammar.{Periods, OnePeriod, NoPeriods, Names, OneName, NoNames, Parameters, OneParameter, NoParameters, Declares, DeclaresNone, Expression, Assigned, Simple, Operand, Variable, SuperName, LiteralOperand, Grouped, BlockOperand, BraceOperand, Unaries, OneUnary, NoUnaries, Binaries, OneBinary, NoBinaries, Keywords, OneKeywords, NoKeywords, Parts, LastPart, FurtherPart, Argument, BinaryArgument, KeywordArgument, ArgumentOfKeyword, Cascaded, NoCascade, OneCascade, Messages, OneMessage, LastMessage, Message, UnaryMessage, BinaryMessage, KeywordMessage, Items, NoItems, OneItem, FurtherItems, NextItem, LastItem, BlockBody, WithoutParameters, ParametersAlone, WithParameters, Sequence, Sequenced, Statements, BlankPeriod, NoMore, Returned, OneStatement, After, Ended, Unended, Finish, EndedReturn, UnendedReturn}
+use Rattle.grammar_model.specs.Grammar.{Periods, OnePeriod, NoPeriods, Names, OneName, NoNames, Parameters, OneParameter, NoParameters, Declares, DeclaresNone, Expression, Assigned, Simple, Operand, Variable, SuperName, LiteralOperand, Grouped, BlockOperand, BraceOperand, Unaries, OneUnary, NoUnaries, Binaries, OneBinary, NoBinaries, Keywords, OneKeywords, NoKeywords, Parts, LastPart, FurtherPart, Argument, BinaryArgument, KeywordArgument, ArgumentOfKeyword, Cascaded, NoCascade, OneCascade, Messages, OneMessage, LastMessage, Message, UnaryMessage, BinaryMessage, KeywordMessage, Items, NoItems, OneItem, FurtherItems, NextItem, LastItem, BlockBody, WithoutParameters, ParametersAlone, WithParameters, Sequence, Sequenced, Statements, BlankPeriod, NoMore, Returned, OneStatement, After, Ended, Unended, Finish, EndedReturn, UnendedReturn, MetaOperand, AnyUnary, AnyUnaryMessage, AnyStatement, WholeMessage, AnyKeywords, AnyKeywordMessage}
 use Rattle.grammar_model.specs.Whole.{IsOver, IsDoIt, PatternParts, LastPatternPart, FurtherPatternPart, Pattern, UnaryPattern, BinaryPattern, KeywordPattern, MethodBody, WithBars, WithoutBars, OnePrimitive, Behind, Plainly, Primitively, IsMethod}
 use Rattle.grammar_model.proofs.OneTree.{starts_Expression}
 use Rattle.grammar_model.proofs.RowsLiterals.{at_closing, longest_LiteralAt}
@@ -26,6 +26,7 @@ EndsMessage k = EndsExpression k
 -- what stands behind a keyword's argument
 abbrev EndsKeywordArgument : Terminal → Type 0
 EndsKeywordArgument (Keyword c s) = Unit {0}
+EndsKeywordArgument (MessageMeta s) = Unit {0}
 EndsKeywordArgument k = EndsMessage k
 
 -- what stands behind a binary message's argument
@@ -36,6 +37,7 @@ EndsArgument k = EndsKeywordArgument k
 -- what stands behind an operand
 abbrev EndsOperand : Terminal → Type 0
 EndsOperand (Name c s) = Unit {0}
+EndsOperand (OperandMeta AnyName s) = Unit {0}
 EndsOperand k = EndsArgument k
 
 -- what ends an expression ends a message
@@ -57,6 +59,7 @@ to_argument Period h = tt
 to_argument (Closes c) h = tt
 to_argument Semicolon h = tt
 to_argument (Keyword c s) h = tt
+to_argument (MessageMeta s) h = tt
 to_argument k h = absurd h
 
 -- what ends a binary message's argument ends an operand
@@ -65,12 +68,14 @@ to_operand Period h = tt
 to_operand (Closes c) h = tt
 to_operand Semicolon h = tt
 to_operand (Keyword c s) h = tt
+to_operand (MessageMeta s) h = tt
 to_operand (Binary c s) h = tt
 to_operand k h = absurd h
 
 -- no identifier ends an argument
-ends_names : (k : Terminal) → EndsArgument k → NoName k
+ends_names : (k : Terminal) → EndsArgument k → NoUnary k
 ends_names (Name c s) h = h
+ends_names (OperandMeta AnyName s) h = h
 ends_names k h = tt
 
 -- no binary selector ends a keyword's argument
@@ -79,8 +84,9 @@ ends_binaries (Binary c s) h = h
 ends_binaries k h = tt
 
 -- no keyword ends a message
-ends_keywords : (k : Terminal) → EndsMessage k → NoKeyword k
+ends_keywords : (k : Terminal) → EndsMessage k → NoKey k
 ends_keywords (Keyword c s) h = h
+ends_keywords (MessageMeta s) h = h
 ends_keywords k h = tt
 
 -- no semicolon ends an expression
@@ -111,6 +117,7 @@ first_Parts (FurtherPart e x d) = subst EndsKeywordArgument (sym e) tt
 -- what stands before a keyword message
 first_Keywords : {f : ℕ} {i j : Input} {r u : Chain} → Keywords Any f r i u j → EndsMessage (kind_of j) → EndsKeywordArgument (kind_of i)
 first_Keywords (OneKeywords d) h = first_Parts d
+first_Keywords (AnyKeywords (WholeMessage e f n)) h = subst EndsKeywordArgument (sym e) tt
 first_Keywords (NoKeywords n) h = to_keyword_argument _ h
 
 -- what stands before binary messages
@@ -121,6 +128,7 @@ first_Binaries (NoBinaries n) h = to_argument _ h
 -- what stands before unary messages
 first_Unaries : {f : ℕ} {i j : Input} {r u : Chain} → Unaries Any f r i u j → EndsArgument (kind_of j) → EndsOperand (kind_of i)
 first_Unaries (OneUnary e d) h = subst EndsOperand (sym e) tt
+first_Unaries (AnyUnary e d) h = subst EndsOperand (sym e) tt
 first_Unaries (NoUnaries n) h = to_operand _ h
 
 -- what stands behind an item
@@ -155,6 +163,7 @@ no_name_LiteralAt (ByteArray e a c) = subst NoName (sym e) tt
 operand_plain : {i j : Input} {r : Chain} → Operand Any i r j → EndsOperand (kind_of j) → NoAssignment (kind_of i) (kind_of (next i))
 operand_plain {i} (Variable e) h = no_assignment (kind_of i) (kind_of (next i)) h
 operand_plain {i} (SuperName e) h = no_assignment (kind_of i) (kind_of (next i)) h
+operand_plain (MetaOperand e) h = no_name_begins _ _ (subst NoName (sym e) tt)
 operand_plain (LiteralOperand d) h = no_name_begins _ _ (no_name_LiteralAt d)
 operand_plain (Grouped e d c) h = no_name_begins _ _ (subst NoName (sym e) tt)
 operand_plain (BlockOperand e d c) h = no_name_begins _ _ (subst NoName (sym e) tt)
@@ -187,9 +196,11 @@ BeginsStatements (Binary Sign s) = Unit {0}
 BeginsStatements (Numeral c t) = Unit {0}
 BeginsStatements (Constant l) = Unit {0}
 BeginsStatements (Opens o) = Unit {0}
+BeginsStatements (OperandMeta m n) = Unit {0}
 BeginsStatements (Closes c) = Unit {0}
 BeginsStatements Period = Unit {0}
 BeginsStatements Caret = Unit {0}
+BeginsStatements (StatementMeta n) = Unit {0}
 BeginsStatements k = ⊥
 
 -- statements begin as operands do
@@ -203,6 +214,7 @@ operand_begins (Binary Bar s) h = absurd h
 operand_begins (Numeral c t) h = tt
 operand_begins (Constant l) h = tt
 operand_begins (Opens o) h = tt
+operand_begins (OperandMeta m n) h = tt
 operand_begins k h = absurd h
 
 -- statements begin so
@@ -210,6 +222,7 @@ first_Statements : {i j : Input} {ss : SpannedStatements} {c : Closing} → Stat
 first_Statements (BlankPeriod e b) k = subst BeginsStatements (sym e) tt
 first_Statements (NoMore n) k = at_closing BeginsStatements k tt
 first_Statements (Returned e d f) k = subst BeginsStatements (sym e) tt
+first_Statements (AnyStatement e a) k = subst BeginsStatements (sym e) tt
 first_Statements (OneStatement d a) k = operand_begins _ (starts_Expression d)
 
 -- statements begin with no bar
@@ -246,6 +259,7 @@ mutual
   longest_Operand : {i j : Input} {r : Chain} → Operand Any i r j → Operand Longest i r j
   longest_Operand (Variable e) = Variable e
   longest_Operand (SuperName e) = SuperName e
+  longest_Operand (MetaOperand e) = MetaOperand e
   longest_Operand (LiteralOperand d) = LiteralOperand (longest_LiteralAt d)
   longest_Operand (Grouped e d c) = Grouped e (longest_Expression d (at_closing EndsExpression c tt)) c
   longest_Operand (BlockOperand e b c) = BlockOperand e (longest_BlockBody b c) c
@@ -254,6 +268,7 @@ mutual
   -- unary messages, its rows as long as they can be
   longest_Unaries : {f : ℕ} {i j : Input} {r u : Chain} → Unaries Any f r i u j → EndsArgument (kind_of j) → Unaries Longest f r i u j
   longest_Unaries (OneUnary e d) h = OneUnary e (longest_Unaries d h)
+  longest_Unaries (AnyUnary e d) h = AnyUnary e (longest_Unaries d h)
   longest_Unaries (NoUnaries n) h = NoUnaries (ends_names _ h)
 
   -- binary messages, its rows as long as they can be
@@ -264,6 +279,7 @@ mutual
   -- a keyword message or none, its rows as long as they can be
   longest_Keywords : {f : ℕ} {i j : Input} {r u : Chain} → Keywords Any f r i u j → EndsMessage (kind_of j) → Keywords Longest f r i u j
   longest_Keywords (OneKeywords d) h = OneKeywords (longest_Parts d h)
+  longest_Keywords (AnyKeywords (WholeMessage e f n)) h = AnyKeywords (WholeMessage e f (ends_keywords _ h))
   longest_Keywords (NoKeywords n) h = NoKeywords (ends_keywords _ h)
 
   -- keywords with their arguments, its rows as long as they can be
@@ -292,8 +308,10 @@ mutual
   -- one message of a cascade, its rows as long as they can be
   longest_Message : {i j : Input} {s : Text} {xs : SpannedTrees} → Message Any i s xs j → EndsMessage (kind_of j) → Message Longest i s xs j
   longest_Message (UnaryMessage e) h = UnaryMessage e
+  longest_Message (AnyUnaryMessage e) h = AnyUnaryMessage e
   longest_Message (BinaryMessage e x) h = BinaryMessage e (longest_Argument x (to_argument _ (to_keyword_argument _ h)))
   longest_Message (KeywordMessage d) h = KeywordMessage (longest_Parts d h)
+  longest_Message (AnyKeywordMessage (WholeMessage e f n)) h = AnyKeywordMessage (WholeMessage e f (ends_keywords _ h))
 
   -- the items of a brace array, its rows as long as they can be
   longest_Items : {i j : Input} {ts : SpannedTrees} {c : Closing} → Items Any i ts j → kind_of j ≡ Closes c → Items Longest i ts j
@@ -321,6 +339,7 @@ mutual
   longest_Statements (BlankPeriod e b) k = BlankPeriod e (longest_Statements b k)
   longest_Statements (NoMore n) k = NoMore (at_closing NoStatement k tt)
   longest_Statements (Returned e d f) k = Returned e (longest_Expression d (first_Finish f k)) (longest_Finish f k)
+  longest_Statements (AnyStatement e a) k = AnyStatement e (longest_After a k)
   longest_Statements (OneStatement d a) k = OneStatement (longest_Expression d (first_After a k)) (longest_After a k)
 
   -- what stands behind a statement, its rows as long as they can be

@@ -2,9 +2,9 @@
 use Rattle.std.proofs.Common.{◌≡◌, Bool, true, false, List, [], ◌∷◌, Some, None, refl, ◌∙◌}
 use Rattle.std.specs.Prelude.{Option}
 use Rattle.std.specs.Option.{option_map_or}
-use Rattle.grammar_model.specs.Terminal.{Ordinary, PrimitiveKeyword, Common, Greater, Bar, SmallDigits, Closing, GroupEnd, BlockEnd, BraceEnd, TextEnd, Terminal, Name, Keyword, Binary, Numeral, Closes}
-use Rattle.grammar_model.specs.Ahead.{NoName}
-use Rattle.grammar_model.specs.Machine.{Part, Stack, TheExpression, TheArgument, TheKeywordArgument, BehindFirstSuper, BehindSuper, BehindSuperOfKeyword, BehindSuperOfBinary, UnaryOfBinary, UnaryOfKeyword, BinaryOfKeyword, UnaryMessages, BinaryMessages, KeywordMessages, TheMessage, TheCascade, TheNumeral, TheElements, FurtherItem, TheParameter, TheParameters, TheSequence, TheNames, TheStatements, BehindStatement, BehindReturn, ThePattern, BinaryName, KeywordName, PatternRest, KernelBody, ThePrimitive, PrimitiveNumber, PrimitiveEnd, Awaits, body_part, step, feeds}
+use Rattle.grammar_model.specs.Terminal.{Ordinary, PrimitiveKeyword, Common, Greater, Bar, SmallDigits, Closing, GroupEnd, BlockEnd, BraceEnd, TextEnd, Terminal, Name, Keyword, Binary, Numeral, Closes, OperandMeta, AnyExpression}
+use Rattle.grammar_model.specs.Ahead.{NoUnary}
+use Rattle.grammar_model.specs.Machine.{Part, Stack, TheExpression, TheArgument, TheKeywordArgument, BehindFirstSuper, BehindSuper, BehindSuperOfKeyword, BehindSuperOfBinary, UnaryOfBinary, UnaryOfKeyword, BinaryOfKeyword, UnaryMessages, BinaryMessages, KeywordMessages, TheMessage, TheCascade, TheNumeral, TheElements, FurtherItem, TheParameter, TheParameters, TheSequence, TheNames, TheStatements, BehindStatement, BehindReturn, ThePattern, BinaryName, KeywordName, PatternRest, KernelBody, ThePrimitive, PrimitiveNumber, PrimitiveEnd, Awaits, body_part, step, feeds, AnyArgument, BehindAnyMessage}
 
 -- the parts that stand below the top, and the end at the bottom
 abbrev pub AllLow : Stack → Type 0
@@ -14,6 +14,7 @@ AllLow (BinaryOfKeyword ∷ ss) = AllLow ss
 AllLow (UnaryMessages told ∷ ss) = AllLow ss
 AllLow (BinaryMessages told ∷ ss) = AllLow ss
 AllLow (KeywordMessages told ∷ ss) = AllLow ss
+AllLow (BehindAnyMessage told ∷ ss) = AllLow ss
 AllLow (TheCascade ∷ ss) = AllLow ss
 AllLow (TheElements ∷ ss) = AllLow ss
 AllLow (FurtherItem ∷ ss) = AllLow ss
@@ -45,6 +46,7 @@ low_good (BinaryOfKeyword ∷ ss) h = h
 low_good (UnaryMessages told ∷ ss) h = h
 low_good (BinaryMessages told ∷ ss) h = h
 low_good (KeywordMessages told ∷ ss) h = h
+low_good (BehindAnyMessage told ∷ ss) h = h
 low_good (TheCascade ∷ ss) h = h
 low_good (TheElements ∷ ss) h = h
 low_good (FurtherItem ∷ ss) h = h
@@ -77,6 +79,7 @@ closing_begins (BinaryOfKeyword ∷ ss) h = closing_begins ss h
 closing_begins (UnaryMessages told ∷ ss) h = closing_begins ss h
 closing_begins (BinaryMessages told ∷ ss) h = closing_begins ss h
 closing_begins (KeywordMessages told ∷ ss) h = closing_begins ss h
+closing_begins (BehindAnyMessage told ∷ ss) h = closing_begins ss h
 closing_begins (TheCascade ∷ ss) h = closing_begins ss h
 closing_begins (TheElements ∷ ss) h = closing_begins ss h
 closing_begins (FurtherItem ∷ ss) h = closing_begins ss h
@@ -95,6 +98,7 @@ IsPassing BehindSuper = ⊥
 IsPassing BehindSuperOfKeyword = ⊥
 IsPassing BehindSuperOfBinary = ⊥
 IsPassing TheMessage = ⊥
+IsPassing AnyArgument = ⊥
 IsPassing TheNumeral = ⊥
 IsPassing TheParameter = ⊥
 IsPassing TheNames = ⊥
@@ -117,6 +121,7 @@ step-passing BehindSuper c ss h = absurd h
 step-passing BehindSuperOfKeyword c ss h = absurd h
 step-passing BehindSuperOfBinary c ss h = absurd h
 step-passing TheMessage c ss h = absurd h
+step-passing AnyArgument c ss h = absurd h
 step-passing TheNumeral c ss h = absurd h
 step-passing TheParameter c ss h = absurd h
 step-passing TheNames c ss h = absurd h
@@ -145,6 +150,7 @@ low_closes (BinaryOfKeyword ∷ ss) h = passes (closing ss) BinaryOfKeyword ss t
 low_closes (UnaryMessages told ∷ ss) h = passes (closing ss) (UnaryMessages told) ss tt (closing_begins ss h) ∙ low_closes ss h
 low_closes (BinaryMessages told ∷ ss) h = passes (closing ss) (BinaryMessages told) ss tt (closing_begins ss h) ∙ low_closes ss h
 low_closes (KeywordMessages told ∷ ss) h = passes (closing ss) (KeywordMessages told) ss tt (closing_begins ss h) ∙ low_closes ss h
+low_closes (BehindAnyMessage told ∷ ss) h = passes (closing ss) (BehindAnyMessage told) ss tt (closing_begins ss h) ∙ low_closes ss h
 low_closes (TheCascade ∷ ss) h = passes (closing ss) TheCascade ss tt (closing_begins ss h) ∙ low_closes ss h
 low_closes (TheElements ∷ ss) h = passes (closing ss) TheElements ss tt (closing_begins ss h) ∙ low_closes ss h
 low_closes (FurtherItem ∷ ss) h = passes (closing ss) FurtherItem ss tt (closing_begins ss h) ∙ low_closes ss h
@@ -177,7 +183,7 @@ IsNaming ss = ⊥
 -- the first token is no identifier
 abbrev pub BeginsOther : List Terminal → Type 0
 BeginsOther [] = ⊥
-BeginsOther (k ∷ ks) = NoName k
+BeginsOther (k ∷ ks) = NoUnary k
 
 -- a closing mark is no identifier
 closing_other : (ks : List Terminal) → BeginsClosing ks → BeginsOther ks
@@ -193,7 +199,7 @@ pub record Completes (ss : Stack) : Type 0 where
 -- tokens that a good stack reads to the end, the first of them no identifier
 pub record CompletesOther (ss : Stack) : Type 0 where
   pub first : Terminal
-  pub no_name : NoName first
+  pub no_name : NoUnary first
   pub others : List Terminal
   pub read : feeds ss (first ∷ others) ≡ Some []
 
@@ -224,6 +230,7 @@ completes_other (BehindSuper ∷ ss) h n e = record { first = selector; no_name 
 completes_other (BehindSuperOfKeyword ∷ ss) h n e = record { first = selector; no_name = tt; others = digit ∷ closing ss; read = passing_closes UnaryOfBinary (BinaryOfKeyword ∷ ss) tt h }
 completes_other (BehindSuperOfBinary ∷ ss) h n e = absurd (n tt)
 completes_other (TheMessage ∷ ss) h n e = record { first = selector; no_name = tt; others = digit ∷ closing ss; read = passing_closes UnaryOfBinary (TheCascade ∷ ss) tt h }
+completes_other (AnyArgument ∷ ss) h n e = record { first = OperandMeta AnyExpression []; no_name = tt; others = closing ss; read = low_closes ss h }
 completes_other (TheNumeral ∷ ss) h n e = record { first = digit; no_name = tt; others = closing ss; read = low_closes ss h }
 completes_other (TheParameter ∷ ss) h n e = absurd (n tt)
 completes_other (TheNames ∷ ss) h n e = record { first = Binary Bar []; no_name = tt; others = closing ss; read = passing_closes TheStatements ss tt h }

@@ -1,8 +1,8 @@
 -- A good stack stays good, and at the end of the text nothing is left of it.
 use Rattle.std.proofs.Common.{Bool, true, false, [], ◌∷◌, Some, None}
 use Rattle.std.specs.Prelude.{Option}
-use Rattle.grammar_model.specs.Terminal.{Ordinary, Super, PrimitiveKeyword, Common, Sign, Less, Greater, Bar, SmallDigits, LargeDigits, Group, BlockStart, BraceStart, ArrayStart, BytesStart, GroupEnd, BlockEnd, BraceEnd, TextEnd, Terminal, Name, Keyword, Binary, Numeral, Constant, Opens, Closes, Assignment, Colon, Semicolon, Period, Caret}
-use Rattle.grammar_model.specs.Machine.{Stack, TheExpression, TheArgument, TheKeywordArgument, BehindName, BehindFirstSuper, BehindSuper, BehindSuperOfKeyword, BehindSuperOfBinary, UnaryOfBinary, UnaryOfKeyword, BinaryOfKeyword, UnaryMessages, BinaryMessages, KeywordMessages, TheMessage, TheCascade, TheNumeral, TheElements, TheBytes, TheItems, FurtherItem, TheBlock, TheParameter, TheParameters, TheSequence, TheNames, TheStatements, BehindStatement, BehindReturn, ThePattern, BinaryName, KeywordName, PatternRest, KernelBody, ThePrimitive, PrimitiveNumber, PrimitiveEnd, Awaits, begin_operand, begin_expression, begin_statement, begin_sequence, begin_body, begin_cascade, body_part, step}
+use Rattle.grammar_model.specs.Terminal.{Ordinary, Super, PrimitiveKeyword, Common, Sign, Less, Greater, Bar, SmallDigits, LargeDigits, Group, BlockStart, BraceStart, ArrayStart, BytesStart, GroupEnd, BlockEnd, BraceEnd, TextEnd, Terminal, Name, Keyword, Binary, Numeral, Constant, Opens, Closes, Assignment, Colon, Semicolon, Period, Caret, OperandMeta, AnyName, StatementMeta, AnyKey, AnyExpression, MessageMeta}
+use Rattle.grammar_model.specs.Machine.{Stack, TheExpression, TheArgument, TheKeywordArgument, BehindName, BehindFirstSuper, BehindSuper, BehindSuperOfKeyword, BehindSuperOfBinary, UnaryOfBinary, UnaryOfKeyword, BinaryOfKeyword, UnaryMessages, BinaryMessages, KeywordMessages, TheMessage, TheCascade, TheNumeral, TheElements, TheBytes, TheItems, FurtherItem, TheBlock, TheParameter, TheParameters, TheSequence, TheNames, TheStatements, BehindStatement, BehindReturn, ThePattern, BinaryName, KeywordName, PatternRest, KernelBody, ThePrimitive, PrimitiveNumber, PrimitiveEnd, Awaits, begin_operand, begin_expression, begin_statement, begin_sequence, begin_body, begin_cascade, body_part, step, AnyArgument, BehindAnyMessage}
 use Rattle.grammar_model.proofs.Stacks.{AllLow, IsNil, IsGood, low_good, GoodIfSome}
 
 -- behind the first token of an operand
@@ -10,6 +10,7 @@ good_operand : (k : Terminal) (ss : Stack) (o : Option Stack) → AllLow ss → 
 good_operand (Binary Sign s) ss o h g = h
 good_operand (Numeral c t) ss o h g = low_good ss h
 good_operand (Constant l) ss o h g = low_good ss h
+good_operand (OperandMeta m n) ss o h g = low_good ss h
 good_operand (Opens Group) ss o h g = h
 good_operand (Opens BlockStart) ss o h g = h
 good_operand (Opens BraceStart) ss o h g = h
@@ -27,6 +28,7 @@ good_expression k ss o h g = good_operand k (UnaryMessages false ∷ ss) o h g
 good_statement : (k : Terminal) (ss : Stack) (o : Option Stack) → AllLow ss → GoodIfSome o → GoodIfSome (begin_statement k ss o)
 good_statement Period ss o h g = h
 good_statement Caret ss o h g = h
+good_statement (StatementMeta n) ss o h g = h
 good_statement k ss o h g = good_expression k (BehindStatement ∷ ss) o h g
 
 -- behind the first token of a sequence
@@ -54,27 +56,38 @@ good_cascade false ss h = tt
 low_step : (ss : Stack) (k : Terminal) → AllLow ss → GoodIfSome (step ss k)
 low_step [] k h = tt
 low_step (UnaryOfBinary ∷ ss) (Name c n) h = h
+low_step (UnaryOfBinary ∷ ss) (OperandMeta AnyName n) h = h
 low_step (UnaryOfBinary ∷ ss) k h = low_step ss k h
 low_step (UnaryOfKeyword ∷ ss) (Name c n) h = h
+low_step (UnaryOfKeyword ∷ ss) (OperandMeta AnyName n) h = h
 low_step (UnaryOfKeyword ∷ ss) (Binary c n) h = h
 low_step (UnaryOfKeyword ∷ ss) k h = low_step ss k h
 low_step (BinaryOfKeyword ∷ ss) (Binary c n) h = h
 low_step (BinaryOfKeyword ∷ ss) k h = low_step ss k h
 low_step (UnaryMessages told ∷ ss) (Name c n) h = h
+low_step (UnaryMessages told ∷ ss) (OperandMeta AnyName n) h = h
 low_step (UnaryMessages told ∷ ss) (Binary c n) h = h
 low_step (UnaryMessages told ∷ ss) (Keyword c n) h = h
+low_step (UnaryMessages told ∷ ss) (MessageMeta n) h = h
 low_step (UnaryMessages told ∷ ss) Semicolon h = good_cascade told ss h
 low_step (UnaryMessages told ∷ ss) k h = low_step ss k h
 low_step (BinaryMessages told ∷ ss) (Binary c n) h = h
 low_step (BinaryMessages told ∷ ss) (Keyword c n) h = h
+low_step (BinaryMessages told ∷ ss) (MessageMeta n) h = h
 low_step (BinaryMessages told ∷ ss) Semicolon h = good_cascade told ss h
 low_step (BinaryMessages told ∷ ss) k h = low_step ss k h
 low_step (KeywordMessages told ∷ ss) (Keyword c n) h = h
+low_step (KeywordMessages told ∷ ss) (MessageMeta n) h = tt
 low_step (KeywordMessages told ∷ ss) Semicolon h = good_cascade told ss h
 low_step (KeywordMessages told ∷ ss) k h = low_step ss k h
+low_step (BehindAnyMessage told ∷ ss) (Keyword c n) h = tt
+low_step (BehindAnyMessage told ∷ ss) (MessageMeta n) h = tt
+low_step (BehindAnyMessage told ∷ ss) Semicolon h = good_cascade told ss h
+low_step (BehindAnyMessage told ∷ ss) k h = low_step ss k h
 low_step (TheCascade ∷ ss) Semicolon h = h
 low_step (TheCascade ∷ ss) k h = low_step ss k h
 low_step (TheElements ∷ ss) (Name c n) h = h
+low_step (TheElements ∷ ss) (Keyword AnyKey n) h = low_step ss (Keyword AnyKey n) h
 low_step (TheElements ∷ ss) (Keyword c n) h = h
 low_step (TheElements ∷ ss) (Binary Sign n) h = h
 low_step (TheElements ∷ ss) (Binary Common n) h = h
@@ -122,16 +135,20 @@ step_keyword_argument k ss h = good_operand k (UnaryOfKeyword ∷ ss) None h tt
 step_super : (k : Terminal) (ss : Stack) → AllLow ss → GoodIfSome (step (BehindFirstSuper ∷ ss) k)
 step_super Assignment ss h = h
 step_super (Name c n) ss h = h
+step_super (OperandMeta AnyName n) ss h = h
 step_super (Binary c n) ss h = h
 step_super (Keyword c n) ss h = h
+step_super (MessageMeta n) ss h = h
 step_super k ss h = tt
 
 -- behind a name
 step_name : (k : Terminal) (ss : Stack) → AllLow ss → GoodIfSome (step (BehindName ∷ ss) k)
 step_name Assignment ss h = h
 step_name (Name c n) ss h = h
+step_name (OperandMeta AnyName n) ss h = h
 step_name (Binary c n) ss h = h
 step_name (Keyword c n) ss h = h
+step_name (MessageMeta n) ss h = h
 step_name Semicolon ss h = tt
 step_name k ss h = low_step ss k h
 
@@ -166,18 +183,26 @@ good_step (TheKeywordArgument ∷ ss) k h = step_keyword_argument k ss h
 good_step (BehindName ∷ ss) k h = step_name k ss h
 good_step (BehindFirstSuper ∷ ss) k h = step_super k ss h
 good_step (BehindSuper ∷ ss) (Name c n) h = h
+good_step (BehindSuper ∷ ss) (OperandMeta AnyName n) h = h
 good_step (BehindSuper ∷ ss) (Binary c n) h = h
 good_step (BehindSuper ∷ ss) (Keyword c n) h = h
+good_step (BehindSuper ∷ ss) (MessageMeta n) h = h
 good_step (BehindSuper ∷ ss) k h = tt
 good_step (BehindSuperOfKeyword ∷ ss) (Name c n) h = h
+good_step (BehindSuperOfKeyword ∷ ss) (OperandMeta AnyName n) h = h
 good_step (BehindSuperOfKeyword ∷ ss) (Binary c n) h = h
 good_step (BehindSuperOfKeyword ∷ ss) k h = tt
 good_step (BehindSuperOfBinary ∷ ss) (Name c n) h = h
+good_step (BehindSuperOfBinary ∷ ss) (OperandMeta AnyName n) h = h
 good_step (BehindSuperOfBinary ∷ ss) k h = tt
 good_step (TheMessage ∷ ss) (Name c n) h = h
+good_step (TheMessage ∷ ss) (OperandMeta AnyName n) h = h
 good_step (TheMessage ∷ ss) (Binary c n) h = h
 good_step (TheMessage ∷ ss) (Keyword c n) h = h
+good_step (TheMessage ∷ ss) (MessageMeta n) h = h
 good_step (TheMessage ∷ ss) k h = tt
+good_step (AnyArgument ∷ ss) (OperandMeta AnyExpression n) h = low_good ss h
+good_step (AnyArgument ∷ ss) k h = tt
 good_step (TheNumeral ∷ ss) (Numeral c n) h = low_good ss h
 good_step (TheNumeral ∷ ss) k h = tt
 good_step (TheBytes ∷ ss) k h = step_bytes k ss h
@@ -228,6 +253,7 @@ low_end (BinaryOfKeyword ∷ ss) h = low_end ss h
 low_end (UnaryMessages told ∷ ss) h = low_end ss h
 low_end (BinaryMessages told ∷ ss) h = low_end ss h
 low_end (KeywordMessages told ∷ ss) h = low_end ss h
+low_end (BehindAnyMessage told ∷ ss) h = low_end ss h
 low_end (TheCascade ∷ ss) h = low_end ss h
 low_end (TheElements ∷ ss) h = low_end ss h
 low_end (FurtherItem ∷ ss) h = low_end ss h
@@ -251,6 +277,7 @@ good_end (BehindSuper ∷ ss) h = tt
 good_end (BehindSuperOfKeyword ∷ ss) h = tt
 good_end (BehindSuperOfBinary ∷ ss) h = tt
 good_end (TheMessage ∷ ss) h = tt
+good_end (AnyArgument ∷ ss) h = tt
 good_end (TheNumeral ∷ ss) h = tt
 good_end (TheParameter ∷ ss) h = tt
 good_end (TheNames ∷ ss) h = tt

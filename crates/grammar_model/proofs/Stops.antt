@@ -6,11 +6,11 @@ use Rattle.tree_model.specs.Tree.{Notes}
 use Rattle.grammar_model.specs.declared.wanted.Wanted.{Wanted}
 use Rattle.grammar_model.specs.Terminal.{PrimitiveKeyword, AnyKeyword, Common, Sign, Less, Greater, Bar, Terminal, Keyword, Binary, Caret}
 use Rattle.grammar_model.specs.Input.{Lexeme, lex, first_kind, kinds}
-use Rattle.grammar_model.specs.Whole.{Form, DoIt, Method}
+use Rattle.grammar_model.specs.Whole.{Form, DoIt, Method, PatternText}
 use Rattle.grammar_model.specs.Stop.{Continues, IsWanted, IsStop, IsUser, IsLess, IsPrimitiveKeyword}
 use Rattle.grammar_model.specs.Checks.{Expected, PrimitiveInUser}
 use Rattle.grammar_model.specs.Spelling.{HasStop, Unexpected, Primitive}
-use Rattle.grammar_model.specs.Machine.{Stack, start, step, run, feeds, ended, wish, may_start, At, is_user, is_primitive, fault_at, BehindName, UnaryOfBinary, UnaryOfKeyword, BinaryOfKeyword, UnaryMessages, BinaryMessages, KeywordMessages, TheCascade, TheElements, TheBytes, TheItems, FurtherItem, TheBlock, TheParameters, TheSequence, TheStatements, BehindStatement, BehindReturn, PatternRest, KernelBody}
+use Rattle.grammar_model.specs.Machine.{Stack, start, step, run, feeds, ended, wish, may_start, At, is_user, is_primitive, fault_at, BehindName, UnaryOfBinary, UnaryOfKeyword, BinaryOfKeyword, UnaryMessages, BinaryMessages, KeywordMessages, BehindAnyMessage, TheCascade, TheElements, TheBytes, TheItems, FurtherItem, TheBlock, TheParameters, TheSequence, TheStatements, BehindStatement, BehindReturn, PatternRest, KernelBody}
 use Rattle.grammar_model.proofs.Stacks.{IsGood, GoodIfSome}
 use Rattle.grammar_model.proofs.Steps.{good_step}
 use Rattle.grammar_model.proofs.Continuing.{feeds_one, goes_on, stops_further, starts_statement, starts_no_statement}
@@ -43,6 +43,7 @@ never (BinaryOfKeyword ∷ ss) l w b h = never ss l w b h
 never (UnaryMessages told ∷ ss) l w b h = never ss l w b h
 never (BinaryMessages told ∷ ss) l w b h = never ss l w b h
 never (KeywordMessages told ∷ ss) l w b h = never ss l w b h
+never (BehindAnyMessage told ∷ ss) l w b h = never ss l w b h
 never (TheCascade ∷ ss) l w b h = never ss l w b h
 never (TheElements ∷ ss) l w b h = never ss l w b h
 never (TheBytes ∷ ss) l w b h = never ss l w b h
@@ -91,11 +92,13 @@ stops_at (lex c g e k ∷ ts) ss left w b h r = stop_step c g e k ts ss (step ss
 -- the stack before a text is good
 pub good_start : (form : Form) → IsGood (start form)
 good_start DoIt = tt
+good_start PatternText = tt
 good_start (Method kernel) = tt
 
 -- whether a primitive begins in a text of a user
 decides_user : (form : Form) (b : Bool) → is_user form ≡ b → (IsUser form ↔ (b ≡ true))
 decides_user DoIt b e = (λ u. sym e, λ t. tt)
+decides_user PatternText b e = (λ u. sym e, λ t. tt)
 decides_user (Method true) b e = (λ u. absurd u, λ t. let k : false ≡ true = e ∙ t in cc)
 decides_user (Method false) b e = (λ u. sym e, λ t. tt)
 

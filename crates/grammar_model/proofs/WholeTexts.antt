@@ -6,13 +6,13 @@ use Rattle.grammar_model.specs.Terminal.{Text, NameKind, KeywordKind, PrimitiveK
 use Rattle.grammar_model.specs.Input.{Lexeme, lex, Input, first_kind, others, kind_of, from_of, next}
 use Rattle.grammar_model.specs.Spanned.{Declared, SpannedStatements, NoStatements}
 use Rattle.grammar_model.specs.Ahead.{Longest}
-use Rattle.grammar_model.specs.Whole.{IsOver, PatternParts, LastPatternPart, FurtherPatternPart, Pattern, UnaryPattern, BinaryPattern, KeywordPattern, MethodBody, WithBars, WithoutBars, Primitive, OnePrimitive, Behind, Plainly, Primitively, Form, DoIt, Method, IsText}
+use Rattle.grammar_model.specs.Whole.{IsOver, PatternParts, LastPatternPart, FurtherPatternPart, Pattern, UnaryPattern, BinaryPattern, KeywordPattern, MethodBody, WithBars, WithoutBars, Primitive, OnePrimitive, Behind, Plainly, Primitively, Form, DoIt, Method, IsText, PatternText}
 use Rattle.grammar_model.specs.Machine.{Stack, TheSequence, TheNames, TheStatements, ThePattern, BinaryName, KeywordName, PatternRest, KernelBody, ThePrimitive, PrimitiveNumber, PrimitiveEnd, Awaits, body_part, run, start}
 use Rattle.grammar_model.proofs.OneWhole.{closing_bracket}
 use Rattle.grammar_model.proofs.Reading.{reads, reads_alike, Takes, takes_closing, as_statements, NoLess, as_body, pattern_end}
-use Rattle.grammar_model.proofs.Recognizes.{reads_Names, reads_Sequence, reads_Statements}
+use Rattle.grammar_model.proofs.Recognizes.{reads_Names, reads_Sequence, reads_Statements, reads_Expression}
 use Rattle.grammar_model.proofs.RecoversLiterals.{Got, place}
-use Rattle.grammar_model.proofs.Recovers.{gets_Names, gets_Sequence, gets_Statements}
+use Rattle.grammar_model.proofs.Recovers.{gets_Names, gets_Sequence, gets_Statements, gets_Expression}
 
 -- the end of the text is awaited
 abbrev bottom : Stack
@@ -76,6 +76,7 @@ reads_Behind (Primitively p) o = reads_Primitive p bottom
 -- a text is read to its end
 pub reads_text : (form : Form) (ts : List Lexeme) → IsText form ts → run (start form) ts ≡ None
 reads_text DoIt ts (s, d) = reads_Sequence d.sequence bottom (takes_end d.over) ∙ reads_end d.over
+reads_text PatternText ts (t, d) = reads_Expression d.expression bottom ∙ reads_end d.over
 reads_text (Method kernel) ts (m, d) = reads_Pattern d.pattern kernel bottom ∙ reads_Behind d.behind d.over ∙ reads_end d.over
 
 -- no token is read where nothing is left
@@ -190,6 +191,10 @@ gets_text DoIt ts r =
     let g = gets_Sequence (16 * length ts + 8) [] 0 ts bottom (le_refl _) r in
     let e = gets_end g.stop.held g.stop.last g.stop.rest g.goes_on in
     (record { temporaries = g.what.0; statements = g.what.1; tail = e.0 }, record { stop = g.stop; sequence = g.spells; over = e.1 })
+gets_text PatternText ts r =
+    let g = gets_Expression (16 * length ts + 8) [] 0 ts bottom (omega arith) r in
+    let e = gets_end g.stop.held g.stop.last g.stop.rest g.goes_on in
+    (g.what, record { stop = g.stop; tail = e.0; expression = g.spells; over = e.1 })
 gets_text (Method kernel) ts r =
     let p = gets_Pattern kernel [] 0 ts bottom r in
     let b = gets_Behind kernel p.stop.held p.stop.last p.stop.rest bottom p.goes_on in

@@ -3,18 +3,22 @@ use Rattle.std.proofs.Common.{◌≡◌, Bool, true, false, List, [], ◌∷◌,
 use Rattle.std.specs.Prelude.{Option}
 use Rattle.std.specs.Option.{option_map_or}
 use Rattle.grammar_model.specs.declared.wanted.Wanted.TheVariants as wanted
-use Rattle.grammar_model.specs.Terminal.{Ordinary, BlockStart, GroupEnd, BlockEnd, BraceEnd, TextEnd, Terminal, Name, Opens, Colon}
-use Rattle.grammar_model.specs.Ahead.{NoName}
+use Rattle.grammar_model.specs.Terminal.{Ordinary, GroupEnd, BlockEnd, BraceEnd, TextEnd, Terminal, Name, OperandMeta, AnyName, AnyExpression}
+use Rattle.grammar_model.specs.Ahead.{NoUnary}
 use Rattle.grammar_model.specs.Whole.{Form}
 use Rattle.grammar_model.specs.Stop.{MayOperand, OnlyName, IsWanted}
-use Rattle.grammar_model.specs.Machine.{Part, Stack, TheExpression, TheArgument, TheKeywordArgument, BehindName, BehindFirstSuper, BehindSuper, BehindSuperOfKeyword, BehindSuperOfBinary, UnaryOfBinary, UnaryOfKeyword, BinaryOfKeyword, UnaryMessages, BinaryMessages, KeywordMessages, TheMessage, TheCascade, TheNumeral, TheElements, TheBytes, TheItems, FurtherItem, TheBlock, TheParameter, TheParameters, TheSequence, TheNames, TheStatements, BehindStatement, BehindReturn, ThePattern, BinaryName, KeywordName, PatternRest, KernelBody, ThePrimitive, PrimitiveNumber, PrimitiveEnd, Awaits, body_part, step, feeds, wish}
+use Rattle.grammar_model.specs.Machine.{Part, Stack, TheExpression, TheArgument, TheKeywordArgument, BehindName, BehindFirstSuper, BehindSuper, BehindSuperOfKeyword, BehindSuperOfBinary, UnaryOfBinary, UnaryOfKeyword, BinaryOfKeyword, UnaryMessages, BinaryMessages, KeywordMessages, TheMessage, TheCascade, TheNumeral, TheElements, TheBytes, TheItems, FurtherItem, TheBlock, TheParameter, TheParameters, TheSequence, TheNames, TheStatements, BehindStatement, BehindReturn, ThePattern, BinaryName, KeywordName, PatternRest, KernelBody, ThePrimitive, PrimitiveNumber, PrimitiveEnd, Awaits, body_part, step, feeds, wish, AnyArgument, BehindAnyMessage}
 use Rattle.grammar_model.proofs.Stacks.{AllLow, IsGood, low_good, IsNaming, CompletesOther, completes_other, digit, GoodIfSome}
 use Rattle.grammar_model.proofs.Steps.{good_step}
 use Rattle.grammar_model.proofs.Continuing.{IsBehind, goes_further, stops_further, goes_first, feeds_one}
 
+-- any expression's metavariable
+abbrev operand : Terminal
+operand = OperandMeta AnyExpression []
+
 -- no operand can begin
-abbrev NoBlock : Stack → Type 0
-NoBlock ss = feeds ss (Opens BlockStart ∷ Colon ∷ []) ≡ None
+abbrev NoOperandHere : Stack → Type 0
+NoOperandHere ss = feeds ss (operand ∷ []) ≡ None
 
 -- two numerals can be read, or not even one
 record ReadsTwo (ss : Stack) : Type 0 where
@@ -26,13 +30,13 @@ record ReadsTwo (ss : Stack) : Type 0 where
 
 -- what low stacks can read
 record LowFacts (ss : Stack) : Type 0 where
-  operand : NoBlock ss
+  no_operand : NoOperandHere ss
   numbers : ((wish ss ≡ wanted.Element) × ReadsTwo ss) ⊎ ((wish ss ≡ wanted.End) × (step ss digit ≡ None))
 
 -- a part that lets what begins operands pass has the facts of what stands below
-passing_facts : (p : Part) (ss : Stack) → step (p ∷ ss) (Opens BlockStart) ≡ step ss (Opens BlockStart) → step (p ∷ ss) digit ≡ step ss digit → wish (p ∷ ss) ≡ wish ss → LowFacts ss → LowFacts (p ∷ ss)
+passing_facts : (p : Part) (ss : Stack) → step (p ∷ ss) operand ≡ step ss operand → step (p ∷ ss) digit ≡ step ss digit → wish (p ∷ ss) ≡ wish ss → LowFacts ss → LowFacts (p ∷ ss)
 passing_facts p ss block number same f = record {
-  operand = ap (λ o. option_map_or (λ s. feeds s (Colon ∷ [])) o None) block ∙ f.operand;
+  no_operand = ap (λ o. option_map_or (λ s. feeds s []) o None) block ∙ f.no_operand;
   numbers = elim f.numbers [
     | inl e ↦ inl (same ∙ e.0, record { one = e.1.one; two = e.1.two; first = number ∙ e.1.first; second = e.1.second; good = e.1.good })
     | inr n ↦ inr (same ∙ n.0, number ∙ n.1)
@@ -48,21 +52,22 @@ low_facts (BinaryOfKeyword ∷ ss) h = passing_facts BinaryOfKeyword ss refl ref
 low_facts (UnaryMessages told ∷ ss) h = passing_facts (UnaryMessages told) ss refl refl refl (low_facts ss h)
 low_facts (BinaryMessages told ∷ ss) h = passing_facts (BinaryMessages told) ss refl refl refl (low_facts ss h)
 low_facts (KeywordMessages told ∷ ss) h = passing_facts (KeywordMessages told) ss refl refl refl (low_facts ss h)
+low_facts (BehindAnyMessage told ∷ ss) h = passing_facts (BehindAnyMessage told) ss refl refl refl (low_facts ss h)
 low_facts (TheCascade ∷ ss) h = passing_facts TheCascade ss refl refl refl (low_facts ss h)
 low_facts (FurtherItem ∷ ss) h = passing_facts FurtherItem ss refl refl refl (low_facts ss h)
 low_facts (BehindStatement ∷ ss) h = passing_facts BehindStatement ss refl refl refl (low_facts ss h)
 low_facts (BehindReturn ∷ ss) h = passing_facts BehindReturn ss refl refl refl (low_facts ss h)
-low_facts (TheElements ∷ ss) h = record { operand = refl; numbers = inl (refl, record { one = TheElements ∷ ss; two = TheElements ∷ ss; first = refl; second = refl; good = h }) }
-low_facts (Awaits GroupEnd ∷ ss) h = record { operand = refl; numbers = inr (refl, refl) }
-low_facts (Awaits BlockEnd ∷ ss) h = record { operand = refl; numbers = inr (refl, refl) }
-low_facts (Awaits BraceEnd ∷ ss) h = record { operand = refl; numbers = inr (refl, refl) }
-low_facts (Awaits TextEnd ∷ []) h = record { operand = refl; numbers = inr (refl, refl) }
+low_facts (TheElements ∷ ss) h = record { no_operand = (low_facts ss h).no_operand; numbers = inl (refl, record { one = TheElements ∷ ss; two = TheElements ∷ ss; first = refl; second = refl; good = h }) }
+low_facts (Awaits GroupEnd ∷ ss) h = record { no_operand = refl; numbers = inr (refl, refl) }
+low_facts (Awaits BlockEnd ∷ ss) h = record { no_operand = refl; numbers = inr (refl, refl) }
+low_facts (Awaits BraceEnd ∷ ss) h = record { no_operand = refl; numbers = inr (refl, refl) }
+low_facts (Awaits TextEnd ∷ []) h = record { no_operand = refl; numbers = inr (refl, refl) }
 low_facts (Awaits TextEnd ∷ p ∷ ss) h = absurd h
 low_facts (p ∷ ss) h = absurd h
 
 -- no operand can begin
-no_operand : (form : Form) (p : List Terminal) (ss : Stack) → IsBehind form p ss → NoBlock ss → ¬ MayOperand form p
-no_operand form p ss b n = stops_further form p (Opens BlockStart ∷ Colon ∷ []) ss b n
+no_operand : (form : Form) (p : List Terminal) (ss : Stack) → IsBehind form p ss → NoOperandHere ss → ¬ MayOperand form p
+no_operand form p ss b n = stops_further form p (operand ∷ []) ss b n
 
 -- another token than an identifier can stand
 not_only_name : (form : Form) (p : List Terminal) (ss : Stack) → IsBehind form p ss → CompletesOther ss → ¬ OnlyName form p
@@ -77,18 +82,18 @@ feeds_none : (ss : Stack) → step ss digit ≡ None → feeds ss (digit ∷ dig
 feeds_none ss e = ap (λ x. option_map_or (λ s. feeds s (digit ∷ [])) x None) e
 
 -- nothing but an end is wanted
-wants_end : (form : Form) (p : List Terminal) (ss : Stack) → IsBehind form p ss → CompletesOther ss → NoBlock ss → feeds ss (digit ∷ digit ∷ []) ≡ None → IsWanted form p wanted.End
+wants_end : (form : Form) (p : List Terminal) (ss : Stack) → IsBehind form p ss → CompletesOther ss → NoOperandHere ss → feeds ss (digit ∷ digit ∷ []) ≡ None → IsWanted form p wanted.End
 wants_end form p ss b z block numbers = (no_operand form p ss b block, not_only_name form p ss b z, stops_further form p (digit ∷ digit ∷ []) ss b numbers)
 
 -- an element is wanted
-wants_element : (form : Form) (p : List Terminal) (ss : Stack) → IsBehind form p ss → CompletesOther ss → NoBlock ss → ReadsTwo ss → IsWanted form p wanted.Element
+wants_element : (form : Form) (p : List Terminal) (ss : Stack) → IsBehind form p ss → CompletesOther ss → NoOperandHere ss → ReadsTwo ss → IsWanted form p wanted.Element
 wants_element form p ss b z block r = (no_operand form p ss b block, not_only_name form p ss b z, goes_further form p (digit ∷ digit ∷ []) ss r.two b (feeds_two ss r.one (Some r.two) r.first r.second) r.good)
 
 -- what low facts say is wanted
 wants_low : (form : Form) (p : List Terminal) (ss : Stack) → IsBehind form p ss → CompletesOther ss → LowFacts ss → IsWanted form p (wish ss)
 wants_low form p ss b z f = elim f.numbers [
-  | inl e ↦ subst (IsWanted form p) (sym e.0) (wants_element form p ss b z f.operand e.1)
-  | inr n ↦ subst (IsWanted form p) (sym n.0) (wants_end form p ss b z f.operand (feeds_none ss n.1))
+  | inl e ↦ subst (IsWanted form p) (sym e.0) (wants_element form p ss b z f.no_operand e.1)
+  | inr n ↦ subst (IsWanted form p) (sym n.0) (wants_end form p ss b z f.no_operand (feeds_none ss n.1))
 ]
 
 -- behind a sign stands one numeral; another could follow only in an array
@@ -112,9 +117,10 @@ wants_behind_sign form p ss h b z = elim (sign_facts ss h (low_facts ss h)) [
 ]
 
 -- what reads only an identifier
-only_names : (ss : Stack) (k : Terminal) → IsNaming ss → NoName k → step ss k ≡ None
+only_names : (ss : Stack) (k : Terminal) → IsNaming ss → NoUnary k → step ss k ≡ None
 only_names [] k h n = absurd h
 only_names (BehindSuperOfBinary ∷ ss) (Name c m) h n = absurd n
+only_names (BehindSuperOfBinary ∷ ss) (OperandMeta AnyName m) h n = absurd n
 only_names (BehindSuperOfBinary ∷ ss) k h n = refl
 only_names (TheParameter ∷ ss) (Name c m) h n = absurd n
 only_names (TheParameter ∷ ss) k h n = refl
@@ -125,7 +131,7 @@ only_names (KeywordName kernel ∷ ss) k h n = refl
 only_names (p ∷ ss) k h n = absurd h
 
 -- an identifier is wanted
-wants_name : (form : Form) (p : List Terminal) (ss to : Stack) → IsNaming ss → IsBehind form p ss → NoBlock ss → step ss (Name Ordinary []) ≡ Some to → IsGood to → IsWanted form p wanted.Identifier
+wants_name : (form : Form) (p : List Terminal) (ss to : Stack) → IsNaming ss → IsBehind form p ss → NoOperandHere ss → step ss (Name Ordinary []) ≡ Some to → IsGood to → IsWanted form p wanted.Identifier
 wants_name form p ss to h b block e good = (
   no_operand form p ss b block,
   (
@@ -135,8 +141,8 @@ wants_name form p ss to h b block e good = (
 )
 
 -- an operand is wanted
-wants_operand : (form : Form) (p : List Terminal) (ss to : Stack) → IsBehind form p ss → feeds ss (Opens BlockStart ∷ Colon ∷ []) ≡ Some to → IsGood to → IsWanted form p wanted.Operand
-wants_operand form p ss to b e good = goes_further form p (Opens BlockStart ∷ Colon ∷ []) ss to b e good
+wants_operand : (form : Form) (p : List Terminal) (ss to : Stack) → IsBehind form p ss → feeds ss (operand ∷ []) ≡ Some to → IsGood to → IsWanted form p wanted.Operand
+wants_operand form p ss to b e good = goes_further form p (operand ∷ []) ss to b e good
 
 -- before a method's body
 good_body_part : (kernel : Bool) (ss : Stack) → AllLow ss → IsGood (body_part kernel ∷ ss)
@@ -149,6 +155,7 @@ wishes form p [] h b = (no_operand form p [] b refl, (λ only. stops_further for
 wishes form p (TheExpression ∷ ss) h b = wants_operand form p (TheExpression ∷ ss) _ b refl h
 wishes form p (TheArgument ∷ ss) h b = wants_operand form p (TheArgument ∷ ss) _ b refl h
 wishes form p (TheKeywordArgument ∷ ss) h b = wants_operand form p (TheKeywordArgument ∷ ss) _ b refl h
+wishes form p (AnyArgument ∷ ss) h b = wants_operand form p (AnyArgument ∷ ss) _ b refl (low_good ss h)
 wishes form p (TheItems ∷ ss) h b = wants_operand form p (TheItems ∷ ss) _ b refl h
 wishes form p (TheBlock ∷ ss) h b = wants_operand form p (TheBlock ∷ ss) _ b refl h
 wishes form p (TheSequence ∷ ss) h b = wants_operand form p (TheSequence ∷ ss) _ b refl h
@@ -160,7 +167,7 @@ wishes form p (BehindSuperOfBinary ∷ ss) h b = wants_name form p (BehindSuperO
 wishes form p (TheParameter ∷ ss) h b = wants_name form p (TheParameter ∷ ss) _ tt b refl refl h
 wishes form p (BinaryName kernel ∷ ss) h b = wants_name form p (BinaryName kernel ∷ ss) (body_part kernel ∷ ss) tt b refl refl (good_body_part kernel ss h)
 wishes form p (KeywordName kernel ∷ ss) h b = wants_name form p (KeywordName kernel ∷ ss) (PatternRest kernel ∷ ss) tt b refl refl h
-wishes form p (TheBytes ∷ ss) h b = wants_element form p (TheBytes ∷ ss) b (completes_other (TheBytes ∷ ss) h (λ n. n) (λ n. n)) (low_facts ss h).operand (record { one = TheBytes ∷ ss; two = TheBytes ∷ ss; first = refl; second = refl; good = h })
+wishes form p (TheBytes ∷ ss) h b = wants_element form p (TheBytes ∷ ss) b (completes_other (TheBytes ∷ ss) h (λ n. n) (λ n. n)) (low_facts ss h).no_operand (record { one = TheBytes ∷ ss; two = TheBytes ∷ ss; first = refl; second = refl; good = h })
 wishes form p (TheNumeral ∷ ss) h b = wants_behind_sign form p ss h b (completes_other (TheNumeral ∷ ss) h (λ n. n) (λ n. n))
 wishes form p (BehindName ∷ ss) h b = wants_low form p (BehindName ∷ ss) b (completes_other (BehindName ∷ ss) h (λ n. n) (λ n. n)) (passing_facts BehindName ss refl refl refl (low_facts ss h))
 wishes form p (TheParameters ∷ ss) h b = wants_low form p (TheParameters ∷ ss) b (completes_other (TheParameters ∷ ss) h (λ n. n) (λ n. n)) (passing_facts TheParameters ss refl refl refl (low_facts ss h))
@@ -170,6 +177,7 @@ wishes form p (BinaryOfKeyword ∷ ss) h b = wants_low form p (BinaryOfKeyword �
 wishes form p (UnaryMessages told ∷ ss) h b = wants_low form p (UnaryMessages told ∷ ss) b (completes_other (UnaryMessages told ∷ ss) h (λ n. n) (λ n. n)) (low_facts (UnaryMessages told ∷ ss) h)
 wishes form p (BinaryMessages told ∷ ss) h b = wants_low form p (BinaryMessages told ∷ ss) b (completes_other (BinaryMessages told ∷ ss) h (λ n. n) (λ n. n)) (low_facts (BinaryMessages told ∷ ss) h)
 wishes form p (KeywordMessages told ∷ ss) h b = wants_low form p (KeywordMessages told ∷ ss) b (completes_other (KeywordMessages told ∷ ss) h (λ n. n) (λ n. n)) (low_facts (KeywordMessages told ∷ ss) h)
+wishes form p (BehindAnyMessage told ∷ ss) h b = wants_low form p (BehindAnyMessage told ∷ ss) b (completes_other (BehindAnyMessage told ∷ ss) h (λ n. n) (λ n. n)) (low_facts (BehindAnyMessage told ∷ ss) h)
 wishes form p (TheCascade ∷ ss) h b = wants_low form p (TheCascade ∷ ss) b (completes_other (TheCascade ∷ ss) h (λ n. n) (λ n. n)) (low_facts (TheCascade ∷ ss) h)
 wishes form p (FurtherItem ∷ ss) h b = wants_low form p (FurtherItem ∷ ss) b (completes_other (FurtherItem ∷ ss) h (λ n. n) (λ n. n)) (low_facts (FurtherItem ∷ ss) h)
 wishes form p (BehindStatement ∷ ss) h b = wants_low form p (BehindStatement ∷ ss) b (completes_other (BehindStatement ∷ ss) h (λ n. n) (λ n. n)) (low_facts (BehindStatement ∷ ss) h)

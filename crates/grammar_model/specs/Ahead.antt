@@ -1,5 +1,5 @@
 -- Which tokens go on with a row.
-use Rattle.grammar_model.specs.Terminal.{Terminal, Name, Keyword, Binary, Numeral, Constant, Opens, Assignment, Colon, Semicolon, Period, Caret, Sign, Bar, SmallDigits, LargeDigits, BraceStart}
+use Rattle.grammar_model.specs.Terminal.{Terminal, Name, Keyword, Binary, Numeral, Constant, Opens, Assignment, Colon, Semicolon, Period, Caret, Sign, Bar, SmallDigits, LargeDigits, BraceStart, OperandMeta, AnyName, StatementMeta, MessageMeta, AnyKey}
 
 -- Whether rows are as long as they can be, or may end anywhere: the second is the grammar as it is written down.
 pub data Rows : Type 0 where
@@ -16,10 +16,22 @@ abbrev pub NoName : Terminal → Type 0
 NoName (Name c n) = ⊥
 NoName k = Unit {0}
 
+-- nothing that is a unary selector
+abbrev pub NoUnary : Terminal → Type 0
+NoUnary (Name c n) = ⊥
+NoUnary (OperandMeta AnyName n) = ⊥
+NoUnary k = Unit {0}
+
 -- no keyword
 abbrev pub NoKeyword : Terminal → Type 0
 NoKeyword (Keyword c n) = ⊥
 NoKeyword k = Unit {0}
+
+-- nothing that begins a keyword message
+abbrev pub NoKey : Terminal → Type 0
+NoKey (Keyword c n) = ⊥
+NoKey (MessageMeta n) = ⊥
+NoKey k = Unit {0}
 
 -- no binary selector
 abbrev pub NoBinary : Terminal → Type 0
@@ -61,6 +73,7 @@ NoDigits k = Unit {0}
 -- an element of an array begins with none of these
 abbrev pub NoElement : Terminal → Type 0
 NoElement (Opens BraceStart) = Unit {0}
+NoElement (Keyword AnyKey n) = Unit {0}
 NoElement (Name c n) = ⊥
 NoElement (Keyword c n) = ⊥
 NoElement (Binary c s) = ⊥
@@ -76,6 +89,7 @@ IsOperandStart (Binary Sign s) = Unit {0}
 IsOperandStart (Numeral c t) = Unit {0}
 IsOperandStart (Constant l) = Unit {0}
 IsOperandStart (Opens o) = Unit {0}
+IsOperandStart (OperandMeta m n) = Unit {0}
 IsOperandStart k = ⊥
 
 -- an operand begins with none of these
@@ -85,6 +99,7 @@ NoOperand (Binary Sign s) = ⊥
 NoOperand (Numeral c t) = ⊥
 NoOperand (Constant l) = ⊥
 NoOperand (Opens o) = ⊥
+NoOperand (OperandMeta m n) = ⊥
 NoOperand k = Unit {0}
 
 -- a statement begins with none of these, and none of these is a period
@@ -94,6 +109,8 @@ NoStatement (Binary Sign s) = ⊥
 NoStatement (Numeral c t) = ⊥
 NoStatement (Constant l) = ⊥
 NoStatement (Opens o) = ⊥
+NoStatement (StatementMeta n) = ⊥
+NoStatement (OperandMeta m n) = ⊥
 NoStatement Caret = ⊥
 NoStatement Period = ⊥
 NoStatement k = Unit {0}

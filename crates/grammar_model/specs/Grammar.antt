@@ -2,11 +2,11 @@
 -- A brace is a token in the second dialect alone, so a text of the first has no brace array.
 use Rattle.std.specs.Prelude.{◌≡◌, ℕ, List, [], ◌∷◌, ◌++◌}
 use Rattle.tree_model.specs.Tree.{Notes, LiteralOf}
-use Rattle.grammar_model.specs.Terminal.{Text, NameKind, KeywordKind, BinaryKind, Name, Keyword, Binary, Opens, Closes, Assignment, Colon, Semicolon, Period, Caret, Ordinary, Super, Bar, Group, BlockStart, BraceStart, GroupEnd, BlockEnd, BraceEnd}
+use Rattle.grammar_model.specs.Terminal.{Text, NameKind, KeywordKind, BinaryKind, Name, Keyword, Binary, Opens, Closes, Assignment, Colon, Semicolon, Period, Caret, Ordinary, Super, Bar, Group, BlockStart, BraceStart, GroupEnd, BlockEnd, BraceEnd, OperandMark, OperandMeta, AnyName, AnyExpression, StatementMeta, MessageMeta}
 use Rattle.grammar_model.specs.Input.{Input, kind_of, from_of, next, clear, back}
 use Rattle.grammar_model.specs.Spanned.{Declared, SpannedTree, Var, Literal, Cascade, Assign, Block, Brace, Return, SpannedTrees, NoTrees, MoreTrees, one_tree, SpannedMessages, NoMessages, MoreMessages, SpannedStatements, NoStatements, MoreStatements}
 use Rattle.grammar_model.specs.Chain.{Chain, Waiting, Alone, Told, whole, sent, IsWhole}
-use Rattle.grammar_model.specs.Ahead.{Rows, Ends, NoName, NoKeyword, NoBinary, NoBar, NoSemicolon, NoColon, NoPeriod, NoOperand, NoStatement, NoAssignment}
+use Rattle.grammar_model.specs.Ahead.{Rows, Ends, NoName, NoKey, NoBinary, NoBar, NoSemicolon, NoColon, NoPeriod, NoOperand, NoStatement, NoAssignment, NoUnary}
 use Rattle.grammar_model.specs.Literals.{LiteralAt}
 
 -- periods
@@ -40,6 +40,7 @@ mutual
   pub data Operand (a : Rows) : Input → Chain → Input → Type 0 where
     Variable : {i : Input} {n : Text} → kind_of i ≡ Name Ordinary n → Operand a i (Alone (Var (from_of i) (next i).last n)) (next i)
     SuperName : {i : Input} {n : Text} → kind_of i ≡ Name Super n → Operand a i (Waiting (from_of i) (next i).last n) (next i)
+    MetaOperand : {i : Input} {m : OperandMark} {n : Text} → kind_of i ≡ OperandMeta m n → Operand a i (Alone (Var (from_of i) (next i).last n)) (next i)
     LiteralOperand : {i j : Input} {l : LiteralOf Text} → LiteralAt a i l j → Operand a i (Alone (Literal (from_of i) j.last l)) j
     Grouped : {i m : Input} {t : SpannedTree} → kind_of i ≡ Opens Group → Expression a (next i) t m → kind_of m ≡ Closes GroupEnd → Operand a i (Alone t) (next m)
     -- the comments in a block are its own
@@ -50,7 +51,8 @@ mutual
   -- unary messages; the number is where the text of the receiver begins
   pub data Unaries (a : Rows) : ℕ → Chain → Input → Chain → Input → Type 0 where
     OneUnary : {f : ℕ} {i j : Input} {c : NameKind} {n : Text} {r u : Chain} → kind_of i ≡ Name c n → Unaries a f (sent f (next i).last r n NoTrees) (next i) u j → Unaries a f r i u j
-    NoUnaries : {f : ℕ} {i : Input} {r : Chain} → Ends a (NoName (kind_of i)) → Unaries a f r i r i
+    AnyUnary : {f : ℕ} {i j : Input} {n : Text} {r u : Chain} → kind_of i ≡ OperandMeta AnyName n → Unaries a f (sent f (next i).last r n NoTrees) (next i) u j → Unaries a f r i u j
+    NoUnaries : {f : ℕ} {i : Input} {r : Chain} → Ends a (NoUnary (kind_of i)) → Unaries a f r i r i
 
   -- binary messages
   pub data Binaries (a : Rows) : ℕ → Chain → Input → Chain → Input → Type 0 where
@@ -60,11 +62,17 @@ mutual
   -- a keyword message, or none
   pub data Keywords (a : Rows) : ℕ → Chain → Input → Chain → Input → Type 0 where
     OneKeywords : {f : ℕ} {i j : Input} {s : Text} {xs : SpannedTrees} {r : Chain} → Parts a i s xs j → Keywords a f r i (sent f j.last r s xs) j
-    NoKeywords : {f : ℕ} {i : Input} {r : Chain} → Ends a (NoKeyword (kind_of i)) → Keywords a f r i r i
+    AnyKeywords : {f : ℕ} {i j : Input} {s : Text} {xs : SpannedTrees} {r : Chain} → AnyMessage a i s xs j → Keywords a f r i (sent f j.last r s xs) j
+    NoKeywords : {f : ℕ} {i : Input} {r : Chain} → Ends a (NoKey (kind_of i)) → Keywords a f r i r i
+
+  -- any message, which ends the row of keywords that it stands for
+  pub data AnyMessage (a : Rows) : Input → Text → SpannedTrees → Input → Type 0 where
+    WholeMessage : {i : Input} {k n : Text} → kind_of i ≡ MessageMeta k → kind_of (next i) ≡ OperandMeta AnyExpression n → Ends a (NoKey (kind_of (next (next i)))) →
+        AnyMessage a i k (one_tree (Var (from_of (next i)) (next (next i)).last n)) (next (next i))
 
   -- keywords, each with its argument
   pub data Parts (a : Rows) : Input → Text → SpannedTrees → Input → Type 0 where
-    LastPart : {i j : Input} {c : KeywordKind} {k : Text} {x : SpannedTree} → kind_of i ≡ Keyword c k → KeywordArgument a (next i) x j → Ends a (NoKeyword (kind_of j)) → Parts a i k (one_tree x) j
+    LastPart : {i j : Input} {c : KeywordKind} {k : Text} {x : SpannedTree} → kind_of i ≡ Keyword c k → KeywordArgument a (next i) x j → Ends a (NoKey (kind_of j)) → Parts a i k (one_tree x) j
     FurtherPart : {i m j : Input} {c : KeywordKind} {k s : Text} {x : SpannedTree} {xs : SpannedTrees} → kind_of i ≡ Keyword c k → KeywordArgument a (next i) x m → Parts a m s xs j → Parts a i (k ++ s) (MoreTrees x xs) j
 
   -- the argument of a binary message: an operand with unary messages
@@ -88,8 +96,10 @@ mutual
   -- one message of a cascade
   pub data Message (a : Rows) : Input → Text → SpannedTrees → Input → Type 0 where
     UnaryMessage : {i : Input} {c : NameKind} {n : Text} → kind_of i ≡ Name c n → Message a i n NoTrees (next i)
+    AnyUnaryMessage : {i : Input} {n : Text} → kind_of i ≡ OperandMeta AnyName n → Message a i n NoTrees (next i)
     BinaryMessage : {i j : Input} {c : BinaryKind} {s : Text} {x : SpannedTree} → kind_of i ≡ Binary c s → Argument a (next i) x j → Message a i s (one_tree x) j
     KeywordMessage : {i j : Input} {s : Text} {xs : SpannedTrees} → Parts a i s xs j → Message a i s xs j
+    AnyKeywordMessage : {i j : Input} {s : Text} {xs : SpannedTrees} → AnyMessage a i s xs j → Message a i s xs j
 
   -- the expressions of a brace array, with periods between them; one more period may stand behind the last
   pub data Items (a : Rows) : Input → SpannedTrees → Input → Type 0 where
@@ -116,6 +126,7 @@ mutual
     BlankPeriod : {i j : Input} {ss : SpannedStatements} → kind_of i ≡ Period → Statements a (next i) ss j → Statements a i ss j
     NoMore : {i : Input} → Ends a (NoStatement (kind_of i)) → Statements a i NoStatements i
     Returned : {i m j : Input} {t : SpannedTree} {c : Notes} → kind_of i ≡ Caret → Expression a (next i) t m → Finish a m c j → Statements a i (MoreStatements c (from_of i) (Return (from_of i) m.last t) NoStatements) j
+    AnyStatement : {i j : Input} {n : Text} {c : Notes} {ss : SpannedStatements} → kind_of i ≡ StatementMeta n → After a (next i) c ss j → Statements a i (MoreStatements c (from_of i) (Var (from_of i) (next i).last n) ss) j
     OneStatement : {i m j : Input} {t : SpannedTree} {c : Notes} {ss : SpannedStatements} → Expression a i t m → After a m c ss j → Statements a i (MoreStatements c (from_of i) t ss) j
 
   -- what stands behind a statement; the comments before its period are its own

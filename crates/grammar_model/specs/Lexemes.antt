@@ -82,13 +82,17 @@ abbrev pub begins_numeral : ℕ → List Piece → Bool
 begins_numeral at [] = false
 begins_numeral at (p ∷ ps) = is_numeral p.kind && (p.from == at)
 
+-- the tokens of a text, seen so one by one, the comments before the first of them in front
+abbrev pub lexemes_by : (TokenKind → Text → Bool → Option Terminal) → Text → Notes → List Piece → List Lexeme
+lexemes_by seen t held [] = []
+lexemes_by seen t held (p ∷ ps) =
+    option_map_or (λ k. lex held p.from p.to k ∷ lexemes_by seen t [] ps)
+    (seen p.kind (slice_range t p.from p.to) (begins_numeral p.to ps))
+    (lexemes_by seen t (held ++ slice_range t p.from p.to ∷ []) ps)
+
 -- the tokens of a text as the grammar sees them, the comments before the first of them in front
 abbrev pub lexemes_of : Text → Notes → List Piece → List Lexeme
-lexemes_of t held [] = []
-lexemes_of t held (p ∷ ps) =
-    option_map_or (λ k. lex held p.from p.to k ∷ lexemes_of t [] ps)
-    (terminal_of p.kind (slice_range t p.from p.to) (begins_numeral p.to ps))
-    (lexemes_of t (held ++ slice_range t p.from p.to ∷ []) ps)
+lexemes_of t held ps = lexemes_by terminal_of t held ps
 
 -- the text has no lexical fault, and the grammar sees these tokens of it
 pub record IsLexed (d : Dialect) (t : Text) (ts : List Lexeme) : Type 0 where

@@ -9,8 +9,10 @@ pub mod Grammar
 pub mod Whole
 pub mod Stop
 pub mod Lexemes
+pub mod PatternTokens
 pub mod Checks
 pub mod Spelling
 pub mod Machine
 pub mod Examples
+pub mod PatternExamples
 pub mod Spans

@@ -1,7 +1,7 @@
 -- Literals: from one place on a literal is spelled up to another place.
 use Rattle.std.specs.Prelude.{◌≡◌, ◌++◌, if◌then◌else◌}
 use Rattle.tree_model.specs.Tree.{LiteralOf, number, symbol, array, bytes, word, LiteralsOf, no_literals, more_literals}
-use Rattle.grammar_model.specs.Terminal.{Text, NameKind, KeywordKind, BinaryKind, NumeralKind, Terminal, Name, Keyword, Binary, Numeral, Constant, Opens, Closes, Sign, Group, BlockStart, ArrayStart, BytesStart, GroupEnd, BlockEnd}
+use Rattle.grammar_model.specs.Terminal.{Text, NameKind, KeywordKind, BinaryKind, NumeralKind, Terminal, Name, Keyword, Binary, Numeral, Constant, Opens, Closes, Sign, Group, BlockStart, ArrayStart, BytesStart, GroupEnd, BlockEnd, AnyKey}
 use Rattle.grammar_model.specs.Input.{Input, kind_of, from_of, next}
 use Rattle.grammar_model.specs.Ahead.{Rows, Ends, IsDigits, NoDigits, NoElement}
 use Rattle.grammar_model.specs.Words.{is_literal_word}
@@ -12,6 +12,7 @@ word_or_symbol n = if is_literal_word n then word n else symbol n
 
 -- a keyword
 abbrev pub IsKeyword : Terminal → Type 0
+IsKeyword (Keyword AnyKey k) = ⊥
 IsKeyword (Keyword c k) = Unit {0}
 IsKeyword k = ⊥
 
@@ -25,10 +26,15 @@ pub record IsJoined (i : Input) : Type 0 where
   pub keyword : IsKeyword (kind_of (next i))
   pub at : from_of (next i) ≡ (next i).last
 
+-- a keyword that is no metavariable
+abbrev pub NoAnyKey : KeywordKind → Type 0
+NoAnyKey AnyKey = ⊥
+NoAnyKey c = Unit {0}
+
 -- the longest row of keywords with no byte between them
 pub data KeywordRow : Input → Text → Input → Type 0 where
-  LastKeyword : {i : Input} {c : KeywordKind} {k : Text} → kind_of i ≡ Keyword c k → ¬ IsJoined i → KeywordRow i k (next i)
-  JoinedKeyword : {i j : Input} {c : KeywordKind} {k s : Text} → kind_of i ≡ Keyword c k → IsJoined i → KeywordRow (next i) s j → KeywordRow i (k ++ s) j
+  LastKeyword : {i : Input} {c : KeywordKind} {k : Text} → kind_of i ≡ Keyword c k → NoAnyKey c → ¬ IsJoined i → KeywordRow i k (next i)
+  JoinedKeyword : {i j : Input} {c : KeywordKind} {k s : Text} → kind_of i ≡ Keyword c k → NoAnyKey c → IsJoined i → KeywordRow (next i) s j → KeywordRow i (k ++ s) j
 
 -- what stands in a byte array: numerals of digits alone
 pub data ByteElements (a : Rows) : Input → LiteralsOf Text → Input → Type 0 where

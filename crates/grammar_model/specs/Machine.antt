@@ -3,9 +3,9 @@ use Rattle.std.specs.Prelude.{Bool, true, false, ◌&&◌, if◌then◌else◌, 
 use Rattle.std.specs.Option.{option_map_or}
 use Rattle.grammar_model.specs.declared.wanted.Wanted.{Wanted}
 use Rattle.grammar_model.specs.declared.wanted.Wanted.TheVariants as wanted
-use Rattle.grammar_model.specs.Terminal.{Ordinary, Super, PrimitiveKeyword, Sign, Less, Greater, Bar, SmallDigits, LargeDigits, Group, BlockStart, BraceStart, ArrayStart, BytesStart, Closing, GroupEnd, BlockEnd, BraceEnd, TextEnd, Terminal, Name, Keyword, Binary, Numeral, Constant, Opens, Closes, Assignment, Colon, Semicolon, Period, Caret}
+use Rattle.grammar_model.specs.Terminal.{Ordinary, Super, PrimitiveKeyword, Sign, Less, Greater, Bar, SmallDigits, LargeDigits, Group, BlockStart, BraceStart, ArrayStart, BytesStart, Closing, GroupEnd, BlockEnd, BraceEnd, TextEnd, Terminal, Name, Keyword, Binary, Numeral, Constant, Opens, Closes, Assignment, Colon, Semicolon, Period, Caret, OperandMeta, AnyName, AnyExpression, StatementMeta, MessageMeta, AnyKey}
 use Rattle.grammar_model.specs.Input.{Lexeme, lex, first_from, first_kind, others}
-use Rattle.grammar_model.specs.Whole.{Form, DoIt, Method}
+use Rattle.grammar_model.specs.Whole.{Form, DoIt, Method, PatternText}
 use Rattle.grammar_model.specs.Checks.{Fault, Expected, PrimitiveInUser}
 
 -- What may come next. A flag of messages says that a message was sent from which a cascade can go on, and one of patterns that the method is of the kernel.
@@ -28,6 +28,9 @@ pub data Part : Type 0 where
   BinaryMessages : Bool → Part
   KeywordMessages : Bool → Part
   TheMessage : Part
+  -- the operand of any message, and behind it, where no keyword may follow
+  AnyArgument : Part
+  BehindAnyMessage : Bool → Part
   TheCascade : Part
   TheNumeral : Part
   TheElements : Part
@@ -66,6 +69,7 @@ begin_operand (Opens BlockStart) ss other = Some (TheBlock ∷ Awaits BlockEnd �
 begin_operand (Opens BraceStart) ss other = Some (TheItems ∷ Awaits BraceEnd ∷ ss)
 begin_operand (Opens ArrayStart) ss other = Some (TheElements ∷ Awaits GroupEnd ∷ ss)
 begin_operand (Opens BytesStart) ss other = Some (TheBytes ∷ Awaits BlockEnd ∷ ss)
+begin_operand (OperandMeta m n) ss other = Some ss
 begin_operand k ss other = other
 
 -- behind the first token of an expression
@@ -78,6 +82,7 @@ begin_expression k ss other = begin_operand k (UnaryMessages false ∷ ss) other
 abbrev pub begin_statement : Terminal → Stack → Option Stack → Option Stack
 begin_statement Period ss other = Some (TheStatements ∷ ss)
 begin_statement Caret ss other = Some (TheExpression ∷ BehindReturn ∷ ss)
+begin_statement (StatementMeta n) ss other = Some (BehindStatement ∷ ss)
 begin_statement k ss other = begin_expression k (BehindStatement ∷ ss) other
 
 -- behind the first token of a sequence
@@ -112,52 +117,75 @@ step (TheKeywordArgument ∷ ss) (Name Super n) = Some (BehindSuperOfKeyword ∷
 step (TheKeywordArgument ∷ ss) k = begin_operand k (UnaryOfKeyword ∷ ss) None
 step (BehindName ∷ ss) Assignment = Some (TheExpression ∷ ss)
 step (BehindName ∷ ss) (Name c n) = Some (UnaryMessages true ∷ ss)
+step (BehindName ∷ ss) (OperandMeta AnyName n) = Some (UnaryMessages true ∷ ss)
 step (BehindName ∷ ss) (Binary c s) = Some (TheArgument ∷ BinaryMessages true ∷ ss)
 step (BehindName ∷ ss) (Keyword c s) = Some (TheKeywordArgument ∷ KeywordMessages true ∷ ss)
+step (BehindName ∷ ss) (MessageMeta s) = Some (AnyArgument ∷ BehindAnyMessage true ∷ ss)
 step (BehindName ∷ ss) Semicolon = None
 step (BehindName ∷ ss) k = step ss k
 step (BehindFirstSuper ∷ ss) Assignment = Some (TheExpression ∷ ss)
 step (BehindFirstSuper ∷ ss) (Name c n) = Some (UnaryMessages false ∷ ss)
+step (BehindFirstSuper ∷ ss) (OperandMeta AnyName n) = Some (UnaryMessages false ∷ ss)
 step (BehindFirstSuper ∷ ss) (Binary c s) = Some (TheArgument ∷ BinaryMessages false ∷ ss)
 step (BehindFirstSuper ∷ ss) (Keyword c s) = Some (TheKeywordArgument ∷ KeywordMessages false ∷ ss)
+step (BehindFirstSuper ∷ ss) (MessageMeta s) = Some (AnyArgument ∷ BehindAnyMessage false ∷ ss)
 step (BehindFirstSuper ∷ ss) k = None
 step (BehindSuper ∷ ss) (Name c n) = Some (UnaryMessages false ∷ ss)
+step (BehindSuper ∷ ss) (OperandMeta AnyName n) = Some (UnaryMessages false ∷ ss)
 step (BehindSuper ∷ ss) (Binary c s) = Some (TheArgument ∷ BinaryMessages false ∷ ss)
 step (BehindSuper ∷ ss) (Keyword c s) = Some (TheKeywordArgument ∷ KeywordMessages false ∷ ss)
+step (BehindSuper ∷ ss) (MessageMeta s) = Some (AnyArgument ∷ BehindAnyMessage false ∷ ss)
 step (BehindSuper ∷ ss) k = None
 step (BehindSuperOfKeyword ∷ ss) (Name c n) = Some (UnaryOfKeyword ∷ ss)
+step (BehindSuperOfKeyword ∷ ss) (OperandMeta AnyName n) = Some (UnaryOfKeyword ∷ ss)
 step (BehindSuperOfKeyword ∷ ss) (Binary c s) = Some (TheArgument ∷ BinaryOfKeyword ∷ ss)
 step (BehindSuperOfKeyword ∷ ss) k = None
 step (BehindSuperOfBinary ∷ ss) (Name c n) = Some (UnaryOfBinary ∷ ss)
+step (BehindSuperOfBinary ∷ ss) (OperandMeta AnyName n) = Some (UnaryOfBinary ∷ ss)
 step (BehindSuperOfBinary ∷ ss) k = None
 step (UnaryOfBinary ∷ ss) (Name c n) = Some (UnaryOfBinary ∷ ss)
+step (UnaryOfBinary ∷ ss) (OperandMeta AnyName n) = Some (UnaryOfBinary ∷ ss)
 step (UnaryOfBinary ∷ ss) k = step ss k
 step (UnaryOfKeyword ∷ ss) (Name c n) = Some (UnaryOfKeyword ∷ ss)
+step (UnaryOfKeyword ∷ ss) (OperandMeta AnyName n) = Some (UnaryOfKeyword ∷ ss)
 step (UnaryOfKeyword ∷ ss) (Binary c s) = Some (TheArgument ∷ BinaryOfKeyword ∷ ss)
 step (UnaryOfKeyword ∷ ss) k = step ss k
 step (BinaryOfKeyword ∷ ss) (Binary c s) = Some (TheArgument ∷ BinaryOfKeyword ∷ ss)
 step (BinaryOfKeyword ∷ ss) k = step ss k
 step (UnaryMessages told ∷ ss) (Name c n) = Some (UnaryMessages true ∷ ss)
+step (UnaryMessages told ∷ ss) (OperandMeta AnyName n) = Some (UnaryMessages true ∷ ss)
 step (UnaryMessages told ∷ ss) (Binary c s) = Some (TheArgument ∷ BinaryMessages true ∷ ss)
 step (UnaryMessages told ∷ ss) (Keyword c s) = Some (TheKeywordArgument ∷ KeywordMessages true ∷ ss)
+step (UnaryMessages told ∷ ss) (MessageMeta s) = Some (AnyArgument ∷ BehindAnyMessage true ∷ ss)
 step (UnaryMessages told ∷ ss) Semicolon = begin_cascade told ss
 step (UnaryMessages told ∷ ss) k = step ss k
 step (BinaryMessages told ∷ ss) (Binary c s) = Some (TheArgument ∷ BinaryMessages true ∷ ss)
 step (BinaryMessages told ∷ ss) (Keyword c s) = Some (TheKeywordArgument ∷ KeywordMessages true ∷ ss)
+step (BinaryMessages told ∷ ss) (MessageMeta s) = Some (AnyArgument ∷ BehindAnyMessage true ∷ ss)
 step (BinaryMessages told ∷ ss) Semicolon = begin_cascade told ss
 step (BinaryMessages told ∷ ss) k = step ss k
 step (KeywordMessages told ∷ ss) (Keyword c s) = Some (TheKeywordArgument ∷ KeywordMessages told ∷ ss)
+step (KeywordMessages told ∷ ss) (MessageMeta s) = None
 step (KeywordMessages told ∷ ss) Semicolon = begin_cascade told ss
 step (KeywordMessages told ∷ ss) k = step ss k
+step (AnyArgument ∷ ss) (OperandMeta AnyExpression n) = Some ss
+step (AnyArgument ∷ ss) k = None
+step (BehindAnyMessage told ∷ ss) (Keyword c s) = None
+step (BehindAnyMessage told ∷ ss) (MessageMeta s) = None
+step (BehindAnyMessage told ∷ ss) Semicolon = begin_cascade told ss
+step (BehindAnyMessage told ∷ ss) k = step ss k
 step (TheMessage ∷ ss) (Name c n) = Some (TheCascade ∷ ss)
+step (TheMessage ∷ ss) (OperandMeta AnyName n) = Some (TheCascade ∷ ss)
 step (TheMessage ∷ ss) (Binary c s) = Some (TheArgument ∷ TheCascade ∷ ss)
 step (TheMessage ∷ ss) (Keyword c s) = Some (TheKeywordArgument ∷ KeywordMessages true ∷ ss)
+step (TheMessage ∷ ss) (MessageMeta s) = Some (AnyArgument ∷ BehindAnyMessage true ∷ ss)
 step (TheMessage ∷ ss) k = None
 step (TheCascade ∷ ss) Semicolon = Some (TheMessage ∷ ss)
 step (TheCascade ∷ ss) k = step ss k
 step (TheNumeral ∷ ss) (Numeral c t) = Some ss
 step (TheNumeral ∷ ss) k = None
 step (TheElements ∷ ss) (Name c n) = Some (TheElements ∷ ss)
+step (TheElements ∷ ss) (Keyword AnyKey n) = step ss (Keyword AnyKey n)
 step (TheElements ∷ ss) (Keyword c n) = Some (TheElements ∷ ss)
 step (TheElements ∷ ss) (Binary Sign s) = Some (TheNumeral ∷ TheElements ∷ ss)
 step (TheElements ∷ ss) (Binary c s) = Some (TheElements ∷ ss)
@@ -220,6 +248,7 @@ wish [] = wanted.End
 wish (TheExpression ∷ ss) = wanted.Operand
 wish (TheArgument ∷ ss) = wanted.Operand
 wish (TheKeywordArgument ∷ ss) = wanted.Operand
+wish (AnyArgument ∷ ss) = wanted.Operand
 wish (TheItems ∷ ss) = wanted.Operand
 wish (TheBlock ∷ ss) = wanted.Operand
 wish (TheSequence ∷ ss) = wanted.Operand
@@ -239,6 +268,7 @@ wish (BinaryOfKeyword ∷ ss) = wish ss
 wish (UnaryMessages told ∷ ss) = wish ss
 wish (BinaryMessages told ∷ ss) = wish ss
 wish (KeywordMessages told ∷ ss) = wish ss
+wish (BehindAnyMessage told ∷ ss) = wish ss
 wish (TheCascade ∷ ss) = wish ss
 wish (TheNumeral ∷ ss) = wish ss
 wish (FurtherItem ∷ ss) = wish ss
@@ -268,6 +298,7 @@ ended (BinaryOfKeyword ∷ ss) = ended ss
 ended (UnaryMessages told ∷ ss) = ended ss
 ended (BinaryMessages told ∷ ss) = ended ss
 ended (KeywordMessages told ∷ ss) = ended ss
+ended (BehindAnyMessage told ∷ ss) = ended ss
 ended (TheCascade ∷ ss) = ended ss
 ended (TheElements ∷ ss) = ended ss
 ended (TheBytes ∷ ss) = ended ss
@@ -297,10 +328,12 @@ feeds ss (k ∷ ks) = option_map_or (λ s. feeds s ks) (step ss k) None
 abbrev pub start : Form → Stack
 start DoIt = TheSequence ∷ Awaits TextEnd ∷ []
 start (Method kernel) = ThePattern kernel ∷ Awaits TextEnd ∷ []
+start PatternText = TheExpression ∷ Awaits TextEnd ∷ []
 
 -- whether the texts are those of users
 abbrev pub is_user : Form → Bool
 is_user DoIt = true
+is_user PatternText = true
 is_user (Method true) = false
 is_user (Method false) = true
 

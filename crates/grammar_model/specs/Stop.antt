@@ -3,10 +3,10 @@ use Rattle.std.specs.Prelude.{◌≡◌, ℕ, List, [], ◌∷◌, ◌++◌, tru
 use Rattle.tree_model.specs.Tree.{Notes}
 use Rattle.grammar_model.specs.declared.wanted.Wanted.{Wanted}
 use Rattle.grammar_model.specs.declared.wanted.Wanted.TheVariants.{Operand, Identifier, Element, End}
-use Rattle.grammar_model.specs.Terminal.{Terminal, Name, Keyword, Binary, Numeral, Opens, Colon, Caret, Ordinary, PrimitiveKeyword, Less, SmallDigits, BlockStart}
+use Rattle.grammar_model.specs.Terminal.{Terminal, Name, Keyword, Binary, Numeral, Caret, Ordinary, PrimitiveKeyword, Less, SmallDigits, OperandMeta, AnyExpression}
 use Rattle.grammar_model.specs.Input.{Lexeme, lex, kinds, first_kind}
-use Rattle.grammar_model.specs.Ahead.{NoName}
-use Rattle.grammar_model.specs.Whole.{Form, DoIt, Method, IsText}
+use Rattle.grammar_model.specs.Ahead.{NoUnary}
+use Rattle.grammar_model.specs.Whole.{Form, DoIt, Method, IsText, PatternText}
 
 -- some text begins with these tokens
 pub record Continues (form : Form) (p : List Terminal) : Type 0 where
@@ -15,13 +15,13 @@ pub record Continues (form : Form) (p : List Terminal) : Type 0 where
   pub same : kinds tokens ≡ p ++ behind
   pub text : IsText form tokens
 
--- An operand could begin: a block with a parameter could, which is no element of an array.
+-- An operand could stand: any expression's metavariable could, which is no element of an array.
 abbrev pub MayOperand : Form → List Terminal → Type 0
-MayOperand form p = Continues form (p ++ Opens BlockStart ∷ Colon ∷ [])
+MayOperand form p = Continues form (p ++ OperandMeta AnyExpression [] ∷ [])
 
 -- an identifier could stand, and no other token
 abbrev pub OnlyName : Form → List Terminal → Type 0
-OnlyName form p = Continues form (p ++ Name Ordinary [] ∷ []) × ((k : Terminal) → NoName k → ¬ Continues form (p ++ k ∷ []))
+OnlyName form p = Continues form (p ++ Name Ordinary [] ∷ []) × ((k : Terminal) → NoUnary k → ¬ Continues form (p ++ k ∷ []))
 
 -- Two numerals could stand side by side. Where no operand can begin, they are elements of an array.
 abbrev pub MayElement : Form → List Terminal → Type 0
@@ -47,6 +47,7 @@ pub record IsStop (form : Form) (ts : List Lexeme) (before : List Terminal) (at 
 -- texts of users
 abbrev pub IsUser : Form → Type 0
 IsUser DoIt = Unit {0}
+IsUser PatternText = Unit {0}
 IsUser (Method true) = ⊥
 IsUser (Method false) = Unit {0}
 

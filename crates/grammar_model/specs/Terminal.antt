@@ -11,10 +11,11 @@ pub data NameKind : Type 0 where
   Ordinary : NameKind
   Super : NameKind
 
--- a keyword: the one of primitives, or any other
+-- a keyword: the one of primitives, a metavariable, or any other
 pub data KeywordKind : Type 0 where
   AnyKeyword : KeywordKind
   PrimitiveKeyword : KeywordKind
+  AnyKey : KeywordKind
 
 -- a binary selector: a minus that ends where a numeral begins, the two brackets of primitives, a bar, or any other
 pub data BinaryKind : Type 0 where
@@ -45,6 +46,12 @@ pub data Closing : Type 0 where
   BraceEnd : Closing
   TextEnd : Closing
 
+-- a metavariable that stands as an operand: `x, which may be a unary selector, too, `#x or `@x
+pub data OperandMark : Type 0 where
+  AnyName : OperandMark
+  AnyLiteral : OperandMark
+  AnyExpression : OperandMark
+
 -- A token as the grammar sees it. A string, a character or a symbol stands as the literal that it spells.
 pub data Terminal : Type 0 where
   Name : NameKind → Text → Terminal
@@ -59,3 +66,6 @@ pub data Terminal : Type 0 where
   Semicolon : Terminal
   Period : Terminal
   Caret : Terminal
+  OperandMeta : OperandMark → Text → Terminal
+  StatementMeta : Text → Terminal
+  MessageMeta : Text → Terminal

@@ -3,10 +3,10 @@ use Rattle.std.specs.Prelude.{◌≡◌, ℕ, List, [], ◌∷◌, ◌++◌, Boo
 use Rattle.std.specs.Str.Parse.{digits_value}
 use Rattle.tree_model.specs.Tree.{Notes}
 use Rattle.grammar_model.specs.Terminal.{Text, NameKind, KeywordKind, BinaryKind, Name, Keyword, Binary, Numeral, Closes, PrimitiveKeyword, Less, Greater, Bar, SmallDigits, TextEnd}
-use Rattle.grammar_model.specs.Input.{Lexeme, lex, Input, beginning, kind_of, from_of, next, clear}
-use Rattle.grammar_model.specs.Spanned.{Declared, SpannedStatements, NoStatements, SpannedSequence, SpannedMethod}
+use Rattle.grammar_model.specs.Input.{first_from, Lexeme, lex, Input, beginning, kind_of, from_of, next, clear}
+use Rattle.grammar_model.specs.Spanned.{Declared, SpannedStatements, NoStatements, SpannedSequence, SpannedMethod, SpannedTree, MoreStatements}
 use Rattle.grammar_model.specs.Ahead.{Rows, Longest, Ends, NoKeyword, NoBar}
-use Rattle.grammar_model.specs.Grammar.{Names, Sequence, Statements}
+use Rattle.grammar_model.specs.Grammar.{Names, Sequence, Statements, Expression}
 
 -- the end of the text stands here and nothing behind it; the comments that are held and those before the end are the tail
 pub record IsOver (i : Input) (tail : Notes) : Type 0 where
@@ -58,12 +58,25 @@ pub record IsMethod (a : Rows) (kernel : Bool) (ts : List Lexeme) (m : SpannedMe
   pub behind : Behind a kernel begin m.opening m.primitive m.body.temporaries m.body.statements stop
   pub over : IsOver stop m.body.tail
 
--- which texts there are: do-its, and methods of the kernel or of users
+-- the tokens are a pattern, which is one expression, and this is its tree
+pub record IsPatternText (a : Rows) (ts : List Lexeme) (t : SpannedTree) : Type 0 where
+  pub stop : Input
+  pub tail : Notes
+  pub expression : Expression a (beginning ts) t stop
+  pub over : IsOver stop tail
+
+-- a pattern's tree as the one statement of a sequence
+abbrev pub alone : List Lexeme → SpannedTree → SpannedSequence
+alone ts t = record { temporaries = []; statements = MoreStatements [] (first_from ts) t NoStatements; tail = [] }
+
+-- which texts there are: do-its, methods of the kernel or of users, and patterns
 pub data Form : Type 0 where
   DoIt : Form
   Method : Bool → Form
+  PatternText : Form
 
 -- the tokens are a text of this form
 abbrev pub IsText : Form → List Lexeme → Type 0
 IsText DoIt ts = (s : SpannedSequence) × IsDoIt Longest ts s
 IsText (Method kernel) ts = (m : SpannedMethod) × IsMethod Longest kernel ts m
+IsText PatternText ts = (t : SpannedTree) × IsPatternText Longest ts t

@@ -1,5 +1,5 @@
 ghost use Rattle.std.specs.Prelude.{◌≡◌, ◌⊎◌, ◌↔◌, ◌≤◌, ℕ, Bool, false, List, [], Option, Some, None, option_map};
-ghost use Rattle.tree_model.specs.Tree.{SequenceOf, MethodOf};
+ghost use Rattle.tree_model.specs.Tree.{TreeOf, SequenceOf, MethodOf};
 ghost use Rattle.tree_model.specs.Measure.{sequence_height};
 ghost use Rattle.tree_model.specs.Normal.{IsNormal};
 ghost use Rattle.tree_model.specs.Path.{part_in};
@@ -12,9 +12,11 @@ ghost use Rattle.grammar_model.specs.Spanned.{SpannedSequence, SpannedMethod, pl
 ghost use Rattle.grammar_model.specs.Spans.{Span, spanned_in, span_at, IsRunAt};
 ghost use Rattle.grammar_model.specs.Whole.{IsDoIt, IsMethod, Form, DoIt, Method, IsText};
 ghost use Rattle.grammar_model.specs.Checks.{Fault};
-ghost use Rattle.grammar_model.specs.Spelling.{SpellsDoIt, SpellsMethod, SpellsDoItAt, SpellsMethodAt, HasStop, HasFirstFault};
+ghost use Rattle.grammar_model.specs.Spelling.{SpellsDoIt, SpellsMethod, SpellsDoItAt, SpellsMethodAt, SpellsPattern, HasStop, HasFirstFault, HasFirstPatternFault};
 ghost use Rattle.grammar_model.specs.Examples.{AllJudged, doits, methods, kernel_methods, a_doit, its_sequence, a_method, its_tree, a_text, its_tokens, its_lexemes};
-ghost use Rattle.grammar_model.specs.Lexemes.{lexemes_of};
+ghost use Rattle.grammar_model.specs.Lexemes.{lexemes_by, lexemes_of};
+ghost use Rattle.grammar_model.specs.PatternTokens.{pattern_terminal_of};
+ghost use Rattle.grammar_model.specs.PatternExamples.{patterns, a_pattern, its_pieces, its_metas};
 
 /// Tokens have at most one tree, with one place for each of its parts.
 pub fn has_at_most_one_tree()
@@ -45,6 +47,14 @@ pub fn spells_method_or_has_fault()
     ensures not_both { (dialect : Dialect) (kernel : Bool) (text : Text) (tree : MethodOf Text) (fault : Fault) → SpellsMethod dialect kernel text tree → ¬ HasFirstFault dialect (Method kernel) text fault }
     ensures one_tree { (dialect : Dialect) (kernel : Bool) (text : Text) (tree other : MethodOf Text) → SpellsMethod dialect kernel text tree → SpellsMethod dialect kernel text other → tree ≡ other }
     ensures one_fault { (dialect : Dialect) (kernel : Bool) (text : Text) (fault other : Fault) → HasFirstFault dialect (Method kernel) text fault → HasFirstFault dialect (Method kernel) text other → fault ≡ other }
+{}
+
+/// Each text spells exactly one pattern or has exactly one first fault, never both.
+pub fn spells_pattern_or_has_fault()
+    ensures either { (text : Text) → ((tree : TreeOf Text) × SpellsPattern text tree) ⊎ ((fault : Fault) × HasFirstPatternFault text fault) }
+    ensures not_both { (text : Text) (tree : TreeOf Text) (fault : Fault) → SpellsPattern text tree → ¬ HasFirstPatternFault text fault }
+    ensures one_tree { (text : Text) (tree other : TreeOf Text) → SpellsPattern text tree → SpellsPattern text other → tree ≡ other }
+    ensures one_fault { (text : Text) (fault other : Fault) → HasFirstPatternFault text fault → HasFirstPatternFault text other → fault ≡ other }
 {}
 
 /// Where rows may end anywhere, as the grammar is written down, tokens have the same trees as where
@@ -91,13 +101,15 @@ pub fn keeps_the_limits()
 {}
 
 /// The tokens of the examples are texts, or have the fault that stands beside them. Two of them, with
-/// comments, have the trees that stand beside them, and the grammar sees the tokens of a text as the
-/// last example says.
+/// comments, have the trees that stand beside them, and the grammar sees the tokens of a text and of a
+/// pattern as the last two examples say.
 pub fn judges_examples()
     ensures doits { AllJudged doits }
     ensures methods { AllJudged methods }
     ensures kernel_methods { AllJudged kernel_methods }
+    ensures patterns { AllJudged patterns }
     ensures doit_tree { IsDoIt Longest a_doit its_sequence }
     ensures method_tree { IsMethod Longest false a_method its_tree }
     ensures lexemes { lexemes_of a_text [] its_tokens ≡ its_lexemes }
+    ensures metas { lexemes_by pattern_terminal_of a_pattern [] its_pieces ≡ its_metas }
 {}

@@ -12,14 +12,14 @@ use Rattle.grammar_model.specs.Spanned.{Declared, SpannedTree, SpannedTrees, NoT
 use Rattle.grammar_model.specs.Chain.{Chain, Waiting, Alone, Told, whole, sent, IsWhole}
 use Rattle.grammar_model.specs.Ahead.{Longest, IsDigits, NoSemicolon}
 use Rattle.grammar_model.specs.Literals.{word_or_symbol, KeywordRow, LastKeyword, JoinedKeyword, ByteElements, OneByte, NoBytes, LiteralAt, Unsigned, Negative, Fixed, Array, ByteArray, Element, LiteralElement, InnerArray, InnerBytes, NameElement, KeywordElement, BinaryElement, Elements, OneElement, NoElements}
-use Rattle.grammar_model.specs.Grammar.{Periods, OnePeriod, NoPeriods, Names, OneName, NoNames, Parameters, OneParameter, NoParameters, Temporaries, Declares, DeclaresNone, Expression, Assigned, Simple, Operand, Variable, SuperName, LiteralOperand, Grouped, BlockOperand, BraceOperand, Unaries, OneUnary, NoUnaries, Binaries, OneBinary, NoBinaries, Keywords, OneKeywords, NoKeywords, Parts, LastPart, FurtherPart, Argument, BinaryArgument, KeywordArgument, ArgumentOfKeyword, Cascaded, NoCascade, OneCascade, Messages, OneMessage, LastMessage, Message, UnaryMessage, BinaryMessage, KeywordMessage, Items, NoItems, OneItem, FurtherItems, NextItem, LastItem, BlockBody, WithoutParameters, ParametersAlone, WithParameters, Sequence, Sequenced, Statements, BlankPeriod, NoMore, Returned, OneStatement, After, Ended, Unended, Finish, EndedReturn, UnendedReturn}
+use Rattle.grammar_model.specs.Grammar.{Periods, OnePeriod, NoPeriods, Names, OneName, NoNames, Parameters, OneParameter, NoParameters, Temporaries, Declares, DeclaresNone, Expression, Assigned, Simple, Operand, Variable, SuperName, LiteralOperand, Grouped, BlockOperand, BraceOperand, Unaries, OneUnary, NoUnaries, Binaries, OneBinary, NoBinaries, Keywords, OneKeywords, NoKeywords, Parts, LastPart, FurtherPart, Argument, BinaryArgument, KeywordArgument, ArgumentOfKeyword, Cascaded, NoCascade, OneCascade, Messages, OneMessage, LastMessage, Message, UnaryMessage, BinaryMessage, KeywordMessage, Items, NoItems, OneItem, FurtherItems, NextItem, LastItem, BlockBody, WithoutParameters, ParametersAlone, WithParameters, Sequence, Sequenced, Statements, BlankPeriod, NoMore, Returned, OneStatement, After, Ended, Unended, Finish, EndedReturn, UnendedReturn, WholeMessage, MetaOperand, AnyUnary, AnyKeywords, AnyUnaryMessage, AnyKeywordMessage, AnyStatement}
 use Rattle.reread_law.specs.WellFormed.{IsWord, IsUnsigned, Plain, Minus, IsNumber, AllNotes, AllWords, AreBytes, NoneLeft, OneMore, WellFormedLiteral, WellFormedLiterals, NoWord, AreParts, LastOne, OneBefore, FitsArguments, FitsNone, FitsOne, FitsParts, IsValue, NoReturn, IsStatement, AreTwo, WellFormed, WellFormedTrees, WellFormedMessages, WellFormedStatements}
 use Rattle.reread_law.proofs.Sound.{GoodTerminal, Sound, sound_kind, sound_next, sound_clear, sound_back}
 
 -- a row of keywords leaves the rest well formed
 made_KeywordRow : {i j : Input} {k : Text} → KeywordRow i k j → Sound i → Sound j
-made_KeywordRow (LastKeyword e n) s = sound_next s
-made_KeywordRow (JoinedKeyword e n r) s = made_KeywordRow r (sound_next s)
+made_KeywordRow (LastKeyword e q n) s = sound_next s
+made_KeywordRow (JoinedKeyword e q n r) s = made_KeywordRow r (sound_next s)
 
 -- a numeral of digits alone has digits alone
 digits_all : (t : Text) (b : Bool) → list_all is_digit t ≡ b → IsDigits (Numeral (if b then (if nat_le (digits_value 10 t) 65535 then SmallDigits else LargeDigits) else OtherNumeral) t) → list_all is_digit t ≡ true
@@ -151,6 +151,7 @@ mutual
   made_Operand : {i j : Input} {r : Chain} → Operand Longest i r j → Sound i → GoodChain r × Sound j
   made_Operand (Variable e) s = let g = sound_kind s e in ((g.0, g.1 refl), sound_next s)
   made_Operand (SuperName e) s = ((sound_kind s e).0, sound_next s)
+  made_Operand (MetaOperand e) s = absurd (sound_kind s e)
   made_Operand (LiteralOperand d) s = let g = made_LiteralAt d s in (((g.0, g.1), tt), g.2)
   made_Operand (Grouped e d c) s = let g = made_Expression d (sound_next s) in ((g.0, g.1), sound_next g.2)
   made_Operand (BlockOperand e b c) s =
@@ -162,6 +163,7 @@ mutual
   -- unary messages
   made_Unaries : {f : ℕ} {i j : Input} {r u : Chain} → Unaries Longest f r i u j → GoodChain r → Sound i → GoodChain u × Sound j
   made_Unaries {f} {i} {r} (OneUnary {n} e d) c s = made_Unaries d (sent_good f (next i).last r n NoTrees c (FitsNone (sound_kind s e).0) tt) (sound_next s)
+  made_Unaries (AnyUnary e d) c s = absurd (sound_kind s e)
   made_Unaries (NoUnaries n) c s = (c, s)
 
   -- binary messages
@@ -175,6 +177,7 @@ mutual
   made_Keywords : {f : ℕ} {i j : Input} {r u : Chain} → Keywords Longest f r i u j → GoodChain r → Sound i → GoodChain u × Sound j
   made_Keywords {f} {i} {j} {r} (OneKeywords {s = p} {xs} d) c s =
       let g = made_Parts d s in (sent_good f j.last r p xs c (FitsParts g.0) g.1, g.2)
+  made_Keywords (AnyKeywords (WholeMessage e f n)) c s = absurd (sound_kind s e)
   made_Keywords (NoKeywords n) c s = (c, s)
 
   -- keywords with their arguments
@@ -220,6 +223,8 @@ mutual
   made_Message : {i j : Input} {s : Text} {xs : SpannedTrees} → Message Longest i s xs j → Sound i → FitsArguments s (plain_trees xs) × WellFormedTrees (plain_trees xs) × Sound j
   made_Message (UnaryMessage e) s = (FitsNone (sound_kind s e).0, tt, sound_next s)
   made_Message (BinaryMessage e x) s = let g = made_Argument x (sound_next s) in (FitsOne (sound_kind s e).0, (g.0, g.1, tt), g.2)
+  made_Message (AnyUnaryMessage e) s = absurd (sound_kind s e)
+  made_Message (AnyKeywordMessage (WholeMessage e f n)) s = absurd (sound_kind s e)
   made_Message (KeywordMessage d) s = let g = made_Parts d s in (FitsParts g.0, g.1, g.2)
 
   -- the items of a brace array
@@ -259,6 +264,7 @@ mutual
       let g = made_Expression d (sound_next s) in
       let h = made_Finish f g.2 in
       ((h.0, (g.0, g.1), tt, tt), h.1)
+  made_Statements (AnyStatement e a) s = absurd (sound_kind s e)
   made_Statements (OneStatement {t} {ss} d a) s =
       let g = made_Expression d s in
       let h = made_After a g.2 in

@@ -13,7 +13,7 @@ use Rattle.grammar_model.specs.Input.{Input, kind_of, from_of, next}
 use Rattle.grammar_model.specs.Spanned.{SpannedTree, SpannedTrees, NoTrees, one_tree, plain_tree, plain_trees}
 use Rattle.grammar_model.specs.Chain.{Chain, Waiting, Alone, Told, whole, sent, IsWhole}
 use Rattle.grammar_model.specs.Ahead.{Any}
-use Rattle.grammar_model.specs.Grammar.{Expression, Simple, Operand, Grouped, Unaries, OneUnary, NoUnaries, Binaries, OneBinary, NoBinaries, Keywords, NoKeywords, Argument, BinaryArgument, KeywordArgument, ArgumentOfKeyword, NoCascade}
+use Rattle.grammar_model.specs.Grammar.{Expression, Simple, Operand, Grouped, Unaries, OneUnary, NoUnaries, Binaries, OneBinary, NoBinaries, Keywords, NoKeywords, Argument, BinaryArgument, KeywordArgument, ArgumentOfKeyword, NoCascade, AnyUnary}
 use Rattle.reread_law.specs.WellFormed.{IsValue, NoReturn}
 use Rattle.reread_law.proofs.Bytes.{ends}
 use Rattle.reread_law.proofs.Words.{open_word, close_word}
@@ -185,6 +185,7 @@ sent_told f e (Told g h r t ys) s xs v = refl
 -- one more unary message
 pub unaries_more : {f : ℕ} {i j : Input} {r u : Chain} {c : NameKind} {n : Text} → Unaries Any f r i u j → kind_of j ≡ Name c n → Unaries Any f r i (sent f (next j).last u n NoTrees) (next j)
 unaries_more (OneUnary e d) k = OneUnary e (unaries_more d k)
+unaries_more (AnyUnary e d) k = AnyUnary e (unaries_more d k)
 unaries_more (NoUnaries n) k = OneUnary k (NoUnaries tt)
 
 -- one more binary message

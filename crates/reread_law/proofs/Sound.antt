@@ -18,13 +18,13 @@ use Rattle.token_model.specs.declared.fault.LexFault.{LexFault}
 use Rattle.token_model.proofs.Spans.{IsName-span, IsKeyword-span, IsBinary-span, IsToken-inside}
 use Rattle.tree_model.specs.Tree.{Notes, str, symbol, char}
 use Rattle.text_model.specs.Literals.{is_identifier, is_operator}
-use Rattle.grammar_model.specs.Terminal.{Text, NameKind, Ordinary, Super, KeywordKind, BinaryKind, Common, Sign, Less, Greater, Bar, NumeralKind, Terminal, Name, Keyword, Binary, Numeral, Constant, Opens, Closes, Assignment, Colon, Semicolon, Period, Caret}
+use Rattle.grammar_model.specs.Terminal.{Text, NameKind, Ordinary, Super, KeywordKind, BinaryKind, Common, Sign, Less, Greater, Bar, NumeralKind, Terminal, Name, Keyword, Binary, Numeral, Constant, Opens, Closes, Assignment, Colon, Semicolon, Period, Caret, OperandMeta, StatementMeta, MessageMeta}
 use Rattle.grammar_model.specs.Input.{Lexeme, lex, Input, beginning, kind_of, next, clear, back, first_kind, first_notes, others}
 use Rattle.grammar_model.specs.Lexemes.{name_of, keyword_of, binary_of, numeral_of, terminal_of, begins_numeral, lexemes_of, IsLexed}
 use Rattle.reread_law.specs.WellFormed.{IsWord, IsKeywordText, IsNote, IsUnsigned, AllNotes}
 use Rattle.reread_law.proofs.Copies.{IsCopy, EndsNumeral, numeral_copy, comment_copy}
 
--- what the grammar sees of a token
+-- what the grammar sees of a token, which is no metavariable
 abbrev pub GoodTerminal : Terminal → Type 0
 GoodTerminal (Name c n) = IsWord n × (c ≡ Ordinary → bytes_eq n (codes "super") ≡ false)
 GoodTerminal (Keyword c k) = IsKeywordText k
@@ -34,6 +34,9 @@ GoodTerminal (Constant (str t)) = Unit {0}
 GoodTerminal (Constant (symbol t)) = Unit {0}
 GoodTerminal (Constant (char b)) = Unit {0}
 GoodTerminal (Constant l) = ⊥
+GoodTerminal (OperandMeta m n) = ⊥
+GoodTerminal (StatementMeta n) = ⊥
+GoodTerminal (MessageMeta n) = ⊥
 GoodTerminal k = Unit {0}
 
 -- tokens with the comments before them

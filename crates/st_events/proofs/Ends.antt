@@ -1,46 +1,41 @@
 -- What stands behind the parts of an expression, and where chains of messages begin.
 use Rattle.std.proofs.Common.{◌≡◌, ℕ, refl, sym, subst, ◌⊎◌, inl, inr}
-use Rattle.grammar_model.specs.Terminal.{Text, NameKind, Ordinary, Super, KeywordKind, Sign, Terminal, Name, Keyword, Binary, Numeral, Constant, Opens}
+use Rattle.grammar_model.specs.Terminal.{Text, NameKind, Ordinary, Super, KeywordKind, Sign, Terminal, Name, Keyword, Binary, Numeral, Constant, Opens, OperandMark, OperandMeta}
 use Rattle.grammar_model.specs.Input.{Input, kind_of, from_of, next}
 use Rattle.grammar_model.specs.Spanned.{SpannedTree, Var, SpannedTrees}
 use Rattle.grammar_model.specs.Chain.{Chain, Waiting, Alone, Told, whole, sent}
-use Rattle.grammar_model.specs.Ahead.{Longest, NoName, NoBinary, IsOperandStart}
-use Rattle.grammar_model.specs.Grammar.{Operand, Variable, SuperName, LiteralOperand, Grouped, BlockOperand, BraceOperand, Unaries, OneUnary, NoUnaries, Binaries, OneBinary, NoBinaries, Keywords, OneKeywords, NoKeywords, Parts, LastPart, FurtherPart, Argument, BinaryArgument, KeywordArgument, ArgumentOfKeyword}
+use Rattle.grammar_model.specs.Ahead.{Longest, NoUnary, NoBinary, IsOperandStart}
+use Rattle.grammar_model.specs.Grammar.{Operand, Variable, SuperName, MetaOperand, LiteralOperand, Grouped, BlockOperand, BraceOperand, Unaries, OneUnary, AnyUnary, NoUnaries, Binaries, OneBinary, NoBinaries, Keywords, OneKeywords, AnyKeywords, NoKeywords, Parts, LastPart, FurtherPart, Argument, BinaryArgument, KeywordArgument, ArgumentOfKeyword}
 use Rattle.grammar_model.proofs.Reading.{IsReal, IsLiteralStart}
 use Rattle.grammar_model.proofs.Recognizes.{ends_Unaries, ends_Binaries}
 use Rattle.st_events.proofs.LiteralEvents.{starts_LiteralAt}
 
 -- no unary and no binary message goes on here
 pub record NoOperator (k : Terminal) : Type 0 where
-  pub name : NoName k
+  pub name : NoUnary k
   pub binary : NoBinary k
 
 -- behind the argument of a binary message
-ends_Argument : {i j : Input} {t : SpannedTree} → Argument Longest i t j → NoName (kind_of j)
+ends_Argument : {i j : Input} {t : SpannedTree} → Argument Longest i t j → NoUnary (kind_of j)
 ends_Argument (BinaryArgument o us w) = ends_Unaries us
 
--- behind binary messages stands no identifier where none stands before them
-binaries_no_name : {f : ℕ} {i j : Input} {r u : Chain} → Binaries Longest f r i u j → NoName (kind_of i) → NoName (kind_of j)
-binaries_no_name (OneBinary e a bs) h = binaries_no_name bs (ends_Argument a)
-binaries_no_name (NoBinaries g) h = h
+-- behind binary messages stands no unary selector where none stands before them
+binaries_no_unary : {f : ℕ} {i j : Input} {r u : Chain} → Binaries Longest f r i u j → NoUnary (kind_of i) → NoUnary (kind_of j)
+binaries_no_unary (OneBinary e a bs) h = binaries_no_unary bs (ends_Argument a)
+binaries_no_unary (NoBinaries g) h = h
 
 -- behind unary and binary messages
 pub ends_operators : {f g : ℕ} {i k j : Input} {r u v w : Chain} → Unaries Longest f r i u k → Binaries Longest g v k w j → NoOperator (kind_of j)
-ends_operators us bs = record { name = binaries_no_name bs (ends_Unaries us); binary = ends_Binaries bs }
+ends_operators us bs = record { name = binaries_no_unary bs (ends_Unaries us); binary = ends_Binaries bs }
 
 -- behind the argument of a keyword
 pub ends_KeywordArgument : {i j : Input} {t : SpannedTree} → KeywordArgument Longest i t j → NoOperator (kind_of j)
 ends_KeywordArgument (ArgumentOfKeyword o us bs w) = ends_operators us bs
 
 -- behind the keywords of a message
-ends_arguments : {i j : Input} {s : Text} {xs : SpannedTrees} → Parts Longest i s xs j → NoOperator (kind_of j)
+pub ends_arguments : {i j : Input} {s : Text} {xs : SpannedTrees} → Parts Longest i s xs j → NoOperator (kind_of j)
 ends_arguments (LastPart e x h) = ends_KeywordArgument x
 ends_arguments (FurtherPart e x d) = ends_arguments d
-
--- behind a keyword message or none
-pub ends_messages : {f : ℕ} {i j : Input} {r u : Chain} → Keywords Longest f r i u j → NoOperator (kind_of i) → NoOperator (kind_of j)
-ends_messages (OneKeywords d) h = ends_arguments d
-ends_messages (NoKeywords g) h = h
 
 -- the last message of a chain was sent to a text from this place on
 abbrev pub ToldFrom : ℕ → Chain → Type 0
@@ -57,6 +52,7 @@ told_sent f e (Told g h r t ys) s xs = refl
 told_Operand : {i j : Input} {r : Chain} → Operand Longest i r j → (f : ℕ) → ToldFrom f r
 told_Operand (Variable e) f = tt
 told_Operand (SuperName e) f = tt
+told_Operand (MetaOperand e) f = tt
 told_Operand (LiteralOperand d) f = tt
 told_Operand (Grouped e d c) f = tt
 told_Operand (BlockOperand e d c) f = tt
@@ -65,6 +61,7 @@ told_Operand (BraceOperand e d c) f = tt
 -- unary messages
 told_Unaries : {f : ℕ} {i j : Input} {r u : Chain} → Unaries Longest f r i u j → ToldFrom f r → ToldFrom f u
 told_Unaries {f} {i} {r} (OneUnary {n} e us) h = told_Unaries us (told_sent f _ r n _)
+told_Unaries {f} {i} {r} (AnyUnary {n} e us) h = told_Unaries us (told_sent f _ r n _)
 told_Unaries (NoUnaries g) h = h
 
 -- binary messages
@@ -75,16 +72,24 @@ told_Binaries (NoBinaries g) h = h
 -- a keyword message
 told_Keywords : {f : ℕ} {i j : Input} {r u : Chain} → Keywords Longest f r i u j → ToldFrom f r → ToldFrom f u
 told_Keywords {f} {r} (OneKeywords {s} d) h = told_sent f _ r s _
+told_Keywords {f} {r} (AnyKeywords {s} d) h = told_sent f _ r s _
 told_Keywords (NoKeywords g) h = h
 
 -- the messages of an expression go to a text from one place on
 pub told_messages : {f : ℕ} {i k l m n : Input} {r u b w : Chain} → Operand Longest i r k → Unaries Longest f r k u l → Binaries Longest f u l b m → Keywords Longest f b m w n → ToldFrom f w
 told_messages {f} o us bs ks = told_Keywords ks (told_Binaries bs (told_Unaries us (told_Operand o f)))
 
--- a literal begins with no identifier
-literal_no_name : (k : Terminal) → IsLiteralStart k → NoName k
-literal_no_name (Name c n) h = absurd h
-literal_no_name k h = tt
+-- neither an identifier nor a metavariable that stands as an operand
+abbrev pub NoVariable : Terminal → Type 0
+NoVariable (Name c n) = ⊥
+NoVariable (OperandMeta m n) = ⊥
+NoVariable k = Unit {0}
+
+-- a literal begins with no variable
+literal_no_variable : (k : Terminal) → IsLiteralStart k → NoVariable k
+literal_no_variable (Name c n) h = absurd h
+literal_no_variable (OperandMeta m n) h = absurd h
+literal_no_variable k h = tt
 
 -- an operand that is a name
 pub record IsNamed (i : Input) (r : Chain) (j : Input) : Type 0 where
@@ -94,14 +99,23 @@ pub record IsNamed (i : Input) (r : Chain) (j : Input) : Type 0 where
   pub tree : whole r ≡ Var (from_of i) (next i).last name
   pub stop : j ≡ next i
 
--- an operand is a name or begins with no identifier
-pub named_or_other : {i j : Input} {r : Chain} → Operand Longest i r j → IsNamed i r j ⊎ NoName (kind_of i)
+-- an operand that is a metavariable
+pub record IsAny (i : Input) (r : Chain) (j : Input) : Type 0 where
+  pub mark : OperandMark
+  pub name : Text
+  pub is : kind_of i ≡ OperandMeta mark name
+  pub tree : whole r ≡ Var (from_of i) (next i).last name
+  pub stop : j ≡ next i
+
+-- an operand is a name or a metavariable, or begins with neither
+pub named_or_other : {i j : Input} {r : Chain} → Operand Longest i r j → IsNamed i r j ⊎ (IsAny i r j ⊎ NoVariable (kind_of i))
 named_or_other (Variable {n} e) = inl (record { kind = Ordinary; name = n; is = e; tree = refl; stop = refl })
 named_or_other (SuperName {n} e) = inl (record { kind = Super; name = n; is = e; tree = refl; stop = refl })
-named_or_other {i} (LiteralOperand d) = inr (literal_no_name (kind_of i) (starts_LiteralAt d))
-named_or_other (Grouped e d c) = inr (subst NoName (sym e) tt)
-named_or_other (BlockOperand e d c) = inr (subst NoName (sym e) tt)
-named_or_other (BraceOperand e d c) = inr (subst NoName (sym e) tt)
+named_or_other (MetaOperand {m} {n} e) = inr (inl (record { mark = m; name = n; is = e; tree = refl; stop = refl }))
+named_or_other {i} (LiteralOperand d) = inr (inr (literal_no_variable (kind_of i) (starts_LiteralAt d)))
+named_or_other (Grouped e d c) = inr (inr (subst NoVariable (sym e) tt))
+named_or_other (BlockOperand e d c) = inr (inr (subst NoVariable (sym e) tt))
+named_or_other (BraceOperand e d c) = inr (inr (subst NoVariable (sym e) tt))
 
 -- a token that begins an operand is not the end
 pub real_operand : (k : Terminal) → IsOperandStart k → IsReal k
@@ -110,6 +124,7 @@ real_operand (Binary Sign s) h = tt
 real_operand (Numeral c t) h = tt
 real_operand (Constant l) h = tt
 real_operand (Opens o) h = tt
+real_operand (OperandMeta m n) h = tt
 real_operand k h = absurd h
 
 -- the first keyword of a message

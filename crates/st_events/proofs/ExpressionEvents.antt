@@ -3,12 +3,12 @@ use Rattle.std.proofs.Common.{◌≡◌, ℕ, suc, ◌+◌, Bool, true, false, L
 use Rattle.std.specs.Prelude.{Option}
 use Rattle.std.proofs.lemmas.List.{append-nil}
 use Rattle.tree_model.specs.Tree.{Notes}
-use Rattle.grammar_model.specs.Terminal.{Text, NameKind, Sign, Bar, GroupEnd, BlockEnd, BraceEnd, Terminal, Name, Keyword, Binary, Numeral, Constant, Opens, Closes, Assignment, Colon, Semicolon, Period, Caret, ArrayStart, BytesStart, TextEnd}
+use Rattle.grammar_model.specs.Terminal.{Text, NameKind, Sign, Bar, GroupEnd, BlockEnd, BraceEnd, Terminal, Name, Keyword, Binary, Numeral, Constant, Opens, Closes, Assignment, Colon, Semicolon, Period, Caret, ArrayStart, BytesStart, TextEnd, OperandMeta, AnyName, AnyExpression, StatementMeta, MessageMeta}
 use Rattle.grammar_model.specs.Input.{Input, kind_of, from_of, next, clear, back}
-use Rattle.grammar_model.specs.Spanned.{Declared, SpannedTree, Send, SpannedTrees, NoTrees, one_tree, SpannedMessages, SpannedStatements}
+use Rattle.grammar_model.specs.Spanned.{Declared, SpannedTree, Var, Send, SpannedTrees, NoTrees, one_tree, SpannedMessages, SpannedStatements}
 use Rattle.grammar_model.specs.Chain.{Chain, Waiting, Alone, Told, whole, sent}
-use Rattle.grammar_model.specs.Ahead.{Longest, NoName, NoKeyword, NoColon, NoAssignment, IsOperandStart}
-use Rattle.grammar_model.specs.Grammar.{Periods, OnePeriod, NoPeriods, Names, OneName, NoNames, Parameters, OneParameter, NoParameters, Temporaries, Declares, DeclaresNone, Expression, Assigned, Simple, Operand, Variable, SuperName, LiteralOperand, Grouped, BlockOperand, BraceOperand, Unaries, OneUnary, NoUnaries, Binaries, OneBinary, NoBinaries, Keywords, OneKeywords, NoKeywords, Parts, LastPart, FurtherPart, Argument, BinaryArgument, KeywordArgument, ArgumentOfKeyword, Cascaded, NoCascade, OneCascade, Messages, OneMessage, LastMessage, Message, UnaryMessage, BinaryMessage, KeywordMessage, Items, NoItems, OneItem, FurtherItems, NextItem, LastItem, BlockBody, WithoutParameters, ParametersAlone, WithParameters, Sequenced, Statements, BlankPeriod, NoMore, Returned, OneStatement, After, Ended, Unended, Finish, EndedReturn, UnendedReturn}
+use Rattle.grammar_model.specs.Ahead.{Longest, NoKey, NoColon, NoSemicolon, NoAssignment, IsOperandStart}
+use Rattle.grammar_model.specs.Grammar.{Periods, OnePeriod, NoPeriods, Names, OneName, NoNames, Parameters, OneParameter, NoParameters, Temporaries, Declares, DeclaresNone, Expression, Assigned, Simple, Operand, Variable, SuperName, MetaOperand, LiteralOperand, Grouped, BlockOperand, BraceOperand, Unaries, OneUnary, AnyUnary, NoUnaries, Binaries, OneBinary, NoBinaries, Keywords, OneKeywords, AnyKeywords, NoKeywords, WholeMessage, Parts, LastPart, FurtherPart, Argument, BinaryArgument, KeywordArgument, ArgumentOfKeyword, Cascaded, NoCascade, OneCascade, Messages, OneMessage, LastMessage, Message, UnaryMessage, AnyUnaryMessage, BinaryMessage, KeywordMessage, AnyKeywordMessage, Items, NoItems, OneItem, FurtherItems, NextItem, LastItem, BlockBody, WithoutParameters, ParametersAlone, WithParameters, Sequenced, Statements, BlankPeriod, NoMore, Returned, AnyStatement, OneStatement, After, Ended, Unended, Finish, EndedReturn, UnendedReturn}
 use Rattle.grammar_model.proofs.Reading.{IsReal, IsLiteralStart}
 use Rattle.grammar_model.proofs.OneTree.{starts_Expression, starts_Operand}
 use Rattle.grammar_model.proofs.Recognizes.{ends_Unaries, ends_Keywords}
@@ -30,9 +30,9 @@ use Rattle.st_events.specs.declared.reader.Reader.{Reader}
 use Rattle.st_events.specs.Classes.{is_message, follows_name, is_declaring}
 use Rattle.st_events.specs.Steps.{pushed, emitted, message_event, recast, expression_taken, message_taken, begin_literal, begin_operand, begin_expression, begin_argument, begun, statement_taken, item_taken, run}
 use Rattle.st_events.proofs.Recasting.{recast_last}
-use Rattle.st_events.proofs.Running.{found, go, takes_one, passes_one, not_name, not_keyword, not_semicolon, not_period, not_bar, not_operator, not_message, not_declaring}
+use Rattle.st_events.proofs.Running.{found, go, takes_one, passes_one, not_name, not_key, not_semicolon, not_period, not_bar, not_operator, not_message, not_declaring}
 use Rattle.st_events.proofs.LiteralEvents.{law_LiteralAt, starts_LiteralAt}
-use Rattle.st_events.proofs.Ends.{NoOperator, ends_operators, ends_messages, ToldFrom, told_messages, named_or_other, real_operand, first_of_parts}
+use Rattle.st_events.proofs.Ends.{NoOperator, ends_operators, ends_arguments, ToldFrom, told_messages, NoVariable, named_or_other, real_operand, first_of_parts}
 
 -- the parts of messages
 abbrev all : ℕ → Part
@@ -45,6 +45,10 @@ of_keyword f = part.Message (message.OfKeyword f)
 -- those of a binary message's argument
 abbrev of_binary : ℕ → Part
 of_binary f = part.Message (message.OfBinary f)
+
+-- behind a whole message
+abbrev behind_any : ℕ → Part
+behind_any f = part.Message (message.BehindAny f)
 
 -- an expression
 abbrev whole_part : Part
@@ -139,6 +143,10 @@ law_Unaries {f} {i} {r} (OneUnary {c} {n} e us) ss es h =
     takes_one (all f) ss (es ++ tree_events (whole r)) h i (Name c n) e tt refl ∙
     ap (λ x. go (all f ∷ ss) x h (next i)) (unary_events es f (next i).last r n) ∙
     law_Unaries us ss es h
+law_Unaries {f} {i} {r} (AnyUnary {n} e us) ss es h =
+    takes_one (all f) ss (es ++ tree_events (whole r)) h i (OperandMeta AnyName n) e tt refl ∙
+    ap (λ x. go (all f ∷ ss) x h (next i)) (unary_events es f (next i).last r n) ∙
+    law_Unaries us ss es h
 law_Unaries (NoUnaries g) ss es h = refl
 
 -- unary messages of a keyword's argument
@@ -148,6 +156,10 @@ law_keyword_Unaries {f} {i} {r} (OneUnary {c} {n} e us) ss es h =
     takes_one (of_keyword f) ss (es ++ tree_events (whole r)) h i (Name c n) e tt refl ∙
     ap (λ x. go (of_keyword f ∷ ss) x h (next i)) (unary_events es f (next i).last r n) ∙
     law_keyword_Unaries us ss es h
+law_keyword_Unaries {f} {i} {r} (AnyUnary {n} e us) ss es h =
+    takes_one (of_keyword f) ss (es ++ tree_events (whole r)) h i (OperandMeta AnyName n) e tt refl ∙
+    ap (λ x. go (of_keyword f ∷ ss) x h (next i)) (unary_events es f (next i).last r n) ∙
+    law_keyword_Unaries us ss es h
 law_keyword_Unaries (NoUnaries g) ss es h = refl
 
 -- unary messages of a binary message's argument
@@ -155,6 +167,10 @@ law_binary_Unaries : {f : ℕ} {i j : Input} {r u : Chain} → Unaries Longest f
     go (of_binary f ∷ ss) (es ++ tree_events (whole r)) h i ≡ go (of_binary f ∷ ss) (es ++ tree_events (whole u)) h j
 law_binary_Unaries {f} {i} {r} (OneUnary {c} {n} e us) ss es h =
     takes_one (of_binary f) ss (es ++ tree_events (whole r)) h i (Name c n) e tt refl ∙
+    ap (λ x. go (of_binary f ∷ ss) x h (next i)) (unary_events es f (next i).last r n) ∙
+    law_binary_Unaries us ss es h
+law_binary_Unaries {f} {i} {r} (AnyUnary {n} e us) ss es h =
+    takes_one (of_binary f) ss (es ++ tree_events (whole r)) h i (OperandMeta AnyName n) e tt refl ∙
     ap (λ x. go (of_binary f ∷ ss) x h (next i)) (unary_events es f (next i).last r n) ∙
     law_binary_Unaries us ss es h
 law_binary_Unaries (NoUnaries g) ss es h = refl
@@ -194,14 +210,16 @@ behind_name i f e c n ss es h plain =
           passes_one (part.Expression (expression.BehindName f e n)) ss es h i (follows_message c n k plain ∙ none) ∙ sym (passes_one (all f) ss vs h i none)
     ]
 
--- an operand that is no name begins an argument
-argument_other : (p : Part) (k : Terminal) (f e : ℕ) (r : Reader) → NoName k → begin_argument p k f e r ≡ begin_operand k f (pushed p r)
+-- an operand that is no variable begins an argument
+argument_other : (p : Part) (k : Terminal) (f e : ℕ) (r : Reader) → NoVariable k → begin_argument p k f e r ≡ begin_operand k f (pushed p r)
 argument_other p (Name c n) f e r h = absurd h
+argument_other p (OperandMeta m n) f e r h = absurd h
 argument_other p k f e r h = refl
 
--- an operand that is no name begins an expression
-expression_other : (k : Terminal) (f e : ℕ) (r : Reader) → NoName k → begin_expression k f e r ≡ begin_operand k f (pushed (all f) r)
+-- an operand that is no variable begins an expression
+expression_other : (k : Terminal) (f e : ℕ) (r : Reader) → NoVariable k → begin_expression k f e r ≡ begin_operand k f (pushed (all f) r)
 expression_other (Name c n) f e r h = absurd h
+expression_other (OperandMeta m n) f e r h = absurd h
 expression_other k f e r h = refl
 
 -- a literal begins an operand
@@ -220,6 +238,7 @@ item_operand g n (Binary Sign s) f e r h = refl
 item_operand g n (Numeral c t) f e r h = refl
 item_operand g n (Constant l) f e r h = refl
 item_operand g n (Opens o) f e r h = refl
+item_operand g n (OperandMeta m t) f e r h = refl
 item_operand g n k f e r h = absurd h
 
 -- an expression begins a statement
@@ -229,11 +248,12 @@ statement_operand w n (Binary Sign s) f e r h = refl
 statement_operand w n (Numeral c t) f e r h = refl
 statement_operand w n (Constant l) f e r h = refl
 statement_operand w n (Opens o) f e r h = refl
+statement_operand w n (OperandMeta m t) f e r h = refl
 statement_operand w n k f e r h = absurd h
 
--- what an operand that is no name does
+-- what an operand that is no variable does
 abbrev Begins : Input → Chain → Input → Type 0
-Begins i r j = (ss : List Part) (es : List Event) (h : Head) → NoName (kind_of i) → run (begin_operand (kind_of i) (from_of i) (found ss es h (next i))) (next i).rest ≡ go ss (es ++ tree_events (whole r)) h j
+Begins i r j = (ss : List Part) (es : List Event) (h : Head) → NoVariable (kind_of i) → run (begin_operand (kind_of i) (from_of i) (found ss es h (next i))) (next i).rest ≡ go ss (es ++ tree_events (whole r)) h j
 
 -- an operand begins an argument
 argument_start : {i j : Input} {r : Chain} → Operand Longest i r j → Begins i r j → (p : Part) (ss : List Part) (es : List Event) (h : Head) →
@@ -242,7 +262,10 @@ argument_start {i} {j} {r} o begins p ss es h = elim (named_or_other o) [
   | inl named ↦
       ap (λ k. run (begin_argument p k (from_of i) (next i).last (found ss es h (next i))) (next i).rest) named.is ∙
       (λ x. go (p ∷ ss) (es ++ tree_events (sym named.tree x)) h (sym named.stop x))
-  | inr other ↦
+  | inr (inl any) ↦
+      ap (λ k. run (begin_argument p k (from_of i) (next i).last (found ss es h (next i))) (next i).rest) any.is ∙
+      (λ x. go (p ∷ ss) (es ++ tree_events (sym any.tree x)) h (sym any.stop x))
+  | inr (inr other) ↦
       ap (λ x. run x (next i).rest) (argument_other p (kind_of i) (from_of i) (next i).last (found ss es h (next i)) other) ∙ begins (p ∷ ss) es h other
 ]
 
@@ -254,7 +277,10 @@ expression_start {i} {j} {r} o begins plain ss es h = elim (named_or_other o) [
       ap (λ k. run (begin_expression k (from_of i) (next i).last (found ss es h (next i))) (next i).rest) named.is ∙
       behind_name (next i) (from_of i) (next i).last named.kind named.name ss es h (subst (λ k. NoAssignment k (kind_of (next i))) named.is plain) ∙
       (λ x. go (all (from_of i) ∷ ss) (es ++ tree_events (sym named.tree x)) h (sym named.stop x))
-  | inr other ↦
+  | inr (inl any) ↦
+      ap (λ k. run (begin_expression k (from_of i) (next i).last (found ss es h (next i))) (next i).rest) any.is ∙
+      (λ x. go (all (from_of i) ∷ ss) (es ++ tree_events (sym any.tree x)) h (sym any.stop x))
+  | inr (inr other) ↦
       ap (λ x. run x (next i).rest) (expression_other (kind_of i) (from_of i) (next i).last (found ss es h (next i)) other) ∙ begins (all (from_of i) ∷ ss) es h other
 ]
 
@@ -284,11 +310,40 @@ body_of {j} {steps} b ps ds w ss es h read =
     read ∙ ap (λ y. go (statements_part w y ∷ ss) (es ++ q ++ statements_events steps) h j) (zero (count_statements steps)) ∙
     ap (λ y. go (statements_part w (count_statements steps) ∷ ss) y h j) (append_assoc es q (statements_events steps))
 
+-- the part behind the messages of an expression: keywords may still follow, or there was a whole message
+data EndsAt (f : ℕ) (k : Terminal) : Part → Type 0 where
+  PlainEnd : NoOperator k → NoKey k → EndsAt f k (all f)
+  AnyEnd : EndsAt f k (behind_any f)
+
+-- the part behind keywords
+abbrev behind_keywords : {f : ℕ} {i j : Input} {r u : Chain} → Keywords Longest f r i u j → Part
+behind_keywords {f} (OneKeywords d) = all f
+behind_keywords {f} (AnyKeywords d) = behind_any f
+behind_keywords {f} (NoKeywords g) = all f
+
+-- behind a keyword message, a whole message or none
+ends_messages : {f : ℕ} {i j : Input} {r u : Chain} (ks : Keywords Longest f r i u j) → NoOperator (kind_of i) → EndsAt f (kind_of j) (behind_keywords ks)
+ends_messages {f} {r} (OneKeywords d) o = PlainEnd (ends_arguments d) (ends_Keywords {f = f} {r = r} (OneKeywords d))
+ends_messages (AnyKeywords d) o = AnyEnd
+ends_messages (NoKeywords g) o = PlainEnd o g
+
+-- where no cascade begins the messages are over
+ends_pass : {f : ℕ} {p : Part} (i : Input) → EndsAt f (kind_of i) p → NoSemicolon (kind_of i) → (ss : List Part) (es : List Event) (h : Head) → go (p ∷ ss) es h i ≡ go ss es h i
+ends_pass {f} i (PlainEnd o k) g ss es h = passes_one (all f) ss es h i (not_message (kind_of i) o.name o.binary k g)
+ends_pass {f} i AnyEnd g ss es h = passes_one (behind_any f) ss es h i (not_semicolon (kind_of i) g)
+
+-- where a cascade begins it is read
+ends_take : {f : ℕ} {p : Part} (i : Input) → EndsAt f (kind_of i) p → kind_of i ≡ Semicolon → (ss : List Part) (es : List Event) (h : Head) →
+    go (p ∷ ss) es h i ≡ go (part.Message message.InCascade ∷ part.Message (message.BehindCascade f 2) ∷ ss) (recast es) h (next i)
+ends_take {f} i (PlainEnd o k) semi ss es h = takes_one (all f) ss es h i Semicolon semi tt refl
+ends_take {f} i AnyEnd semi ss es h = takes_one (behind_any f) ss es h i Semicolon semi tt refl
+
 mutual
-  -- an operand that is no name, behind its first token
+  -- an operand that is no variable, behind its first token
   law_Operand : {i j : Input} {r : Chain} → Operand Longest i r j → Begins i r j
-  law_Operand (Variable {n} e) ss es h other = absurd (subst NoName e other)
-  law_Operand (SuperName {n} e) ss es h other = absurd (subst NoName e other)
+  law_Operand (Variable {n} e) ss es h other = absurd (subst NoVariable e other)
+  law_Operand (SuperName {n} e) ss es h other = absurd (subst NoVariable e other)
+  law_Operand (MetaOperand e) ss es h other = absurd (subst NoVariable e other)
   law_Operand {i} {j} (LiteralOperand {l} d) ss es h other =
       ap (λ r. run r (next i).rest) (operand_literal (kind_of i) (from_of i) (found ss es h (next i)) (starts_LiteralAt d)) ∙
       law_LiteralAt d (part.Literal (literal.BehindOperand (from_of i)) ∷ ss) es h ∙
@@ -323,7 +378,7 @@ mutual
       ap (λ x. go ss x h j) (joined_events es target (tree_events v) (event.Assign g j.last ∷ []))
   law_Expression {i} (Simple plain o us bs ks c) ss es h =
       expression_start o (law_Operand o) plain ss es h ∙ law_Unaries us ss es h ∙ law_Binaries bs ss es h ∙ law_Keywords ks ss es h ∙
-      law_Cascaded c (from_of i) (told_messages o us bs ks) (ends_messages ks (ends_operators us bs)) (ends_Keywords ks) ss es h
+      law_Cascaded c (from_of i) (told_messages o us bs ks) (ends_messages ks (ends_operators us bs)) ss es h
 
   -- the argument of a binary message
   law_Argument : {i j : Input} {t : SpannedTree} → Argument Longest i t j → (ss : List Part) (es : List Event) (h : Head) →
@@ -368,7 +423,7 @@ mutual
       go ss (es ++ (trees_events xs ++ message_event g j.last (p ++ s) (n + count_trees xs) ∷ [])) h j
   law_Parts {i} {j} (LastPart {c} {k} {x} e a none) g p n ss es h =
       law_KeywordArgument a (part.Message (message.BehindKeyword g (n + 1) (p ++ k)) ∷ ss) es h ∙
-      passes_one (part.Message (message.BehindKeyword g (n + 1) (p ++ k))) ss (es ++ tree_events x) h j (not_keyword (kind_of j) none) ∙
+      passes_one (part.Message (message.BehindKeyword g (n + 1) (p ++ k))) ss (es ++ tree_events x) h j (not_key (kind_of j) none) ∙
       (let b : n + 1 ≡ n + suc 0 = omega arith in
       let l = append_assoc es (tree_events x) (message_event g j.last (p ++ k) (n + 1) ∷ []) ∙ ap (λ y. es ++ (y ++ message_event g j.last (p ++ k) (n + 1) ∷ [])) (sym (append-nil (tree_events x))) in
       ap (λ y. go ss y h j) l ∙ ap (λ y. go ss (es ++ (trees_events (one_tree x) ++ message_event g j.last (p ++ k) y ∷ [])) h j) b)
@@ -384,8 +439,8 @@ mutual
       (λ y. go ss (es ++ tree_events x ++ (trees_events xs ++ message_event g j.last (a y) (b y) ∷ [])) h j) ∙ ap (λ y. go ss y h j) l)
 
   -- a keyword message or none
-  law_Keywords : {f : ℕ} {i j : Input} {r u : Chain} → Keywords Longest f r i u j → (ss : List Part) (es : List Event) (h : Head) →
-      go (all f ∷ ss) (es ++ tree_events (whole r)) h i ≡ go (all f ∷ ss) (es ++ tree_events (whole u)) h j
+  law_Keywords : {f : ℕ} {i j : Input} {r u : Chain} (ks : Keywords Longest f r i u j) (ss : List Part) (es : List Event) (h : Head) →
+      go (all f ∷ ss) (es ++ tree_events (whole r)) h i ≡ go (behind_keywords ks ∷ ss) (es ++ tree_events (whole u)) h j
   law_Keywords {f} {i} {j} {r} (OneKeywords {s} {xs} d) ss es h =
       let k = first_of_parts d in
       let rs = es ++ tree_events (whole r) in
@@ -394,16 +449,25 @@ mutual
       ap (λ y. go (all f ∷ ss) (rs ++ (trees_events xs ++ event.Send f j.last y s ∷ [])) h j) (zero (count_trees xs)) ∙
       ap (λ y. go (all f ∷ ss) y h j) (append_assoc es (tree_events (whole r)) (trees_events xs ++ e ∷ []) ∙
       ap (λ y. es ++ y) (sym (append_assoc (tree_events (whole r)) (trees_events xs) (e ∷ [])) ∙ sym (sent_events f j.last r s xs)))
+  law_Keywords {f} {i} {r} (AnyKeywords (WholeMessage {k} {n} e g none)) ss es h =
+      let m = next (next i) in
+      let x : SpannedTree = Var (from_of (next i)) m.last n in
+      let rs = es ++ tree_events (whole r) in
+      let behind : Part = part.Message (message.BehindArgument (Some f) k) in
+      takes_one (all f) ss rs h i (MessageMeta k) e tt refl ∙
+      takes_one (part.Expression expression.AnyArgument) (behind ∷ behind_any f ∷ ss) rs h (next i) (OperandMeta AnyExpression n) g tt refl ∙
+      passes_one behind (behind_any f ∷ ss) (rs ++ tree_events x) h m refl ∙
+      ap (λ y. go (behind_any f ∷ ss) y h m) (one_argument es f m.last r k x)
   law_Keywords (NoKeywords g) ss es h = refl
 
   -- a cascade or none
-  law_Cascaded : {r : Chain} {i j : Input} {t : SpannedTree} → Cascaded Longest r i t j → (f : ℕ) → ToldFrom f r → NoOperator (kind_of i) → NoKeyword (kind_of i) → (ss : List Part) (es : List Event) (h : Head) →
-      go (all f ∷ ss) (es ++ tree_events (whole r)) h i ≡ go ss (es ++ tree_events t) h j
-  law_Cascaded {r} {i} (NoCascade w g) f told o k ss es h = passes_one (all f) ss (es ++ tree_events (whole r)) h i (not_message (kind_of i) o.name o.binary k g)
-  law_Cascaded {i} {j} (OneCascade {f = g} {e} {r} {s} {xs} {ms} semi d) f told o k ss es h =
+  law_Cascaded : {r : Chain} {i j : Input} {t : SpannedTree} → Cascaded Longest r i t j → (f : ℕ) → ToldFrom f r → {p : Part} → EndsAt f (kind_of i) p → (ss : List Part) (es : List Event) (h : Head) →
+      go (p ∷ ss) (es ++ tree_events (whole r)) h i ≡ go ss (es ++ tree_events t) h j
+  law_Cascaded {r} {i} (NoCascade w g) f told ends ss es h = ends_pass i ends g ss (es ++ tree_events (whole r)) h
+  law_Cascaded {i} {j} (OneCascade {f = g} {e} {r} {s} {xs} {ms} semi d) f told ends ss es h =
       let before = es ++ (tree_events r ++ trees_events xs) in
       let n = count_trees xs in
-      takes_one (all f) ss (es ++ tree_events (Send g e r s xs)) h i Semicolon semi tt refl ∙
+      ends_take i ends semi ss (es ++ tree_events (Send g e r s xs)) h ∙
       ap (λ y. go (part.Message message.InCascade ∷ part.Message (message.BehindCascade f 2) ∷ ss) y h (next i))
       (ap recast (sym (append_assoc es (tree_events r ++ trees_events xs) (event.Send g e n s ∷ []))) ∙ recast_last before (event.Send g e n s)) ∙
       sym (takes_one (part.Message (message.BehindCascade f 1)) ss (before ++ event.Message s n ∷ []) h i Semicolon semi tt refl) ∙
@@ -431,10 +495,19 @@ mutual
   law_Message : {i j : Input} {s : Text} {xs : SpannedTrees} → Message Longest i s xs j → (ss : List Part) (es : List Event) (h : Head) →
       go (part.Message message.InCascade ∷ ss) es h i ≡ go ss (es ++ (trees_events xs ++ event.Message s (count_trees xs) ∷ [])) h j
   law_Message {i} (UnaryMessage {c} {n} e) ss es h = takes_one (part.Message message.InCascade) ss es h i (Name c n) e tt refl
+  law_Message {i} (AnyUnaryMessage {n} e) ss es h = takes_one (part.Message message.InCascade) ss es h i (OperandMeta AnyName n) e tt refl
   law_Message {i} {j} (BinaryMessage {c} {s} {x} e a) ss es h =
       takes_one (part.Message message.InCascade) ss es h i (Binary c s) e tt refl ∙ law_Argument a (part.Message (message.BehindArgument None s) ∷ ss) es h ∙
       passes_one (part.Message (message.BehindArgument None s)) ss (es ++ tree_events x) h j refl ∙
       ap (λ y. go ss y h j) (append_assoc es (tree_events x) (event.Message s 1 ∷ []) ∙ ap (λ y. es ++ (y ++ event.Message s 1 ∷ [])) (sym (append-nil (tree_events x))))
+  law_Message {i} (AnyKeywordMessage (WholeMessage {k} {n} e g none)) ss es h =
+      let m = next (next i) in
+      let x : SpannedTree = Var (from_of (next i)) m.last n in
+      let behind : Part = part.Message (message.BehindArgument None k) in
+      takes_one (part.Message message.InCascade) ss es h i (MessageMeta k) e tt refl ∙
+      takes_one (part.Expression expression.AnyArgument) (behind ∷ ss) es h (next i) (OperandMeta AnyExpression n) g tt refl ∙
+      passes_one behind ss (es ++ tree_events x) h m refl ∙
+      ap (λ y. go ss y h m) (append_assoc es (tree_events x) (event.Message k 1 ∷ []))
   law_Message {i} {j} (KeywordMessage {s} {xs} d) ss es h =
       let k = first_of_parts d in
       takes_one (part.Message message.InCascade) ss es h i (Keyword k.0 k.1) k.2 tt refl ∙ law_Parts d None [] 0 ss es h ∙
@@ -492,6 +565,14 @@ mutual
       passes_one (part.Sequence (sequence.BehindReturn g)) (part.Sequence (sequence.BehindStatement g) ∷ statements_part w (n + 1) ∷ ss) (es ++ tree_events t) h m refl ∙
       law_Finish f g w (n + 1) ss (es ++ tree_events t ++ event.Return g m.last ∷ []) h ∙
       ap (λ y. go (statements_part w (n + 1) ∷ ss) y h j) (joined_events es (tree_events t) (event.Return g m.last ∷ []) (event.Statement g c ∷ []))
+  law_Statements {i} {j} (AnyStatement {n = name} {c} {ss = steps} e a) w n ss es h =
+      let g = from_of i in
+      let x : List Event = event.Var g (next i).last name ∷ [] in
+      takes_one (statements_part w n) ss es h i (StatementMeta name) e tt refl ∙
+      law_After a g w (n + 1) ss (es ++ x) h ∙
+      (let b : n + 1 + count_statements steps ≡ n + suc (count_statements steps) = omega arith in
+      let l = append_assoc es x (event.Statement g c ∷ statements_events steps) in
+      λ y. go (statements_part w (b y) ∷ ss) (l y) h j)
   law_Statements {i} {j} (OneStatement {m} {t} {c} {ss = steps} d a) w n ss es h =
       let s = starts_Expression d in
       let g = from_of i in

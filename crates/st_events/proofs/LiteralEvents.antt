@@ -4,10 +4,10 @@ use Rattle.std.proofs.lemmas.List.{append-nil}
 use Rattle.std.specs.Prelude.{◌==◌}
 use Rattle.std.proofs.lemmas.Bool.Decides.{nat_tests}
 use Rattle.tree_model.specs.Tree.{LiteralOf, array, bytes, LiteralsOf}
-use Rattle.grammar_model.specs.Terminal.{Text, BinaryKind, Sign, Group, BlockStart, ArrayStart, BytesStart, GroupEnd, BlockEnd, KeywordKind, Terminal, Name, Keyword, Binary, Numeral, Constant, Opens, Closes}
+use Rattle.grammar_model.specs.Terminal.{Text, BinaryKind, Sign, Group, BlockStart, ArrayStart, BytesStart, GroupEnd, BlockEnd, KeywordKind, AnyKey, Terminal, Name, Keyword, Binary, Numeral, Constant, Opens, Closes}
 use Rattle.grammar_model.specs.Input.{Input, kind_of, from_of, next}
 use Rattle.grammar_model.specs.Ahead.{Longest}
-use Rattle.grammar_model.specs.Literals.{NoSign, IsKeyword, KeywordRow, LastKeyword, JoinedKeyword, ByteElements, OneByte, NoBytes, LiteralAt, Unsigned, Negative, Fixed, Array, ByteArray, Element, LiteralElement, InnerArray, InnerBytes, NameElement, KeywordElement, BinaryElement, Elements, OneElement, NoElements}
+use Rattle.grammar_model.specs.Literals.{NoSign, IsKeyword, NoAnyKey, KeywordRow, LastKeyword, JoinedKeyword, ByteElements, OneByte, NoBytes, LiteralAt, Unsigned, Negative, Fixed, Array, ByteArray, Element, LiteralElement, InnerArray, InnerBytes, NameElement, KeywordElement, BinaryElement, Elements, OneElement, NoElements}
 use Rattle.grammar_model.proofs.Reading.{IsReal, IsLiteralStart}
 use Rattle.parse_events.specs.Found.{literal_events, literals_events, count_literals}
 use Rattle.parse_events.specs.declared.event.Event.{Event}
@@ -17,7 +17,7 @@ use Rattle.st_events.specs.declared.part.Part.TheVariants as part
 use Rattle.st_events.specs.declared.part.LiteralPart.TheVariants as literal
 use Rattle.st_events.specs.declared.reader.Head.{Head}
 use Rattle.st_events.specs.declared.reader.Reader.{Reader}
-use Rattle.st_events.specs.Classes.{is_keyword}
+use Rattle.st_events.specs.Classes.{is_plain_keyword}
 use Rattle.st_events.specs.Steps.{pushed, emitted, begin_literal, element_taken, run}
 use Rattle.st_events.proofs.Running.{found, go, takes_one, passes_one}
 
@@ -53,14 +53,20 @@ element_binary n Sign s r h = absurd h
 element_binary n c s r h = refl
 
 -- the first keyword of a row
-abbrev pub first_of_row : {i j : Input} {s : Text} → KeywordRow i s j → (c : KeywordKind) × (k : Text) × (kind_of i ≡ Keyword c k)
-first_of_row (LastKeyword {c} {k} e h) = (c, k, e)
-first_of_row (JoinedKeyword {c} {k} e h d) = (c, k, e)
+abbrev pub first_of_row : {i j : Input} {s : Text} → KeywordRow i s j → (c : KeywordKind) × (k : Text) × (kind_of i ≡ Keyword c k) × NoAnyKey c
+first_of_row (LastKeyword {c} {k} e a h) = (c, k, e, a)
+first_of_row (JoinedKeyword {c} {k} e a h d) = (c, k, e, a)
 
 -- a keyword
-keyword_is : (k : Terminal) → is_keyword k ≡ true → IsKeyword k
+keyword_is : (k : Terminal) → is_plain_keyword k ≡ true → IsKeyword k
+keyword_is (Keyword AnyKey n) h = cc
 keyword_is (Keyword c n) h = tt
 keyword_is k h = cc
+
+-- a keyword that is no metavariable
+plain_keyword : (c : KeywordKind) (n : Text) → NoAnyKey c → is_plain_keyword (Keyword c n) ≡ true
+plain_keyword AnyKey n a = absurd a
+plain_keyword c n a = refl
 
 -- a token that is not joined to a keyword
 joined_or_not : (a b : Bool) → (a ≡ true → b ≡ true → ⊥) → (a && b) ≡ false
@@ -79,12 +85,12 @@ place_same a b h = grind (arith, nat_tests)
 -- a row of keywords behind its first keyword, to which others were joined
 law_KeywordRow : {i j : Input} {s : Text} (d : KeywordRow i s j) (p : Text) (ss : List Part) (es : List Event) (h : Head) →
     go (part.Literal (literal.BehindKeyword (p ++ (first_of_row d).1)) ∷ ss) es h (next i) ≡ go ss (es ++ event.Symbol (p ++ s) ∷ []) h j
-law_KeywordRow {i} (LastKeyword {c} {k} e n) p ss es h =
+law_KeywordRow {i} (LastKeyword {c} {k} e a n) p ss es h =
     passes_one (part.Literal (literal.BehindKeyword (p ++ k))) ss es h (next i)
-    (joined_or_not (is_keyword (kind_of (next i))) (from_of (next i) == (next i).last) (λ a b. n (record { keyword = keyword_is _ a; at = same_place _ _ b })))
-law_KeywordRow {i} {j} (JoinedKeyword {c} {k} {s} e n d) p ss es h =
+    (joined_or_not (is_plain_keyword (kind_of (next i))) (from_of (next i) == (next i).last) (λ plain b. n (record { keyword = keyword_is _ plain; at = same_place _ _ b })))
+law_KeywordRow {i} {j} (JoinedKeyword {c} {k} {s} e a n d) p ss es h =
     let f = first_of_row d in
-    takes_one (part.Literal (literal.BehindKeyword (p ++ k))) ss es h (next i) (Keyword f.0 f.1) f.2 tt (place_same _ _ n.at) ∙
+    takes_one (part.Literal (literal.BehindKeyword (p ++ k))) ss es h (next i) (Keyword f.0 f.1) f.2 tt (ap (λ b. b && (from_of (next i) == (next i).last)) (plain_keyword f.0 f.1 f.3) ∙ place_same _ _ n.at) ∙
     law_KeywordRow d (p ++ k) ss es h ∙ ap (λ x. go ss (es ++ event.Symbol x ∷ []) h j) (append_assoc p k s)
 
 -- numbers of a byte array

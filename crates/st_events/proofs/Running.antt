@@ -2,9 +2,9 @@
 use Rattle.std.proofs.Common.{◌≡◌, ℕ, true, false, List, [], ◌∷◌, ◌++◌, refl, ap, sym, ◌∙◌, subst}
 use Rattle.std.specs.Prelude.{◌==◌, if◌then◌else◌}
 use Rattle.tree_model.specs.Tree.{Notes}
-use Rattle.grammar_model.specs.Terminal.{TextEnd, Terminal, Name, Keyword, Binary, Closes, Colon, Semicolon, Period, Bar}
+use Rattle.grammar_model.specs.Terminal.{TextEnd, Terminal, Name, Keyword, Binary, Closes, Colon, Semicolon, Period, Bar, OperandMeta, AnyName, MessageMeta}
 use Rattle.grammar_model.specs.Input.{Lexeme, lex, Input, first_kind, first_from, first_end, first_notes, others, kind_of, from_of, next}
-use Rattle.grammar_model.specs.Ahead.{NoName, NoKeyword, NoBinary, NoBar, NoSemicolon, NoColon, NoPeriod}
+use Rattle.grammar_model.specs.Ahead.{NoUnary, NoKeyword, NoKey, NoBinary, NoBar, NoSemicolon, NoColon, NoPeriod}
 use Rattle.grammar_model.proofs.Reading.{IsReal}
 use Rattle.parse_events.specs.declared.event.Event.{Event}
 use Rattle.st_events.specs.declared.part.Part.{Part}
@@ -82,15 +82,21 @@ pub passes_one : (p : Part) (ss : List Part) (es : List Event) (h : Head) (i : I
     go (p ∷ ss) es h i ≡ run (passed p (found ss es h i)) i.rest
 passes_one p ss es h i t = passes_at p ss es h i.held i.last i.rest t
 
--- tokens of no class
-pub not_name : (k : Terminal) → NoName k → is_name k ≡ false
+-- nothing that is a unary selector
+pub not_name : (k : Terminal) → NoUnary k → is_name k ≡ false
 not_name (Name c n) h = absurd h
+not_name (OperandMeta AnyName n) h = absurd h
 not_name k h = refl
 
 -- no keyword
 pub not_keyword : (k : Terminal) → NoKeyword k → is_keyword k ≡ false
 not_keyword (Keyword c n) h = absurd h
 not_keyword k h = refl
+
+-- nothing that begins a keyword message
+pub not_key : (k : Terminal) → NoKey k → is_keyword k ≡ false
+not_key (Keyword c n) h = absurd h
+not_key k h = refl
 
 -- no semicolon
 pub not_semicolon : (k : Terminal) → NoSemicolon k → is_semicolon k ≡ false
@@ -108,16 +114,19 @@ not_bar (Binary Bar s) h = absurd h
 not_bar k h = refl
 
 -- no unary or binary message
-pub not_operator : (k : Terminal) → NoName k → NoBinary k → is_operator k ≡ false
+pub not_operator : (k : Terminal) → NoUnary k → NoBinary k → is_operator k ≡ false
 not_operator (Name c n) h g = absurd h
+not_operator (OperandMeta AnyName n) h g = absurd h
 not_operator (Binary c n) h g = absurd g
 not_operator k h g = refl
 
 -- no message and no cascade
-pub not_message : (k : Terminal) → NoName k → NoBinary k → NoKeyword k → NoSemicolon k → is_message k ≡ false
+pub not_message : (k : Terminal) → NoUnary k → NoBinary k → NoKey k → NoSemicolon k → is_message k ≡ false
 not_message (Name c n) h g f e = absurd h
+not_message (OperandMeta AnyName n) h g f e = absurd h
 not_message (Binary c n) h g f e = absurd g
 not_message (Keyword c n) h g f e = absurd f
+not_message (MessageMeta n) h g f e = absurd f
 not_message Semicolon h g f e = absurd e
 not_message k h g f e = refl
 

@@ -5,15 +5,16 @@ use Rattle.std.proofs.lemmas.List.{append-nil}
 use Rattle.std.specs.Str.Parse.{digits_value}
 use Rattle.tree_model.specs.Tree.{Notes}
 use Rattle.grammar_model.specs.Terminal.{Text, KeywordKind, PrimitiveKeyword, Less, Greater, Bar, SmallDigits, Terminal, Name, Keyword, Binary, Numeral}
-use Rattle.grammar_model.specs.Input.{Lexeme, Input, first_kind, kind_of, from_of, next}
-use Rattle.grammar_model.specs.Spanned.{Declared, SpannedStatements, SpannedSequence, SpannedMethod}
+use Rattle.grammar_model.specs.Input.{Lexeme, Input, beginning, first_kind, first_from, kind_of, from_of, next}
+use Rattle.grammar_model.specs.Spanned.{Declared, SpannedTree, SpannedStatements, SpannedSequence, SpannedMethod}
 use Rattle.grammar_model.specs.Ahead.{Longest, NoBar, IsOperandStart}
-use Rattle.grammar_model.specs.Grammar.{Names, OneName, NoNames, Temporaries, Declares, DeclaresNone, Sequence, Sequenced, Statements, BlankPeriod, NoMore, Returned, OneStatement}
-use Rattle.grammar_model.specs.Whole.{IsOver, IsDoIt, PatternParts, LastPatternPart, FurtherPatternPart, Pattern, UnaryPattern, BinaryPattern, KeywordPattern, WithBars, WithoutBars, OnePrimitive, Behind, Plainly, Primitively, IsMethod}
+use Rattle.grammar_model.specs.Grammar.{Names, OneName, NoNames, Temporaries, Declares, DeclaresNone, Sequence, Sequenced, Statements, BlankPeriod, NoMore, Returned, AnyStatement, OneStatement}
+use Rattle.grammar_model.specs.Whole.{IsOver, IsDoIt, PatternParts, LastPatternPart, FurtherPatternPart, Pattern, UnaryPattern, BinaryPattern, KeywordPattern, WithBars, WithoutBars, OnePrimitive, Behind, Plainly, Primitively, IsMethod, IsPatternText, alone}
 use Rattle.grammar_model.proofs.OneTree.{starts_Expression}
-use Rattle.parse_events.specs.Found.{declarations, count_statements, statements_events, sequence_events, method_events}
+use Rattle.parse_events.specs.Found.{declarations, count_statements, tree_events, statements_events, sequence_events, method_events}
 use Rattle.parse_events.specs.declared.event.Declaration.{Declaration}
 use Rattle.parse_events.specs.declared.event.Event.{Event}
+use Rattle.parse_events.specs.declared.event.Event.TheVariants as event
 use Rattle.st_events.specs.declared.part.Part.{Part}
 use Rattle.st_events.specs.declared.part.Part.TheVariants as part
 use Rattle.st_events.specs.declared.part.Enclosure.TheVariants as enclosure
@@ -23,9 +24,10 @@ use Rattle.st_events.specs.declared.reader.Head.{Head}
 use Rattle.st_events.specs.declared.reader.Reader.{Reader}
 use Rattle.st_events.specs.Classes.{opens_body}
 use Rattle.st_events.specs.Steps.{run}
-use Rattle.st_events.specs.Starts.{head_of, doit_start, method_start, sequence_of, method_of}
+use Rattle.st_events.specs.Starts.{head_of, doit_start, method_start, pattern_start, sequence_of, method_of}
 use Rattle.st_events.proofs.Running.{found, go, takes_one, passes_one, not_keyword, not_bar}
-use Rattle.st_events.proofs.ExpressionEvents.{law_Statements}
+use Rattle.st_events.proofs.Ends.{real_operand}
+use Rattle.st_events.proofs.ExpressionEvents.{law_Expression, law_Statements}
 
 -- the statements of a whole text
 abbrev body : ℕ → List Part
@@ -65,6 +67,22 @@ law_sequence (Sequenced {ds} d b) o = law_Temporaries d ∙ law_statements b o (
 pub law_DoIt : (ts : List Lexeme) (s : SpannedSequence) → IsDoIt Longest ts s → sequence_of (run doit_start ts) ≡ sequence_events s
 law_DoIt ts s d = ap sequence_of (law_sequence d.sequence d.over)
 
+-- the end of a pattern
+law_pattern_end : {i : Input} {c : Notes} (o : IsOver i c) (f : ℕ) (es : List Event) (h : Head) →
+    go (part.Sequence (sequence.BehindPattern f) ∷ []) es h i ≡ record { stack = []; events = es ++ event.Statement f [] ∷ []; held = i.held ++ o.notes; last = o.to; head = h }
+law_pattern_end {i} o f es h = ap (λ ts. run (found (part.Sequence (sequence.BehindPattern f) ∷ []) es h i) ts) o.over
+
+-- the reader finds the events of a pattern, which is one expression
+pub law_PatternText : (ts : List Lexeme) (t : SpannedTree) → IsPatternText Longest ts t → sequence_of (run pattern_start ts) ≡ sequence_events (alone ts t)
+law_PatternText ts t d =
+    let i = beginning ts in
+    let h = head_of [] [] in
+    ap sequence_of (
+    takes_one (part.Sequence sequence.Pattern) [] [] h i (kind_of i) refl (real_operand (kind_of i) (starts_Expression d.expression)) refl ∙
+    law_Expression d.expression (part.Sequence (sequence.BehindPattern (first_from ts)) ∷ []) [] h ∙
+    law_pattern_end d.over (first_from ts) (tree_events t) h
+    )
+
 -- the first keyword of a pattern
 abbrev first_of_pattern : {i j : Input} {s : Text} {ds : List Declared} → PatternParts Longest i s ds j → (c : KeywordKind) × (k : Text) × (kind_of i ≡ Keyword c k)
 first_of_pattern (LastPatternPart {c} {k} e f h) = (c, k, e)
@@ -101,6 +119,7 @@ no_bracket : {i j : Input} {s : Text} {t : Notes} {steps : SpannedStatements} �
 no_bracket (BlankPeriod e b) o less = let k = sym e ∙ less in cc
 no_bracket (NoMore n) o less = let k = sym (ap first_kind o.over) ∙ less in cc
 no_bracket (Returned e d f) o less = let k = sym e ∙ less in cc
+no_bracket (AnyStatement e a) o less = let k = sym e ∙ less in cc
 no_bracket (OneStatement d a) o less = subst IsOperandStart less (starts_Expression d)
 
 -- neither a bar nor such a bracket

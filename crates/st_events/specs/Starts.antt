@@ -28,6 +28,10 @@ doit_start = beginning_with (part.Head head.DoitTemporaries ∷ part.Sequence (s
 abbrev pub method_start : Reader
 method_start = beginning_with (part.Head head.Pattern ∷ part.Head head.MethodTemporaries ∷ part.Sequence (sequence.Statements enclosure.Text 0) ∷ [])
 
+-- before a pattern
+abbrev pub pattern_start : Reader
+pattern_start = beginning_with (part.Sequence sequence.Pattern ∷ [])
+
 -- what was found in a do-it
 abbrev pub sequence_of : Reader → SequenceEvents
 sequence_of r = record { temporaries = r.head.temporaries; events = r.events; tail = r.head.tail }

@@ -2,7 +2,7 @@
 use Rattle.std.specs.Prelude.{ℕ, ◌+◌, Bool, true, false, ◌&&◌, ◌==◌, if◌then◌else◌, List, [], ◌∷◌, ◌++◌, Option, Some, None}
 use Rattle.std.specs.Str.Parse.{digits_value}
 use Rattle.tree_model.specs.Tree.{Notes}
-use Rattle.grammar_model.specs.Terminal.{Text, Sign, Bar, Group, BlockStart, BraceStart, ArrayStart, BytesStart, GroupEnd, BlockEnd, Terminal, Name, Keyword, Binary, Numeral, Constant, Opens, Closes, Assignment, Colon, Semicolon, Period, Caret}
+use Rattle.grammar_model.specs.Terminal.{Text, Sign, Bar, Group, BlockStart, BraceStart, ArrayStart, BytesStart, GroupEnd, BlockEnd, Terminal, Name, Keyword, Binary, Numeral, Constant, Opens, Closes, Assignment, Colon, Semicolon, Period, Caret, OperandMeta, AnyName, StatementMeta, MessageMeta}
 use Rattle.grammar_model.specs.Input.{Lexeme, lex}
 use Rattle.grammar_model.specs.Literals.{word_or_symbol}
 use Rattle.parse_events.specs.declared.event.Declaration.{Declaration}
@@ -26,7 +26,7 @@ use Rattle.st_events.specs.declared.part.SequencePart.TheVariants as sequence
 use Rattle.st_events.specs.declared.part.HeadPart.{HeadPart}
 use Rattle.st_events.specs.declared.part.HeadPart.TheVariants as head
 use Rattle.st_events.specs.declared.reader.Reader.{Reader}
-use Rattle.st_events.specs.Classes.{is_name, is_keyword, is_end, is_semicolon, is_period, is_bar, is_operator, is_message, follows_name, is_declaring, opens_body}
+use Rattle.st_events.specs.Classes.{is_name, is_keyword, is_plain_keyword, is_end, is_semicolon, is_period, is_bar, is_operator, is_message, follows_name, is_declaring, opens_body}
 
 -- one more part before all others
 abbrev pub pushed : Part → Reader → Reader
@@ -87,32 +87,39 @@ begin_operand k f r = begin_literal k (pushed (part.Literal (literal.BehindOpera
 -- behind the first token of an expression, from one place up to another
 abbrev pub begin_expression : Terminal → ℕ → ℕ → Reader → Reader
 begin_expression (Name c n) f e r = pushed (part.Expression (expression.BehindName f e n)) r
+begin_expression (OperandMeta m n) f e r = emitted (event.Var f e n) (pushed (part.Message (message.All f)) r)
 begin_expression k f e r = begin_operand k f (pushed (part.Message (message.All f)) r)
 
 -- behind the first token of an argument, with the part for its messages
 abbrev pub begin_argument : Part → Terminal → ℕ → ℕ → Reader → Reader
 begin_argument p (Name c n) f e r = pushed p (emitted (event.Var f e n) r)
+begin_argument p (OperandMeta m n) f e r = pushed p (emitted (event.Var f e n) r)
 begin_argument p k f e r = begin_operand k f (pushed p r)
 
 -- behind the first token of a message to a receiver from a place on, or of a cascade
 abbrev pub message_taken : ℕ → Terminal → ℕ → Reader → Reader
 message_taken f (Name c n) e r = pushed (part.Message (message.All f)) (emitted (event.Send f e 0 n) r)
+message_taken f (OperandMeta AnyName n) e r = pushed (part.Message (message.All f)) (emitted (event.Send f e 0 n) r)
 message_taken f (Binary c s) e r = pushed (part.Expression expression.BinaryArgument) (pushed (part.Message (message.BehindArgument (Some f) s)) (pushed (part.Message (message.All f)) r))
 message_taken f (Keyword c s) e r = pushed (part.Expression expression.KeywordArgument) (pushed (part.Message (message.BehindKeyword (Some f) 1 s)) (pushed (part.Message (message.All f)) r))
+message_taken f (MessageMeta s) e r = pushed (part.Expression expression.AnyArgument) (pushed (part.Message (message.BehindArgument (Some f) s)) (pushed (part.Message (message.BehindAny f)) r))
 message_taken f Semicolon e r = pushed (part.Message message.InCascade) (pushed (part.Message (message.BehindCascade f 2)) (record r { events = recast r.events }))
 message_taken f k e r = r
 
 -- behind the first token of a unary or binary message, with the part that reads it
 abbrev pub operator_taken : Part → ℕ → Terminal → ℕ → Reader → Reader
 operator_taken p f (Name c n) e r = pushed p (emitted (event.Send f e 0 n) r)
+operator_taken p f (OperandMeta AnyName n) e r = pushed p (emitted (event.Send f e 0 n) r)
 operator_taken p f (Binary c s) e r = pushed (part.Expression expression.BinaryArgument) (pushed (part.Message (message.BehindArgument (Some f) s)) (pushed p r))
 operator_taken p f k e r = r
 
 -- behind the first token of a message of a cascade
 abbrev pub cascade_taken : Terminal → Reader → Reader
 cascade_taken (Name c n) r = emitted (event.Message n 0) r
+cascade_taken (OperandMeta AnyName n) r = emitted (event.Message n 0) r
 cascade_taken (Binary c s) r = pushed (part.Expression expression.BinaryArgument) (pushed (part.Message (message.BehindArgument None s)) r)
 cascade_taken (Keyword c s) r = pushed (part.Expression expression.KeywordArgument) (pushed (part.Message (message.BehindKeyword None 1 s)) r)
+cascade_taken (MessageMeta s) r = pushed (part.Expression expression.AnyArgument) (pushed (part.Message (message.BehindArgument None s)) r)
 cascade_taken k r = r
 
 -- behind a token that a part of messages takes
@@ -121,6 +128,7 @@ messages_taken (message.All f) k e r = message_taken f k e r
 messages_taken (message.OfKeyword f) k e r = operator_taken (part.Message (message.OfKeyword f)) f k e r
 messages_taken (message.OfBinary f) k e r = operator_taken (part.Message (message.OfBinary f)) f k e r
 messages_taken (message.BehindKeyword g n s) (Keyword c k) e r = pushed (part.Expression expression.KeywordArgument) (pushed (part.Message (message.BehindKeyword g (n + 1) (s ++ k))) r)
+messages_taken (message.BehindAny f) k e r = message_taken f k e r
 messages_taken message.InCascade k e r = cascade_taken k r
 messages_taken (message.BehindCascade f n) k e r = pushed (part.Message message.InCascade) (pushed (part.Message (message.BehindCascade f (n + 1))) r)
 messages_taken p k e r = r
@@ -133,6 +141,8 @@ expression_taken expression.KeywordArgument k f e r = begin_argument (part.Messa
 expression_taken (expression.BehindName g h n) Assignment f e r = pushed (part.Expression expression.Whole) (pushed (part.Expression (expression.BehindValue g)) (emitted (event.Target g n) r))
 expression_taken (expression.BehindName g h n) k f e r = message_taken g k e (emitted (event.Var g h n) r)
 expression_taken (expression.BehindValue g) k f e r = r
+expression_taken expression.AnyArgument (OperandMeta m n) f e r = emitted (event.Var f e n) r
+expression_taken expression.AnyArgument k f e r = r
 
 -- behind an element of an array, or its first token
 abbrev pub begin_element : Terminal → Reader → Reader
@@ -184,6 +194,7 @@ abbrev pub statement_taken : Enclosure → ℕ → Terminal → ℕ → ℕ → 
 statement_taken w n Period f e r = pushed (part.Sequence (sequence.Statements w n)) r
 statement_taken w n Caret f e r = pushed (part.Expression expression.Whole) (pushed (part.Sequence (sequence.BehindReturn f)) (begun w n f r))
 statement_taken w n (Closes c) f e r = closed w n e r
+statement_taken w n (StatementMeta m) f e r = emitted (event.Var f e m) (begun w n f r)
 statement_taken w n k f e r = begin_expression k f e (begun w n f r)
 
 -- behind a period or the first token of an expression of a brace array, or behind the last one
@@ -197,6 +208,8 @@ abbrev pub sequence_taken : SequencePart → Terminal → ℕ → ℕ → Reader
 sequence_taken (sequence.Statements w n) k f e r = statement_taken w n k f e r
 sequence_taken (sequence.BehindStatement g) k f e r = stated g r
 sequence_taken (sequence.Items g n) k f e r = item_taken g n k f e r
+sequence_taken sequence.Pattern k f e r = begin_expression k f e (pushed (part.Sequence (sequence.BehindPattern f)) r)
+sequence_taken (sequence.BehindPattern g) k f e r = emitted (event.Statement g []) r
 sequence_taken p k f e r = r
 
 -- behind a token that a part of a text's head takes
@@ -233,9 +246,10 @@ takes (part.Message (message.OfKeyword f)) k joined = is_operator k
 takes (part.Message (message.OfBinary f)) k joined = is_name k
 takes (part.Message (message.BehindArgument g s)) k joined = false
 takes (part.Message (message.BehindKeyword g n s)) k joined = is_keyword k
+takes (part.Message (message.BehindAny f)) k joined = is_semicolon k
 takes (part.Message message.InCascade) k joined = true
 takes (part.Message (message.BehindCascade f n)) k joined = is_semicolon k
-takes (part.Literal (literal.BehindKeyword s)) k joined = is_keyword k && joined
+takes (part.Literal (literal.BehindKeyword s)) k joined = is_plain_keyword k && joined
 takes (part.Literal (literal.BehindOperand f)) k joined = false
 takes (part.Literal p) k joined = true
 takes (part.Block block.Start) k joined = is_declaring k

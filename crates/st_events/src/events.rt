@@ -2,12 +2,14 @@
 ghost use Rattle.std.specs.Prelude.{◌≡◌, true, false, List, [], ◌∷◌, IfOk, IfSome, IfNone};
 ghost use Rattle.token_model.specs.declared.kind.Dialect.TheVariants.{Second};
 ghost use Rattle.grammar_model.specs.Input as input;
-ghost use Rattle.grammar_model.specs.Spanned.{SpannedSequence, SpannedMethod};
+ghost use Rattle.grammar_model.specs.Spanned.{SpannedTree, SpannedSequence, SpannedMethod};
 ghost use Rattle.grammar_model.specs.Ahead.{Longest};
-ghost use Rattle.grammar_model.specs.Whole.{Form, DoIt, Method, IsDoIt, IsMethod};
+ghost use Rattle.grammar_model.specs.Whole.{DoIt, Method, PatternText, IsDoIt, IsMethod, IsPatternText, alone};
 ghost use Rattle.grammar_model.specs.Lexemes.{IsLexed};
+ghost use Rattle.grammar_model.specs.PatternTokens.{IsPatternLexed, IsLexedAs};
 ghost use Rattle.parse_events.specs.Found.{sequence_events, method_events};
 ghost use Rattle.st_faults.specs.Faults.{IsRead};
+ghost use Rattle.st_faults.specs.Forms.{form_of};
 ghost use Rattle.st_faults.specs.Judging.{IsReadTo};
 ghost use Rattle.st_events.specs.Steps.{run};
 ghost use Rattle.st_events.specs.Starts.{doit_start, method_start, head_of, beginning_with, sequence_of, method_of};
@@ -17,7 +19,7 @@ use crate::reader::{Head, Reader, Stack};
 use crate::tokens::next_token;
 use parse_events::{Declarations, Events, MethodEvents, SequenceEvents};
 use rb_base::{Memory, Text};
-use st_faults::{Judgement, Lexeme, Sort};
+use st_faults::{Judgement, Lexeme, Sort, TextForm};
 use st_tree::Comments;
 use std::alloc::Global;
 
@@ -41,15 +43,12 @@ fn blank_head(alloc: Global) -> Head
     }
 }
 
-/// A reader before a text whose statements come next.
-fn blank_reader(alloc: Global, text: &[u8]) -> Result<Reader, Memory>
-    ensures { IfOk result (λ reader. reader ≡ beginning_with (Part.Sequence (SequencePart.Statements Enclosure.Text 0) ∷ [])) }
+/// A reader before a text in which this part comes next.
+fn reader_before(alloc: Global, text: &[u8], part: SequencePart) -> Result<Reader, Memory>
+    ensures { IfOk result (λ reader. reader ≡ beginning_with (Part.Sequence part ∷ [])) }
 {
     let mut stack = Stack::with_room(alloc, PARTS)?;
-    stack.push(Part::Sequence(SequencePart::Statements {
-        enclosure: Enclosure::Text,
-        count: 0,
-    }))?;
+    stack.push(Part::Sequence(part))?;
     Ok(Reader {
         stack,
         events: Events::with_room(alloc, text.len() / BYTES_OF_EVENT)?,
@@ -63,7 +62,14 @@ fn blank_reader(alloc: Global, text: &[u8]) -> Result<Reader, Memory>
 fn doit_reader(alloc: Global, text: &[u8]) -> Result<Reader, Memory>
     ensures { IfOk result (λ reader. reader ≡ doit_start) }
 {
-    let mut reader = blank_reader(alloc, text)?;
+    let mut reader = reader_before(
+        alloc,
+        text,
+        SequencePart::Statements {
+            enclosure: Enclosure::Text,
+            count: 0,
+        },
+    )?;
     reader.push(Part::Head(HeadPart::DoitTemporaries))?;
     Ok(reader)
 }
@@ -72,27 +78,35 @@ fn doit_reader(alloc: Global, text: &[u8]) -> Result<Reader, Memory>
 fn method_reader(alloc: Global, text: &[u8]) -> Result<Reader, Memory>
     ensures { IfOk result (λ reader. reader ≡ method_start) }
 {
-    let mut reader = blank_reader(alloc, text)?;
+    let mut reader = reader_before(
+        alloc,
+        text,
+        SequencePart::Statements {
+            enclosure: Enclosure::Text,
+            count: 0,
+        },
+    )?;
     reader.push(Part::Head(HeadPart::MethodTemporaries))?;
     reader.push(Part::Head(HeadPart::Pattern))?;
     Ok(reader)
 }
 
-/// Reads the tokens of a text up to its end, or up to the first at which it has a fault, and tells whether it has none.
+/// Reads the tokens of a text of a form up to its end, or up to the first at which it has a fault, and tells whether it has none.
 fn read_all(
     alloc: Global,
+    form: TextForm,
     text: &[u8],
     judgement: &mut Judgement,
     reader: &mut Reader,
 ) -> Result<bool, Memory>
-    ensures read { IfOk result (λ read. read ≡ true → (form : Form) → IsReadTo form text.now 0 judgement.old → IsRead form text.now) }
-    ensures found { IfOk result (λ read. read ≡ true → (ts : List input.Lexeme) → IsLexed Second text.now ts → reader.new ≡ run reader.old ts) }
-    ensures fault { IfOk result (λ read. read ≡ false → (form : Form) → IsReadTo form text.now 0 judgement.old → ¬ IsRead form text.now) }
+    ensures read { IfOk result (λ read. read ≡ true → IsReadTo (form_of form) text.now 0 judgement.old → IsRead (form_of form) text.now) }
+    ensures found { IfOk result (λ read. read ≡ true → (ts : List input.Lexeme) → IsLexedAs (form_of form) Second text.now ts → reader.new ≡ run reader.old ts) }
+    ensures fault { IfOk result (λ read. read ≡ false → IsReadTo (form_of form) text.now 0 judgement.old → ¬ IsRead (form_of form) text.now) }
 {
     let mut place = 0;
     'tokens: loop {
         let mut notes = Comments::new(alloc);
-        let Some(token) = next_token(alloc, text, place, &mut notes)? else {
+        let Some(token) = next_token(alloc, form, text, place, &mut notes)? else {
             return Ok(false);
         };
         let lexeme = Lexeme {
@@ -165,7 +179,7 @@ pub fn doit_events(alloc: Global, text: &[u8]) -> Result<Option<SequenceEvents>,
 {
     let mut judgement = Judgement::of_doit(alloc)?;
     let mut reader = doit_reader(alloc, text)?;
-    if !read_all(alloc, text, &mut judgement, &mut reader)? {
+    if !read_all(alloc, TextForm::DoIt, text, &mut judgement, &mut reader)? {
         return Ok(None);
     }
     Ok(Some(found_sequence(reader)))
@@ -185,8 +199,31 @@ pub fn method_events(
 {
     let mut judgement = Judgement::of_method(alloc, kernel)?;
     let mut reader = method_reader(alloc, text)?;
-    if !read_all(alloc, text, &mut judgement, &mut reader)? {
+    if !read_all(
+        alloc,
+        TextForm::Method(kernel),
+        text,
+        &mut judgement,
+        &mut reader,
+    )? {
         return Ok(None);
     }
     Ok(Some(found_method(reader)))
+}
+
+/// What a pattern spells, as a do-it of one statement in which metavariables stand as names and keywords with their
+/// backquotes, in the order in which its tree is built, or `None` where the text has a fault of its tokens, its brackets
+/// or the grammar, and only there; which one it is, `check_pattern` of st_faults tells. Comments outside of blocks are
+/// left out. Memory, time and texts of 4 GiB or more are as for `doit_events`.
+pub fn pattern_events(alloc: Global, text: &[u8]) -> Result<Option<SequenceEvents>, Memory>
+    ensures read { IfOk result (λ found. IfSome found (λ _. IsRead PatternText text.now)) }
+    ensures found { IfOk result (λ found. IfSome found (λ found. (ts : List input.Lexeme) (t : SpannedTree) → IsPatternLexed Second text.now ts → IsPatternText Longest ts t → found ≡ sequence_events (alone ts t))) }
+    ensures none { IfOk result (λ found. IfNone found (¬ IsRead PatternText text.now)) }
+{
+    let mut judgement = Judgement::of_pattern(alloc)?;
+    let mut reader = reader_before(alloc, text, SequencePart::Pattern)?;
+    if !read_all(alloc, TextForm::Pattern, text, &mut judgement, &mut reader)? {
+        return Ok(None);
+    }
+    Ok(Some(found_sequence(reader)))
 }

@@ -1,6 +1,7 @@
 // Operands and assignments.
 ghost use Rattle.std.specs.Prelude.{◌≡◌, IfOk};
-ghost use Rattle.st_events.specs.Steps.{begin_operand, begin_expression, begin_argument, expression_taken, passed};
+ghost use Rattle.parse_events.specs.declared.event.Event.TheVariants as event;
+ghost use Rattle.st_events.specs.Steps.{emitted, begin_operand, begin_expression, begin_argument, expression_taken, passed};
 ghost use Rattle.st_events.specs.Tokens.{seen};
 
 use crate::part::{
@@ -40,6 +41,16 @@ impl Reader {
         }
     }
 
+    /// A variable, or a metavariable that stands where one may.
+    pub fn variable(&mut self, alloc: Global, token: Token<'_>) -> Result<(), Memory>
+        ensures { IfOk result (λ _. self.new ≡ emitted (event.Var token.entry.from token.entry.to token.entry.text.now) self.old) }
+    {
+        let from = place(token.from)?;
+        let to = place(token.to)?;
+        let name = Text::from_slice(alloc, token.text)?;
+        self.emit(Event::Var { from, to, name })
+    }
+
     /// The first token of an expression.
     pub fn begin_expression(&mut self, alloc: Global, token: Token<'_>) -> Result<(), Memory>
         ensures { IfOk result (λ _. self.new ≡ begin_expression (seen token.entry) token.entry.from token.entry.to self.old) }
@@ -50,6 +61,10 @@ impl Reader {
                 let to = place(token.to)?;
                 let name = Text::from_slice(alloc, token.text)?;
                 self.push(Part::Expression(ExpressionPart::BehindName { from, to, name }))
+            }
+            Sort::AnyName | Sort::AnyLiteral | Sort::AnyExpression => {
+                self.push(Part::Message(MessagePart::All { from }))?;
+                self.variable(alloc, token)
             }
             _ => {
                 self.push(Part::Message(MessagePart::All { from }))?;
@@ -68,11 +83,8 @@ impl Reader {
         ensures { IfOk result (λ _. self.new ≡ begin_argument (Part.Message part) (seen token.entry) token.entry.from token.entry.to self.old) }
     {
         match token.sort {
-            Sort::Name | Sort::Super => {
-                let from = place(token.from)?;
-                let to = place(token.to)?;
-                let name = Text::from_slice(alloc, token.text)?;
-                self.emit(Event::Var { from, to, name })?;
+            Sort::Name | Sort::Super | Sort::AnyName | Sort::AnyLiteral | Sort::AnyExpression => {
+                self.variable(alloc, token)?;
                 self.push(Part::Message(part))
             }
             _ => {
@@ -106,6 +118,16 @@ impl Reader {
         }
     }
 
+    /// The operand of a whole message of a pattern.
+    fn take_any(&mut self, alloc: Global, token: Token<'_>) -> Result<(), Memory>
+        ensures { IfOk result (λ _. self.new ≡ expression_taken ExpressionPart.AnyArgument (seen token.entry) token.entry.from token.entry.to self.old) }
+    {
+        match token.sort {
+            Sort::AnyName | Sort::AnyLiteral | Sort::AnyExpression => self.variable(alloc, token),
+            _ => Ok(()),
+        }
+    }
+
     /// A token that a part of an expression takes.
     pub fn take_in_expression(
         &mut self,
@@ -132,6 +154,7 @@ impl Reader {
                 alloc, from, to, name, token,
             ),
             ExpressionPart::BehindValue { .. } => Ok(()),
+            ExpressionPart::AnyArgument => self.take_any(alloc, token),
         }
     }
 
@@ -151,7 +174,8 @@ impl Reader {
             }
             ExpressionPart::Whole
             | ExpressionPart::BinaryArgument
-            | ExpressionPart::KeywordArgument => Ok(()),
+            | ExpressionPart::KeywordArgument
+            | ExpressionPart::AnyArgument => Ok(()),
         }
     }
 }

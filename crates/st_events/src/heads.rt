@@ -26,7 +26,7 @@ impl Reader {
                 self.head.selector = Text::from_slice(alloc, token.text)?;
                 self.push(Part::Head(HeadPart::Argument))
             }
-            Sort::Keyword | Sort::PrimitiveKeyword => {
+            Sort::Keyword | Sort::PrimitiveKeyword | Sort::AnyKey => {
                 self.head.selector = Text::from_slice(alloc, token.text)?;
                 self.push(Part::Head(HeadPart::BehindArgument))?;
                 self.push(Part::Head(HeadPart::Argument))
@@ -50,7 +50,7 @@ impl Reader {
         ensures { IfOk result (λ _. self.new ≡ head_taken HeadPart.BehindArgument (seen token.entry) token.entry.from self.old) }
     {
         match token.sort {
-            Sort::Keyword | Sort::PrimitiveKeyword => {
+            Sort::Keyword | Sort::PrimitiveKeyword | Sort::AnyKey => {
                 self.head.selector.push_slice(token.text)?;
                 self.push(Part::Head(HeadPart::BehindArgument))?;
                 self.push(Part::Head(HeadPart::Argument))

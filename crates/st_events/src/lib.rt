@@ -19,4 +19,4 @@ mod texts;
 mod token;
 mod tokens;
 
-pub use events::{doit_events, method_events};
+pub use events::{doit_events, method_events, pattern_events};

@@ -79,7 +79,7 @@ impl Reader {
                 let event = word(alloc, token.text)?;
                 self.emit(event)
             }
-            Sort::Keyword | Sort::PrimitiveKeyword => {
+            Sort::Keyword | Sort::PrimitiveKeyword | Sort::AnyKey => {
                 let symbol = Text::from_slice(alloc, token.text)?;
                 self.push(Part::Literal(LiteralPart::BehindKeyword { symbol }))
             }
@@ -142,7 +142,7 @@ impl Reader {
         ensures { IfOk result (λ _. self.new ≡ literal_taken (LiteralPart.BehindKeyword symbol) (seen token.entry) self.old) }
     {
         match token.sort {
-            Sort::Keyword | Sort::PrimitiveKeyword => {
+            Sort::Keyword | Sort::PrimitiveKeyword | Sort::AnyKey => {
                 let mut symbol = symbol;
                 symbol.push_slice(token.text)?;
                 self.push(Part::Literal(LiteralPart::BehindKeyword { symbol }))

@@ -111,21 +111,44 @@ impl Reader {
         self.push(Part::Expression(ExpressionPart::KeywordArgument))
     }
 
+    /// A whole message of a pattern, to a receiver that begins at a place or of a cascade.
+    fn any_message(
+        &mut self,
+        alloc: Global,
+        from: Option<u32>,
+        token: Token<'_>,
+    ) -> Result<(), Memory>
+        ensures { IfOk result (λ _. self.new ≡ pushed (Part.Expression ExpressionPart.AnyArgument) (pushed (Part.Message (MessagePart.BehindArgument from token.entry.text.now)) self.old)) }
+    {
+        let selector = Text::from_slice(alloc, token.text)?;
+        self.push(Part::Message(MessagePart::BehindArgument { from, selector }))?;
+        self.push(Part::Expression(ExpressionPart::AnyArgument))
+    }
+
     /// A message to the receiver from a place on, or its cascade.
     pub fn take_message(&mut self, alloc: Global, from: u32, token: Token<'_>) -> Result<(), Memory>
         ensures { IfOk result (λ _. self.new ≡ message_taken from (seen token.entry) token.entry.to self.old) }
     {
         match token.sort {
-            Sort::Name | Sort::Super => self.unary(alloc, MessagePart::All { from }, from, token),
+            Sort::Name | Sort::Super | Sort::AnyName => self.unary(
+                alloc,
+                MessagePart::All { from },
+                from,
+                token,
+            ),
             Sort::Binary | Sort::Sign | Sort::Less | Sort::Greater | Sort::Bar => self.binary(
                 alloc,
                 MessagePart::All { from },
                 from,
                 token,
             ),
-            Sort::Keyword | Sort::PrimitiveKeyword => {
+            Sort::Keyword | Sort::PrimitiveKeyword | Sort::AnyKey => {
                 self.push(Part::Message(MessagePart::All { from }))?;
                 self.keywords(alloc, Some(from), token)
+            }
+            Sort::AnyMessage => {
+                self.push(Part::Message(MessagePart::BehindAny { from }))?;
+                self.any_message(alloc, Some(from), token)
             }
             Sort::Semicolon => {
                 recast(&mut self.events)?;
@@ -141,7 +164,7 @@ impl Reader {
         ensures { IfOk result (λ _. self.new ≡ operator_taken (Part.Message (MessagePart.OfKeyword from)) from (seen token.entry) token.entry.to self.old) }
     {
         match token.sort {
-            Sort::Name | Sort::Super => self.unary(
+            Sort::Name | Sort::Super | Sort::AnyName => self.unary(
                 alloc,
                 MessagePart::OfKeyword { from },
                 from,
@@ -162,7 +185,7 @@ impl Reader {
         ensures { IfOk result (λ _. self.new ≡ operator_taken (Part.Message (MessagePart.OfBinary from)) from (seen token.entry) token.entry.to self.old) }
     {
         match token.sort {
-            Sort::Name | Sort::Super => self.unary(
+            Sort::Name | Sort::Super | Sort::AnyName => self.unary(
                 alloc,
                 MessagePart::OfBinary { from },
                 from,
@@ -183,7 +206,7 @@ impl Reader {
         ensures { IfOk result (λ _. self.new ≡ cascade_taken (seen token.entry) self.old) }
     {
         match token.sort {
-            Sort::Name | Sort::Super => {
+            Sort::Name | Sort::Super | Sort::AnyName => {
                 let selector = Text::from_slice(alloc, token.text)?;
                 self.emit(Event::Message {
                     selector,
@@ -198,7 +221,10 @@ impl Reader {
                 }))?;
                 self.push(Part::Expression(ExpressionPart::BinaryArgument))
             }
-            Sort::Keyword | Sort::PrimitiveKeyword => self.keywords(alloc, None, token),
+            Sort::Keyword | Sort::PrimitiveKeyword | Sort::AnyKey => self.keywords(
+                alloc, None, token,
+            ),
+            Sort::AnyMessage => self.any_message(alloc, None, token),
             _ => Ok(()),
         }
     }
@@ -214,7 +240,7 @@ impl Reader {
         ensures { IfOk result (λ _. self.new ≡ messages_taken (MessagePart.BehindKeyword from arguments selector) (seen token.entry) token.entry.to self.old) }
     {
         match token.sort {
-            Sort::Keyword | Sort::PrimitiveKeyword => {
+            Sort::Keyword | Sort::PrimitiveKeyword | Sort::AnyKey => {
                 let mut selector = selector;
                 selector.push_slice(token.text)?;
                 let arguments = one_more(arguments)?;
@@ -248,7 +274,9 @@ impl Reader {
         ensures { IfOk result (λ _. self.new ≡ messages_taken part (seen token.entry) token.entry.to self.old) }
     {
         match part {
-            MessagePart::All { from } => self.take_message(alloc, from, token),
+            MessagePart::All { from } | MessagePart::BehindAny { from } => self.take_message(
+                alloc, from, token,
+            ),
             MessagePart::OfKeyword { from } => self.take_of_keyword(alloc, from, token),
             MessagePart::OfBinary { from } => self.take_of_binary(alloc, from, token),
             MessagePart::BehindArgument { .. } => Ok(()),
@@ -284,6 +312,7 @@ impl Reader {
             MessagePart::All { .. }
             | MessagePart::OfKeyword { .. }
             | MessagePart::OfBinary { .. }
+            | MessagePart::BehindAny { .. }
             | MessagePart::InCascade => Ok(()),
         }
     }

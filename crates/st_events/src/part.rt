@@ -33,6 +33,8 @@ pub enum ExpressionPart {
     BehindName { from: u32, to: u32, name: Text },
     /// Behind the value of an assignment.
     BehindValue { from: u32 },
+    /// The operand of a whole message of a pattern.
+    AnyArgument,
 }
 
 /// Messages. `from` is where the receiver begins.
@@ -60,6 +62,10 @@ pub enum MessagePart {
         from: Option<u32>,
         arguments: u32,
         selector: Text,
+    },
+    /// Behind a whole message of a pattern, where a cascade may go on.
+    BehindAny {
+        from: u32,
     },
     /// A message behind a semicolon.
     InCascade,
@@ -131,6 +137,10 @@ pub enum SequencePart {
     Items { from: u32, count: u32 },
     /// A mark that says nothing.
     Mark,
+    /// A pattern, which is one expression.
+    Pattern,
+    /// Behind a pattern that begins at `from`.
+    BehindPattern { from: u32 },
 }
 
 /// What a text declares.

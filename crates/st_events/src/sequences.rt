@@ -9,6 +9,7 @@ use crate::token::Token;
 use parse_events::{BoxedComments, Event};
 use rb_base::Memory;
 use st_faults::Sort;
+use st_tree::Comments;
 use std::alloc::Global;
 use std::mem;
 
@@ -75,6 +76,10 @@ impl Reader {
                 let to = place(token.to)?;
                 self.close(alloc, enclosure, count, to)
             }
+            Sort::AnyStatement => {
+                self.begin_statement(enclosure, count, from)?;
+                self.variable(alloc, token)
+            }
             _ => {
                 self.begin_statement(enclosure, count, from)?;
                 self.begin_expression(alloc, token)
@@ -110,6 +115,15 @@ impl Reader {
         }
     }
 
+    /// The first token of a pattern.
+    fn begin_pattern(&mut self, alloc: Global, token: Token<'_>) -> Result<(), Memory>
+        ensures { IfOk result (λ _. self.new ≡ sequence_taken SequencePart.Pattern (seen token.entry) token.entry.from token.entry.to self.old) }
+    {
+        let from = place(token.from)?;
+        self.push(Part::Sequence(SequencePart::BehindPattern { from }))?;
+        self.begin_expression(alloc, token)
+    }
+
     /// A token that a part of a sequence takes.
     pub fn take_in_sequence(
         &mut self,
@@ -125,6 +139,11 @@ impl Reader {
             ),
             SequencePart::BehindStatement { from } => self.state(alloc, from),
             SequencePart::Items { from, count } => self.take_item(alloc, from, count, token),
+            SequencePart::Pattern => self.begin_pattern(alloc, token),
+            SequencePart::BehindPattern { from } => self.emit(Event::Statement {
+                from,
+                comments: Comments::new(alloc),
+            }),
             SequencePart::BehindReturn { .. } | SequencePart::Mark => Ok(()),
         }
     }
@@ -139,9 +158,11 @@ impl Reader {
                 let to = self.last;
                 self.emit(Event::Return { from, to })
             }
-            SequencePart::Statements { .. } | SequencePart::Items { .. } | SequencePart::Mark => Ok(
-                (),
-            ),
+            SequencePart::Statements { .. }
+            | SequencePart::Items { .. }
+            | SequencePart::Mark
+            | SequencePart::Pattern
+            | SequencePart::BehindPattern { .. } => Ok(()),
         }
     }
 }

@@ -11,13 +11,13 @@ use crate::part::{
 };
 use st_faults::Sort;
 
-/// Whether a token of the sort is an identifier.
+/// Whether a token of the sort is a unary selector.
 #[inline]
 fn is_name(sort: Sort) -> bool
     ensures { (s : Text) (l : LiteralOf Text) → is_name (terminal sort s l) ≡ result }
 {
     match sort {
-        Sort::Name | Sort::Super => true,
+        Sort::Name | Sort::Super | Sort::AnyName => true,
         _ => false,
     }
 }
@@ -28,7 +28,7 @@ fn is_keyword(sort: Sort) -> bool
     ensures { (s : Text) (l : LiteralOf Text) → is_keyword (terminal sort s l) ≡ result }
 {
     match sort {
-        Sort::Keyword | Sort::PrimitiveKeyword => true,
+        Sort::Keyword | Sort::PrimitiveKeyword | Sort::AnyKey => true,
         _ => false,
     }
 }
@@ -41,6 +41,7 @@ fn is_operator(sort: Sort) -> bool
     match sort {
         Sort::Name
         | Sort::Super
+        | Sort::AnyName
         | Sort::Binary
         | Sort::Sign
         | Sort::Less
@@ -58,8 +59,11 @@ fn is_message(sort: Sort) -> bool
     match sort {
         Sort::Name
         | Sort::Super
+        | Sort::AnyName
         | Sort::Keyword
         | Sort::PrimitiveKeyword
+        | Sort::AnyKey
+        | Sort::AnyMessage
         | Sort::Binary
         | Sort::Sign
         | Sort::Less
@@ -100,8 +104,10 @@ fn expression_takes(part: &ExpressionPart, sort: Sort) -> bool
     match part {
         ExpressionPart::BehindName { .. } => follows_name(sort),
         ExpressionPart::BehindValue { .. } => false,
-        ExpressionPart::Whole | ExpressionPart::BinaryArgument | ExpressionPart::KeywordArgument =>
-            true,
+        ExpressionPart::Whole
+        | ExpressionPart::BinaryArgument
+        | ExpressionPart::KeywordArgument
+        | ExpressionPart::AnyArgument => true,
     }
 }
 
@@ -117,7 +123,8 @@ fn message_takes(part: &MessagePart, sort: Sort) -> bool
         MessagePart::BehindArgument { .. } => false,
         MessagePart::BehindKeyword { .. } => is_keyword(sort),
         MessagePart::InCascade => true,
-        MessagePart::BehindCascade { .. } => sort == Sort::Semicolon,
+        MessagePart::BehindAny { .. } | MessagePart::BehindCascade { .. } => sort
+            == Sort::Semicolon,
     }
 }
 
@@ -127,7 +134,10 @@ fn literal_takes(part: &LiteralPart, sort: Sort, joined: bool) -> bool
     ensures { (s : Text) (l : LiteralOf Text) → takes (Part.Literal part.now) (terminal sort s l) joined ≡ result }
 {
     match part {
-        LiteralPart::BehindKeyword { .. } => is_keyword(sort) && joined,
+        LiteralPart::BehindKeyword { .. } => match sort {
+            Sort::Keyword | Sort::PrimitiveKeyword => joined,
+            _ => false,
+        },
         LiteralPart::BehindOperand { .. } => false,
         LiteralPart::Numeral { .. } | LiteralPart::Elements { .. } | LiteralPart::Bytes { .. } =>
             true,
@@ -154,7 +164,11 @@ fn sequence_takes(part: &SequencePart, sort: Sort) -> bool
     match part {
         SequencePart::BehindStatement { .. } => sort == Sort::Period,
         SequencePart::BehindReturn { .. } => false,
-        SequencePart::Statements { .. } | SequencePart::Items { .. } | SequencePart::Mark => true,
+        SequencePart::Statements { .. }
+        | SequencePart::Items { .. }
+        | SequencePart::Mark
+        | SequencePart::Pattern
+        | SequencePart::BehindPattern { .. } => true,
     }
 }
 

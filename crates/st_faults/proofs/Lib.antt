@@ -1,4 +1,6 @@
 pub mod Stacked
+pub mod Listed
+pub mod MetaWords
 pub mod Signs
 pub mod Skipping
 pub mod Scanning

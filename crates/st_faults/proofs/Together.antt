@@ -3,8 +3,6 @@ use Rattle.std.proofs.Common.{◌≡◌, ◌≢◌, ℕ, ◌≤◌, inl, inr, tr
 use Rattle.std.proofs.lemmas.Bool.{false≢true}
 use Rattle.std.specs.Prelude.{Option, is_some}
 use Rattle.std.specs.Option.{option_map_or}
-use Rattle.token_model.specs.declared.kind.Dialect.TheVariants.{Second}
-use Rattle.token_model.proofs.Spans.{IsToken-inside}
 use Rattle.tree_model.specs.Tree.{Notes, LiteralOf}
 use Rattle.grammar_model.specs.Terminal.{Text, Terminal}
 use Rattle.grammar_model.specs.Input as input
@@ -26,6 +24,7 @@ use Rattle.st_faults.specs.Lexing.{IsLexedFrom, IsFirst}
 use Rattle.st_faults.specs.Depths.{deep_behind}
 use Rattle.st_faults.specs.Faults.{IsRead}
 use Rattle.st_faults.specs.Judging.{Whole, Together}
+use Rattle.st_faults.proofs.Listed.{next_inside, lexed_whole, lexed_from}
 use Rattle.st_faults.proofs.Scanning.{Leads}
 use Rattle.st_faults.proofs.Reading.{goes_behind, rest_behind, run_nil}
 use Rattle.st_faults.proofs.Passing.{IsLexedFrom-same, split}
@@ -49,26 +48,26 @@ together_good : (form : Form) (t : Text) (at : ℕ) (d : Depth) (ss : Stack) →
 together_good form t at d ss h = feeds_good h.before (start form) ss (good_start form) h.reached
 
 -- a token ends inside the text
-first_inside : (t : Text) (at : ℕ) (l : Lexeme) → IsFirst t at l → l.to ≤ length t
-first_inside t at l first = (IsToken-inside Second first.kind t l.from l.to first.token.token).1
+first_inside : (form : Form) (t : Text) (at : ℕ) (l : Lexeme) → IsFirst form t at l → l.to ≤ length t
+first_inside form t at l first = next_inside form t first.place _ first.token
 
 -- no token was read
 pub together_none : (form : Form) (t : Text) (ss : Stack) → ss ≡ start form → Together form t 0 (Open 0) ss
 together_none form t ss first = record {
   whole = λ ts h. record {
     tokens = ts;
-    lexed = record { pieces = h.pieces; read = h.read; same = h.same };
+    lexed = lexed_whole form t ts h;
     depth = refl;
     same = ap (λ ss. run ss ts) (sym first);
   };
-  rest = λ tokens h. (tokens, record { pieces = h.pieces; read = h.read; same = h.same });
+  rest = λ tokens h. (tokens, lexed_from form t tokens h);
   before = [];
   reached = ap (λ s. Some s) (sym first);
 }
 
 -- the tokens of the text, of which this one is the next
-behind : (form : Form) (t : Text) (at : ℕ) (l : Lexeme) (d e : Depth) (ss new : Stack) → Together form t at d ss → (first : IsFirst t at l) → Leads l d e → Moves l ss new →
-    (ts : List input.Lexeme) → IsLexedFrom t at [] (lex first.notes l.from l.to (terminal l.sort first.text first.literal) ∷ ts) → Whole form t e new ts
+behind : (form : Form) (t : Text) (at : ℕ) (l : Lexeme) (d e : Depth) (ss new : Stack) → Together form t at d ss → (first : IsFirst form t at l) → Leads l d e → Moves l ss new →
+    (ts : List input.Lexeme) → IsLexedFrom form t at [] (lex first.notes l.from l.to (terminal l.sort first.text first.literal) ∷ ts) → Whole form t e new ts
 behind form t at l d e ss new before first leads moves ts lexed =
     let w = before.whole (lex first.notes l.from l.to (terminal l.sort first.text first.literal) ∷ ts) lexed in
     record {
@@ -79,20 +78,20 @@ behind form t at l d e ss new before first leads moves ts lexed =
     }
 
 -- one more token
-pub together_one : (form : Form) (t : Text) (at : ℕ) (l : Lexeme) (d e : Depth) (ss new : Stack) → Together form t at d ss → IsFirst t at l → l.sort ≢ TextEnd → Leads l d e → Moves l ss new → Together form t l.to e new
+pub together_one : (form : Form) (t : Text) (at : ℕ) (l : Lexeme) (d e : Depth) (ss new : Stack) → Together form t at d ss → IsFirst form t at l → l.sort ≢ TextEnd → Leads l d e → Moves l ss new → Together form t l.to e new
 together_one form t at l d e ss new before first other leads moves = record {
   whole = λ ts h. behind form t at l d e ss new before first leads moves ts (first.joined ts (inr (other, h)));
   rest = λ tokens h.
       let left = before.rest tokens h in
-      let s = split t at l left.0 first (first_inside t at l first) left.1 in
-      (s.rest, rest_behind t l s.rest other s.behind);
+      let s = split form t at l left.0 first (first_inside form t at l first) left.1 in
+      (s.rest, rest_behind form t l s.rest other s.behind);
   before = before.before ++ terminal l.sort first.text first.literal ∷ [];
   reached = feeds-append before.before (terminal l.sort first.text first.literal ∷ []) (start form) ss before.reached ∙
       feeds_one ss (terminal l.sort first.text first.literal) (Some new) (moves first.text first.literal);
 }
 
 -- the last token
-pub together_last : (form : Form) (t : Text) (at : ℕ) (l : Lexeme) (d e : Depth) (ss new : Stack) → Together form t at d ss → IsFirst t at l → l.sort ≡ TextEnd → Leads l d e → Moves l ss new → deep_behind e [] ≡ None → IsRead form t
+pub together_last : (form : Form) (t : Text) (at : ℕ) (l : Lexeme) (d e : Depth) (ss new : Stack) → Together form t at d ss → IsFirst form t at l → l.sort ≡ TextEnd → Leads l d e → Moves l ss new → deep_behind e [] ≡ None → IsRead form t
 together_last form t at l d e ss new before first end leads moves shallow =
     let w = behind form t at l d e ss new before first leads moves [] (first.joined [] (inl (end, refl))) in
     let empty : IsNil new = subst EmptyIfSome (ap (λ x. step ss (terminal x first.text first.literal)) (sym end) ∙ moves first.text first.literal) (good_end ss (together_good form t at d ss before)) in
@@ -108,13 +107,12 @@ record Left (l : Lexeme) (d : Depth) (ss : Stack) : Type 0 where
   same : run ss (lex notes l.from l.to (terminal l.sort text literal) ∷ behind) ≡ None
 
 -- what is left of a text that is read
-left_of : (form : Form) (t : Text) (at : ℕ) (l : Lexeme) (d : Depth) (ss : Stack) → Together form t at d ss → IsFirst t at l → IsRead form t → Left l d ss
+left_of : (form : Form) (t : Text) (at : ℕ) (l : Lexeme) (d : Depth) (ss : Stack) → Together form t at d ss → IsFirst form t at l → IsRead form t → Left l d ss
 left_of form t at l d ss before first read =
     let left = before.rest read.tokens read.lexed in
-    let s = split t at l left.0 first (first_inside t at l first) left.1 in
+    let s = split form t at l left.0 first (first_inside form t at l first) left.1 in
     let w = before.whole left.0 left.1 in
-    let all : w.tokens ≡ read.tokens = IsLexedFrom-same t 0 [] w.tokens read.tokens
-    (record { pieces = w.lexed.pieces; read = w.lexed.read; same = w.lexed.same }) (record { pieces = read.lexed.pieces; read = read.lexed.read; same = read.lexed.same }) in
+    let all : w.tokens ≡ read.tokens = IsLexedFrom-same form t 0 [] w.tokens read.tokens (lexed_from form t w.tokens w.lexed) (lexed_from form t read.tokens read.lexed) in
     record {
       notes = s.notes;
       text = s.text;
@@ -130,7 +128,7 @@ too_deep (Open n) ts deep none = absurd (false≢true deep)
 too_deep (TooDeep at) ts deep none = cc
 
 -- a text with a bracket that is too deep is not read
-pub together_deep : (form : Form) (t : Text) (at : ℕ) (l : Lexeme) (d e : Depth) (ss : Stack) → Together form t at d ss → IsFirst t at l → Leads l d e → is_some (deep_behind e []) ≡ true → ¬ IsRead form t
+pub together_deep : (form : Form) (t : Text) (at : ℕ) (l : Lexeme) (d e : Depth) (ss : Stack) → Together form t at d ss → IsFirst form t at l → Leads l d e → is_some (deep_behind e []) ≡ true → ¬ IsRead form t
 together_deep form t at l d e ss before first leads deep = λ read.
     let left = left_of form t at l d ss before first read in
     too_deep e left.behind deep (sym (leads left.notes left.text left.literal left.behind) ∙ left.depth)
@@ -143,7 +141,7 @@ stops l ss left notes s k e none =
     cc
 
 -- a text with a token that cannot stand is not read
-pub together_stops : (form : Form) (t : Text) (at : ℕ) (l : Lexeme) (d : Depth) (ss : Stack) → Together form t at d ss → IsFirst t at l → ((s : Text) (k : LiteralOf Text) → step ss (terminal l.sort s k) ≡ None) → ¬ IsRead form t
+pub together_stops : (form : Form) (t : Text) (at : ℕ) (l : Lexeme) (d : Depth) (ss : Stack) → Together form t at d ss → IsFirst form t at l → ((s : Text) (k : LiteralOf Text) → step ss (terminal l.sort s k) ≡ None) → ¬ IsRead form t
 together_stops form t at l d ss before first refuses = λ read.
     let left = left_of form t at l d ss before first read in
     stops l ss left.behind left.notes left.text left.literal (refuses left.text left.literal) left.same

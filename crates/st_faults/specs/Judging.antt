@@ -3,7 +3,7 @@ use Rattle.std.specs.Prelude.{◌≡◌, ℕ, List, [], Some}
 use Rattle.token_model.specs.declared.kind.Dialect.TheVariants.{Second}
 use Rattle.grammar_model.specs.Terminal.{Text, Terminal}
 use Rattle.grammar_model.specs.Input.{Lexeme}
-use Rattle.grammar_model.specs.Lexemes.{IsLexed}
+use Rattle.grammar_model.specs.PatternTokens.{IsLexedAs}
 use Rattle.grammar_model.specs.Whole.{Form}
 use Rattle.grammar_model.specs.Checks.{first_deep}
 use Rattle.grammar_model.specs.Machine.{Stack, start, run, feeds}
@@ -16,15 +16,15 @@ use Rattle.st_faults.specs.Depths.{deep_behind}
 -- the tokens of the text, of which these are left: how deep their brackets are, and where they lead the machine
 pub record Whole (form : Form) (t : Text) (d : Depth) (ss : Stack) (ts : List Lexeme) : Type 0 where
   pub tokens : List Lexeme
-  pub lexed : IsLexed Second t tokens
+  pub lexed : IsLexedAs form Second t tokens
   pub depth : first_deep 0 tokens ≡ deep_behind d ts
   pub same : run (start form) tokens ≡ run ss ts
 
 -- The tokens up to a place lead to a depth and to a stack of the machine. Where the text has no lexical fault, there are
 -- tokens from the place on.
 pub record Together (form : Form) (t : Text) (at : ℕ) (d : Depth) (ss : Stack) : Type 0 where
-  pub whole : (ts : List Lexeme) → IsLexedFrom t at [] ts → Whole form t d ss ts
-  pub rest : (tokens : List Lexeme) → IsLexed Second t tokens → (ts : List Lexeme) × IsLexedFrom t at [] ts
+  pub whole : (ts : List Lexeme) → IsLexedFrom form t at [] ts → Whole form t d ss ts
+  pub rest : (tokens : List Lexeme) → IsLexedAs form Second t tokens → (ts : List Lexeme) × IsLexedFrom form t at [] ts
   pub before : List Terminal
   pub reached : feeds (start form) before ≡ Some ss
 

@@ -43,6 +43,8 @@ message_part message.BinaryOfKeyword = machine.BinaryOfKeyword
 message_part (message.Unary told) = machine.UnaryMessages told
 message_part (message.Binary told) = machine.BinaryMessages told
 message_part (message.Keyword told) = machine.KeywordMessages told
+message_part message.AnyArgument = machine.AnyArgument
+message_part (message.BehindAny told) = machine.BehindAnyMessage told
 message_part message.InCascade = machine.TheMessage
 message_part message.BehindInCascade = machine.TheCascade
 
@@ -104,8 +106,10 @@ put_all ps ss = put ps.first (put ps.second (put ps.third (put ps.fourth ss)))
 -- behind the first token of a message, where a cascade can go on from the message or not; the last argument stands where no message begins
 abbrev pub begin_message : Bool → Terminal → Stack → Option Stack → Option Stack
 begin_message told (grammar.Name c n) ss other = Some (machine.UnaryMessages told ∷ ss)
+begin_message told (grammar.OperandMeta grammar.AnyName n) ss other = Some (machine.UnaryMessages told ∷ ss)
 begin_message told (grammar.Binary c s) ss other = Some (machine.TheArgument ∷ machine.BinaryMessages told ∷ ss)
 begin_message told (grammar.Keyword c s) ss other = Some (machine.TheKeywordArgument ∷ machine.KeywordMessages told ∷ ss)
+begin_message told (grammar.MessageMeta s) ss other = Some (machine.AnyArgument ∷ machine.BehindAnyMessage told ∷ ss)
 begin_message told k ss other = other
 
 -- one or two parts, or none

@@ -1,6 +1,6 @@
 -- What a token is to the grammar.
 use Rattle.tree_model.specs.Tree.{LiteralOf}
-use Rattle.grammar_model.specs.Terminal.{Text, Terminal, Ordinary, AnyKeyword, Common, SmallDigits, LargeDigits, Assignment, Colon, Semicolon, Period, Caret}
+use Rattle.grammar_model.specs.Terminal.{Text, Terminal, Keyword, Ordinary, AnyKeyword, Common, AnyKey, OperandMeta, AnyName, AnyLiteral, AnyExpression, StatementMeta, MessageMeta, SmallDigits, LargeDigits, Assignment, Colon, Semicolon, Period, Caret}
 use Rattle.grammar_model.specs.Terminal as grammar
 use Rattle.st_faults.specs.declared.sort.Sort.{Sort}
 use Rattle.st_faults.specs.declared.sort.Sort.TheVariants as sort
@@ -34,3 +34,9 @@ terminal sort.Colon s l = Colon
 terminal sort.Semicolon s l = Semicolon
 terminal sort.Period s l = Period
 terminal sort.Caret s l = Caret
+terminal sort.AnyName s l = OperandMeta AnyName s
+terminal sort.AnyLiteral s l = OperandMeta AnyLiteral s
+terminal sort.AnyExpression s l = OperandMeta AnyExpression s
+terminal sort.AnyStatement s l = StatementMeta s
+terminal sort.AnyKey s l = Keyword AnyKey s
+terminal sort.AnyMessage s l = MessageMeta s

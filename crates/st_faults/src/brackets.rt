@@ -4,14 +4,16 @@ ghost use Rattle.tree_model.specs.Tree.{Notes, LiteralOf};
 ghost use Rattle.grammar_model.specs.Terminal.{Text};
 ghost use Rattle.grammar_model.specs.Input as input;
 ghost use Rattle.grammar_model.specs.Input.{lex};
-ghost use Rattle.grammar_model.specs.Lexemes.{IsLexed};
+ghost use Rattle.grammar_model.specs.PatternTokens.{IsLexedAs};
 ghost use Rattle.grammar_model.specs.Checks.{first_deep};
 ghost use Rattle.st_faults.specs.Sorts.{terminal};
+ghost use Rattle.st_faults.specs.Forms.{form_of};
 ghost use Rattle.st_faults.specs.Lexing.{HasLexFault};
 ghost use Rattle.st_faults.specs.Depths.{deep_behind};
 ghost use Rattle.st_faults.specs.Faults.{IsClean, IsUnclean};
 
 use crate::fault::ParseFault;
+use crate::form::TextForm;
 use crate::lexeme::{Lexeme, next_lexeme};
 use crate::sort::Sort;
 use token_model::LexFault;
@@ -66,14 +68,14 @@ pub fn depth_behind(depth: Depth, lexeme: Lexeme) -> Depth
 }
 
 /// How deep the brackets of a text are at its end, or its first lexical fault.
-fn whole_depth(text: &[u8]) -> Result<Depth, LexFault>
-    ensures depth { IfOk result (λ depth. (tokens : List input.Lexeme) × IsLexed Second text.now tokens × (first_deep 0 tokens ≡ deep_behind depth [])) }
-    ensures fault { IfErr result (HasLexFault text.now 0) }
+fn whole_depth(form: TextForm, text: &[u8]) -> Result<Depth, LexFault>
+    ensures depth { IfOk result (λ depth. (tokens : List input.Lexeme) × IsLexedAs (form_of form) Second text.now tokens × (first_deep 0 tokens ≡ deep_behind depth [])) }
+    ensures fault { IfErr result (HasLexFault (form_of form) text.now 0) }
 {
     let mut place = 0;
     let mut depth = Depth::Open(0);
     'tokens: loop {
-        let lexeme = next_lexeme(text, place)?;
+        let lexeme = next_lexeme(form, text, place)?;
         depth = depth_behind(depth, lexeme);
         match lexeme.sort {
             Sort::TextEnd => return Ok(depth),
@@ -82,14 +84,14 @@ fn whole_depth(text: &[u8]) -> Result<Depth, LexFault>
     }
 }
 
-/// Whether a text has neither a lexical fault nor too many open brackets. It is refused with the first lexical fault, or
+/// Whether a text of a form has neither a lexical fault nor too many open brackets. It is refused with the first lexical fault, or
 /// else with `TooDeep` at the first bracket that opens where 400 stand open. It takes no memory, and its time is linear
 /// in the text.
-pub fn scan(text: &[u8]) -> Result<(), ParseFault>
-    ensures clean { IfOk result (λ _. IsClean text.now) }
-    ensures fault { IfErr result (IsUnclean text.now) }
+pub fn scan(form: TextForm, text: &[u8]) -> Result<(), ParseFault>
+    ensures clean { IfOk result (λ _. IsClean (form_of form) text.now) }
+    ensures fault { IfErr result (IsUnclean (form_of form) text.now) }
 {
-    match whole_depth(text) {
+    match whole_depth(form, text) {
         Err(fault) => Err(ParseFault::Lexical(fault)),
         Ok(Depth::TooDeep(at)) => Err(ParseFault::TooDeep { at }),
         Ok(Depth::Open(_)) => Ok(()),

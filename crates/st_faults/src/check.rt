@@ -3,7 +3,7 @@ ghost use Rattle.tree_model.specs.Tree.{Notes, LiteralOf};
 ghost use Rattle.grammar_model.specs.Terminal.{Text, Binary, Less};
 ghost use Rattle.grammar_model.specs.Input as input;
 ghost use Rattle.grammar_model.specs.Input.{lex, first_kind};
-ghost use Rattle.grammar_model.specs.Whole.{DoIt, Method};
+ghost use Rattle.grammar_model.specs.Whole.{DoIt, Method, PatternText};
 ghost use Rattle.grammar_model.specs.Machine.{start, wish, may_start, is_primitive, fault_at};
 ghost use Rattle.st_faults.specs.Sorts.{terminal};
 ghost use Rattle.st_faults.specs.Lexing.{IsLexedFrom, IsBehind};
@@ -21,11 +21,11 @@ use crate::stack::{may_start, read, wanted};
 use std::alloc::Global;
 
 /// Whether the first token from a place of a clean text on is the keyword of primitives.
-fn has_primitive_keyword(text: &[u8], at: usize) -> bool
+fn has_primitive_keyword(form: TextForm, text: &[u8], at: usize) -> bool
     requires { at ≤ length text.now }
-    ensures { (s : Text) (ts : List input.Lexeme) → IsLexedFrom text.now at [] ts → is_primitive (Binary Less s) (first_kind ts) ≡ result }
+    ensures { (s : Text) (ts : List input.Lexeme) → IsLexedFrom (form_of form) text.now at [] ts → is_primitive (Binary Less s) (first_kind ts) ≡ result }
 {
-    match next_lexeme(text, at) {
+    match next_lexeme(form, text, at) {
         Ok(lexeme) => match lexeme.sort {
             Sort::PrimitiveKeyword => true,
             _ => false,
@@ -35,13 +35,13 @@ fn has_primitive_keyword(text: &[u8], at: usize) -> bool
 }
 
 /// Whether a token of a clean text begins a primitive.
-fn begins_primitive(text: &[u8], lexeme: Lexeme) -> bool
+fn begins_primitive(form: TextForm, text: &[u8], lexeme: Lexeme) -> bool
     requires { lexeme.to ≤ length text.now }
-    ensures { (s : Text) (l : LiteralOf Text) (ts : List input.Lexeme) → IsBehind text.now lexeme ts →
+    ensures { (s : Text) (l : LiteralOf Text) (ts : List input.Lexeme) → IsBehind (form_of form) text.now lexeme ts →
         is_primitive (terminal lexeme.sort s l) (first_kind ts) ≡ result }
 {
     match lexeme.sort {
-        Sort::Less => has_primitive_keyword(text, lexeme.to),
+        Sort::Less => has_primitive_keyword(form, text, lexeme.to),
         _ => false,
     }
 }
@@ -49,11 +49,11 @@ fn begins_primitive(text: &[u8], lexeme: Lexeme) -> bool
 /// The fault at a token of a clean text that cannot stand there.
 fn refusal(text: &[u8], form: TextForm, stack: &[Part], lexeme: Lexeme) -> ParseFault
     requires { lexeme.to ≤ length text.now }
-    ensures { (notes : Notes) (s : Text) (l : LiteralOf Text) (ts : List input.Lexeme) → IsBehind text.now lexeme ts →
+    ensures { (notes : Notes) (s : Text) (l : LiteralOf Text) (ts : List input.Lexeme) → IsBehind (form_of form) text.now lexeme ts →
         fault_of result ≡ Some (fault_at (form_of form) (lex notes lexeme.from lexeme.to (terminal lexeme.sort s l) ∷ ts) (wish (stack_of stack.now)) (may_start (stack_of stack.now))) }
 {
     let at = lexeme.from;
-    if is_user(form) && may_start(stack) && begins_primitive(text, lexeme) {
+    if is_user(form) && may_start(stack) && begins_primitive(form, text, lexeme) {
         ParseFault::PrimitiveInUser { at }
     } else {
         ParseFault::Expected {
@@ -65,14 +65,14 @@ fn refusal(text: &[u8], form: TextForm, stack: &[Part], lexeme: Lexeme) -> Parse
 
 /// Reads the tokens of a clean text up to its end, or up to the first that cannot stand.
 fn read_all(text: &[u8], form: TextForm, stack: &mut Vec<Part>) -> Result<(), ParseFault>
-    requires clean { IsClean text.now }
+    requires clean { IsClean (form_of form) text.now }
     requires start { stack_of stack.old.items ≡ start (form_of form) }
     ensures read { IfOk result (λ _. IsRead (form_of form) text.now) }
     ensures fault { IfErr result (IsRefused (form_of form) text.now) }
 {
     let mut place = 0;
     'tokens: loop {
-        let lexeme = next_lexeme(text, place)?;
+        let lexeme = next_lexeme(form, text, place)?;
         if !read(stack, lexeme.sort)? {
             return Err(refusal(text, form, stack, lexeme));
         }
@@ -88,7 +88,7 @@ fn check(alloc: Global, text: &[u8], form: TextForm) -> Result<(), ParseFault>
     ensures read { IfOk result (λ _. IsRead (form_of form) text.now) }
     ensures fault { IfErr result (IsRefused (form_of form) text.now) }
 {
-    scan(text)?;
+    scan(form, text)?;
     let mut stack = start(alloc, form)?;
     read_all(text, form, &mut stack)
 }
@@ -111,4 +111,13 @@ pub fn check_method(alloc: Global, text: &[u8], kernel: bool) -> Result<(), Pars
     ensures fault { IfErr result (IsRefused (Method kernel) text.now) }
 {
     check(alloc, text, TextForm::Method(kernel))
+}
+
+/// Whether a text is a pattern by the grammar: one expression, in which metavariables may stand. It judges and refuses as
+/// `check_doit` does.
+pub fn check_pattern(alloc: Global, text: &[u8]) -> Result<(), ParseFault>
+    ensures read { IfOk result (λ _. IsRead PatternText text.now) }
+    ensures fault { IfErr result (IsRefused PatternText text.now) }
+{
+    check(alloc, text, TextForm::Pattern)
 }

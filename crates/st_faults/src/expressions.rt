@@ -2,6 +2,7 @@ ghost use Rattle.std.specs.Prelude.{◌∷◌, true};
 ghost use Rattle.grammar_model.specs.Machine.{step, TheArgument, TheKeywordArgument, BehindName, BehindFirstSuper, BehindSuperOfBinary, BehindSuperOfKeyword};
 ghost use Rattle.st_faults.specs.Moves.{expression_part, moved, Does, begin_message};
 
+use crate::messages::any_message;
 use crate::moves::{Move, begin_expression, begin_operand, reads};
 use crate::part::{ExpressionPart, MessagePart, Part};
 use crate::sort::Sort;
@@ -41,15 +42,19 @@ fn begin_message(sort: Sort, told: bool, otherwise: Move) -> Move
     ensures { Does result sort (λ ss k. begin_message told k ss (moved otherwise ss k)) }
 {
     match sort {
-        Sort::Name | Sort::Super => reads(Some(Part::Message(MessagePart::Unary(told))), None),
+        Sort::Name | Sort::Super | Sort::AnyName => reads(
+            Some(Part::Message(MessagePart::Unary(told))),
+            None,
+        ),
         Sort::Binary | Sort::Sign | Sort::Less | Sort::Greater | Sort::Bar => reads(
             Some(Part::Expression(ExpressionPart::BinaryArgument)),
             Some(Part::Message(MessagePart::Binary(told))),
         ),
-        Sort::Keyword | Sort::PrimitiveKeyword => reads(
+        Sort::Keyword | Sort::PrimitiveKeyword | Sort::AnyKey => reads(
             Some(Part::Expression(ExpressionPart::KeywordArgument)),
             Some(Part::Message(MessagePart::Keyword(told))),
         ),
+        Sort::AnyMessage => any_message(told),
         _ => otherwise,
     }
 }
@@ -80,7 +85,10 @@ fn behind_super_of_binary(sort: Sort) -> Move
     ensures { Does result sort (λ ss k. step (BehindSuperOfBinary ∷ ss) k) }
 {
     match sort {
-        Sort::Name | Sort::Super => reads(Some(Part::Message(MessagePart::UnaryOfBinary)), None),
+        Sort::Name | Sort::Super | Sort::AnyName => reads(
+            Some(Part::Message(MessagePart::UnaryOfBinary)),
+            None,
+        ),
         _ => Move::Refuses,
     }
 }
@@ -90,7 +98,10 @@ fn behind_super_of_keyword(sort: Sort) -> Move
     ensures { Does result sort (λ ss k. step (BehindSuperOfKeyword ∷ ss) k) }
 {
     match sort {
-        Sort::Name | Sort::Super => reads(Some(Part::Message(MessagePart::UnaryOfKeyword)), None),
+        Sort::Name | Sort::Super | Sort::AnyName => reads(
+            Some(Part::Message(MessagePart::UnaryOfKeyword)),
+            None,
+        ),
         Sort::Binary | Sort::Sign | Sort::Less | Sort::Greater | Sort::Bar => reads(
             Some(Part::Expression(ExpressionPart::BinaryArgument)),
             Some(Part::Message(MessagePart::BinaryOfKeyword)),

@@ -4,7 +4,7 @@ ghost use Rattle.grammar_model.specs.Machine.{start, is_user};
 ghost use Rattle.st_faults.specs.Stacks.{stack_of};
 ghost use Rattle.st_faults.specs.Forms.{form_of};
 
-use crate::part::{ClosingPart, MethodPart, Part, SequencePart};
+use crate::part::{ClosingPart, ExpressionPart, MethodPart, Part, SequencePart};
 use rb_base::Memory;
 use std::alloc::Global;
 
@@ -18,6 +18,8 @@ pub enum TextForm {
     DoIt,
     /// A method, of the kernel or not.
     Method(bool),
+    /// A pattern: one expression, in which metavariables may stand.
+    Pattern,
 }
 
 /// The stack before a text.
@@ -27,6 +29,7 @@ pub fn start(alloc: Global, form: TextForm) -> Result<Vec<Part>, Memory>
     let first = match form {
         TextForm::DoIt => Part::Sequence(SequencePart::Whole),
         TextForm::Method(kernel) => Part::Method(MethodPart::Pattern(kernel)),
+        TextForm::Pattern => Part::Expression(ExpressionPart::Whole),
     };
     let mut stack = Vec::with_capacity(alloc, PARTS)?;
     stack.push(Part::Awaits(ClosingPart::Text))?;
@@ -39,7 +42,7 @@ pub fn is_user(form: TextForm) -> bool
     ensures { result ≡ is_user (form_of form) }
 {
     match form {
-        TextForm::DoIt => true,
+        TextForm::DoIt | TextForm::Pattern => true,
         TextForm::Method(kernel) => !kernel,
     }
 }

@@ -1,7 +1,7 @@
 // The judgement of a text, token by token, while its events are gathered.
 ghost use Rattle.std.specs.Prelude.{◌≡◌, ◌≢◌, ℕ, true, false, IfOk};
 ghost use Rattle.grammar_model.specs.Terminal.{Text};
-ghost use Rattle.grammar_model.specs.Whole.{Form, DoIt, Method};
+ghost use Rattle.grammar_model.specs.Whole.{Form, DoIt, Method, PatternText};
 ghost use Rattle.st_faults.specs.declared.sort.Sort.TheVariants.{TextEnd};
 ghost use Rattle.st_faults.specs.Lexing.{IsFirst};
 ghost use Rattle.st_faults.specs.Faults.{IsRead};
@@ -49,15 +49,22 @@ impl Judgement {
         before(alloc, TextForm::Method(kernel))
     }
 
+    /// A search before a pattern.
+    pub fn of_pattern(alloc: Global) -> Result<Judgement, Memory>
+        ensures { IfOk result (λ judgement. (text : Text) → IsReadTo PatternText text 0 judgement) }
+    {
+        before(alloc, TextForm::Pattern)
+    }
+
     /// Whether the text has no fault up to the end of its next token, which this is: the token is no bracket that is too
     /// deep, and it can stand. Behind a token that is told to have a fault, nothing is known any more.
     #[inline]
     pub fn takes(&mut self, lexeme: Lexeme) -> Result<bool, Memory>
-        ensures further { IfOk result (λ taken. taken ≡ true → (form : Form) (text : Text) (at : ℕ) → IsReadTo form text at self.old → IsFirst text at lexeme →
+        ensures further { IfOk result (λ taken. taken ≡ true → (form : Form) (text : Text) (at : ℕ) → IsReadTo form text at self.old → IsFirst form text at lexeme →
             lexeme.sort ≢ TextEnd → IsReadTo form text lexeme.to self.new) }
-        ensures end { IfOk result (λ taken. taken ≡ true → (form : Form) (text : Text) (at : ℕ) → IsReadTo form text at self.old → IsFirst text at lexeme →
+        ensures end { IfOk result (λ taken. taken ≡ true → (form : Form) (text : Text) (at : ℕ) → IsReadTo form text at self.old → IsFirst form text at lexeme →
             lexeme.sort ≡ TextEnd → IsRead form text) }
-        ensures fault { IfOk result (λ taken. taken ≡ false → (form : Form) (text : Text) (at : ℕ) → IsReadTo form text at self.old → IsFirst text at lexeme →
+        ensures fault { IfOk result (λ taken. taken ≡ false → (form : Form) (text : Text) (at : ℕ) → IsReadTo form text at self.old → IsFirst form text at lexeme →
             ¬ IsRead form text) }
     {
         self.depth = depth_behind(self.depth, lexeme);

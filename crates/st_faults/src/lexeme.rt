@@ -6,11 +6,13 @@ ghost use Rattle.tree_model.specs.Tree.{LiteralOf};
 ghost use Rattle.grammar_model.specs.Terminal.{Text};
 ghost use Rattle.grammar_model.specs.Lexemes.{name_of, keyword_of, binary_of, terminal_of};
 ghost use Rattle.st_faults.specs.Sorts.{terminal};
+ghost use Rattle.st_faults.specs.Forms.{form_of};
 ghost use Rattle.st_faults.specs.Lexing.{literal_of, IsFirst, HasLexFault};
 
+use crate::form::TextForm;
+use crate::metas::{sort_in, token_from};
 use crate::numeral::{is_digit_byte, numeral_sort};
 use crate::sort::Sort;
-use st_lexer::next_token;
 use token_model::{LexFault, TokenKind};
 
 /// A token that is no comment, where it stands in a text.
@@ -102,21 +104,21 @@ pub fn begins_digit(text: &[u8], at: usize) -> bool
     }
 }
 
-/// The first token from a place on that is no comment; at the text's end that of the sort `TextEnd`. The place is at
+/// The first token of a text of a form, from a place on, that is no comment; at the text's end that of the sort `TextEnd`. The place is at
 /// most the text's length, in bytes. The fault is the first lexical one behind the comments from the place on.
 /// The comments before the token stand between the place and `from`, and are passed here.
-pub fn next_lexeme(text: &[u8], at: usize) -> Result<Lexeme, LexFault>
+pub fn next_lexeme(form: TextForm, text: &[u8], at: usize) -> Result<Lexeme, LexFault>
     requires { at ≤ length text.now }
-    ensures first { IfOk result (IsFirst text.now at) }
+    ensures first { IfOk result (IsFirst (form_of form) text.now at) }
     ensures inside { IfOk result (λ lexeme. lexeme.to ≤ length text.now) }
     ensures further { IfOk result (λ lexeme. lexeme.sort ≢ Sort.TextEnd → at < lexeme.to) }
-    ensures fault { IfErr result (HasLexFault text.now at) }
+    ensures fault { IfErr result (HasLexFault (form_of form) text.now at) }
 {
     let mut place = at;
     'comments: loop {
-        let token = next_token(text, place)?;
+        let token = token_from(form, text, place)?;
         let before_numeral = begins_digit(text, token.to);
-        if let Some(sort) = sort_of(token.kind, token.text, before_numeral) {
+        if let Some(sort) = sort_in(form, token.kind, token.text, before_numeral) {
             return Ok(Lexeme {
                 sort,
                 from: token.from,

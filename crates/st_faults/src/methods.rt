@@ -27,7 +27,7 @@ fn pattern(kernel: bool, sort: Sort) -> Move
             Some(Part::Method(MethodPart::BinaryName(kernel))),
             None,
         ),
-        Sort::Keyword | Sort::PrimitiveKeyword => reads(
+        Sort::Keyword | Sort::PrimitiveKeyword | Sort::AnyKey => reads(
             Some(Part::Method(MethodPart::KeywordName(kernel))),
             None,
         ),
@@ -63,7 +63,7 @@ fn pattern_rest(kernel: bool, sort: Sort) -> Move
     ensures { Does result sort (λ ss k. step (PatternRest kernel ∷ ss) k) }
 {
     match sort {
-        Sort::Keyword | Sort::PrimitiveKeyword => reads(
+        Sort::Keyword | Sort::PrimitiveKeyword | Sort::AnyKey => reads(
             Some(Part::Method(MethodPart::KeywordName(kernel))),
             None,
         ),

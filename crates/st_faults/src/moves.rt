@@ -49,9 +49,13 @@ pub fn begin_operand(sort: Sort, below: Option<Part>, behind: Option<Part>, othe
 {
     let (inside, end) = match sort {
         Sort::Sign => (Some(Part::Literal(LiteralPart::Numeral)), None),
-        Sort::SmallNumeral | Sort::LargeNumeral | Sort::OtherNumeral | Sort::Constant => (
-            None, None,
-        ),
+        Sort::SmallNumeral
+        | Sort::LargeNumeral
+        | Sort::OtherNumeral
+        | Sort::Constant
+        | Sort::AnyName
+        | Sort::AnyLiteral
+        | Sort::AnyExpression => (None, None),
         Sort::GroupStart => (
             Some(Part::Expression(ExpressionPart::Whole)),
             Some(Part::Awaits(ClosingPart::Group)),
@@ -108,6 +112,7 @@ pub fn begin_statement(sort: Sort, otherwise: Move) -> Move
             Some(Part::Expression(ExpressionPart::Whole)),
             Some(Part::Sequence(SequencePart::BehindReturn)),
         ),
+        Sort::AnyStatement => reads(Some(Part::Sequence(SequencePart::BehindStatement)), None),
         _ => begin_expression(
             sort,
             Some(Part::Sequence(SequencePart::BehindStatement)),

@@ -49,6 +49,10 @@ pub enum MessagePart {
     Binary(bool),
     /// The further keywords of an expression's message.
     Keyword(bool),
+    /// The operand of a whole message of a pattern.
+    AnyArgument,
+    /// Behind a whole message of a pattern.
+    BehindAny(bool),
     /// A message of a cascade.
     InCascade,
     /// Behind a message of a cascade.

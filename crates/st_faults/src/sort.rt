@@ -55,4 +55,16 @@ pub enum Sort {
     Period,
     /// `^`.
     Caret,
+    /// A metavariable of names, as `` `x ``: an operand or a unary selector of a pattern.
+    AnyName,
+    /// A metavariable of literals, as `` `#x ``.
+    AnyLiteral,
+    /// A metavariable of expressions, as `` `@x ``.
+    AnyExpression,
+    /// A metavariable of statements, as `` `.x `` or `` `.@x ``.
+    AnyStatement,
+    /// A metavariable of keywords, as `` `k: ``.
+    AnyKey,
+    /// The keyword of a metavariable of whole messages, as `` `@k: ``.
+    AnyMessage,
 }

@@ -23,6 +23,7 @@ fn message_wish(part: MessagePart) -> Option<Wanted>
     ensures { IsWishOf result (message_part part) }
 {
     match part {
+        MessagePart::AnyArgument => Some(Wanted::Operand),
         MessagePart::InCascade => Some(Wanted::End),
         _ => None,
     }

@@ -3,5 +3,5 @@
 
 mod reading;
 
-pub use reading::{read_doit, read_method};
+pub use reading::{read_doit, read_method, read_pattern};
 pub use st_faults::{LexFault, ParseFault, Wanted, word_of};

@@ -1,8 +1,8 @@
 use Rattle.std.proofs.Common.{◌-◌, ◌≤◌, List, length}
 use Rattle.token_model.specs.declared.kind.Dialect.TheVariants.{Second}
 use Rattle.grammar_model.specs.Input.{Lexeme}
-use Rattle.grammar_model.specs.Lexemes.{IsLexed}
-use Rattle.grammar_model.specs.Whole.{Form}
+use Rattle.grammar_model.specs.PatternTokens.{IsLexedAs}
+use Rattle.st_faults.specs.Forms.{form_of}
 use Rattle.st_faults.specs.Judging.{IsReadTo}
 use Rattle.st_events.specs.Steps.{run}
 use Rattle.st_events.proofs.Left.{Left}
@@ -11,8 +11,8 @@ use Rattle.st_events.proofs.events.read_all.Given as goal
 abbrev pub invariant-tokens : goal.invariant-tokens
 invariant-tokens l = record {
   inside : l.place ≤ length l.text;
-  read : (form : Form) → IsReadTo form l.text 0 l.fn.judgement → IsReadTo form l.text l.place l.judgement;
-  left : (ts : List Lexeme) → IsLexed Second l.text ts → Left l.text l.place l.reader (run l.fn.reader ts);
+  read : IsReadTo (form_of l.form) l.text 0 l.fn.judgement → IsReadTo (form_of l.form) l.text l.place l.judgement;
+  left : (ts : List Lexeme) → IsLexedAs (form_of l.form) Second l.text ts → Left (form_of l.form) l.text l.place l.reader (run l.fn.reader ts);
 }
 
 abbrev pub decreases-tokens : goal.decreases-tokens

@@ -1,4 +1,5 @@
 use Rattle.std.proofs.Common.{◌-◌, ◌≤◌, length}
+use Rattle.st_faults.specs.Forms.{form_of}
 use Rattle.st_faults.proofs.Skipping.{Skipped}
 use Rattle.st_faults.proofs.lexeme.next_lexeme.Given as goal
 
@@ -6,7 +7,7 @@ abbrev pub invariant-comments : goal.invariant-comments
 invariant-comments l = record {
   order : l.at ≤ l.place;
   inside : l.place ≤ length l.text;
-  skipped : Skipped l.text l.at l.place;
+  skipped : Skipped (form_of l.form) l.text l.at l.place;
 }
 
 abbrev pub decreases-comments : goal.decreases-comments
