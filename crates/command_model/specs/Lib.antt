@@ -2,6 +2,7 @@ pub mod Commands
 pub mod Conditions
 pub mod Parts
 pub mod Located
+pub mod PartsOfText
 pub mod Asked
 pub mod Numbers
 pub mod Hierarchy

@@ -6,4 +6,4 @@
 
 mod laws;
 
-pub use laws::{law_all_hold, law_doit_beside};
+pub use laws::{law_all_hold, law_doit_beside, law_parts_of_text};

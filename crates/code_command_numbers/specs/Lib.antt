@@ -1,0 +1,2 @@
+pub mod KeepsMoves
+pub mod SelfNumber
