@@ -65,3 +65,13 @@ any-counted {X = X} {Y = Y} f kept xs ys e = by xs ∙ ap (λ (zs : List Y). not
     by : (zs : List X) → not (length zs == 0) ≡ not (is_empty (map f zs))
     by [] = refl
     by (z ∷ zs) = ap not (suc-zero (length zs))
+
+-- a test after a map
+pub mapped-filter : {X Y : Type 0} (f : X → Y) (kept : Y → Bool) (xs : List X) → map f (filter (λ x. kept (f x)) xs) ≡ filter kept (map f xs)
+mapped-filter f kept [] = refl
+mapped-filter f kept (x ∷ xs) = by (kept (f x)) (mapped-filter f kept xs)
+  where
+    by : (b : Bool) → map f (filter (λ y. kept (f y)) xs) ≡ filter kept (map f xs)
+        → map f (cond b (x ∷ filter (λ y. kept (f y)) xs) (filter (λ y. kept (f y)) xs)) ≡ cond b (f x ∷ filter kept (map f xs)) (filter kept (map f xs))
+    by true rest = ap (λ (ys : List _). f x ∷ ys) rest
+    by false rest = rest

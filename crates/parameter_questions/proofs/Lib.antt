@@ -1,5 +1,3 @@
-pub mod Walking
-pub mod Filtered
 pub mod Kept
 pub mod Plain
 pub mod Reading

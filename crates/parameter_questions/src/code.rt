@@ -6,13 +6,14 @@ ghost use Rattle.st_tree.specs.View.{messages_of, sequence_of};
 ghost use Rattle.class_table.specs.Valid.{IsOrderly};
 ghost use Rattle.name_meanings.specs.Meanings.{meaning_of};
 ghost use Rattle.command_model.specs.ParameterConditions as model;
-ghost use Rattle.parameter_questions.specs.Found.{placed};
+ghost use Rattle.placed_nodes.specs.Placing.{placed};
 ghost use Rattle.parameter_questions.specs.Codes.{IsOfLiveClass, means_in, body_of, may_be_dropped, is_dropped, all_dropped, are_dropped, passes_other};
 
-use crate::atoms::is_atom;
-use crate::found::{Found, Sought, found_in};
+use crate::found::{Sought, found_in};
 use class_table::{ClassId, Image};
 use name_meanings::{Meaning, doit_meaning, method_meaning};
+use part_questions::is_atom;
+use placed_nodes::PlacedNode;
 use rb_base::{Memory, NameId};
 use st_tree::{Message, Method, Node, NodeKind, Path, Sequence};
 use std::alloc::Global;
@@ -122,7 +123,7 @@ fn all_dropped(
 fn are_dropped_by(
     image: &Image,
     code: &Code<'_>,
-    found: &Found<'_>,
+    found: &PlacedNode<'_>,
     selector: NameId,
     number: usize,
 ) -> bool
@@ -155,7 +156,7 @@ fn are_dropped_by(
 fn are_dropped_in(
     image: &Image,
     code: &Code<'_>,
-    found: &[Found<'_>],
+    found: &[PlacedNode<'_>],
     selector: NameId,
     number: usize,
 ) -> bool

@@ -8,13 +8,14 @@ ghost use Rattle.class_table.specs.Valid.{IsLive, IsOrderly};
 ghost use Rattle.class_table.specs.View.{class_name};
 ghost use Rattle.command_model.specs.Places as model;
 ghost use Rattle.parameter_questions.specs.Codes.{IsOfLiveClass};
-ghost use Rattle.parameter_questions.specs.Found.{placed};
+ghost use Rattle.placed_nodes.specs.Placing.{placed};
 ghost use Rattle.parameter_questions.specs.Questions.{reads_argument, is_high, sends_in, in_method, in_code};
 
 use crate::code::{Code, body_of, passes_other};
-use crate::found::{Found, Sought, found_in};
+use crate::found::{Sought, found_in};
 use crate::question::{Fault, Question};
 use class_table::{Image, MethodInfo};
+use placed_nodes::PlacedNode;
 use rb_base::{Memory, NameId, Names};
 use st_scope::{Local, local_at};
 use st_tree::{Method, Sequence, height};
@@ -34,7 +35,7 @@ fn is_formal(local: Local) -> bool
 }
 
 /// Whether the name is one of them where one of the nodes stands.
-fn is_any_formal(names: &Names, tree: &Method, name: NameId, found: &[Found<'_>]) -> bool
+fn is_any_formal(names: &Names, tree: &Method, name: NameId, found: &[PlacedNode<'_>]) -> bool
     ensures { result ≡ list_any (λ e. model.is_formal (local_in nat_eq (is_pseudo_in names.now) (method_of tree.now) e.0 name)) (placed found.now) }
 {
     for node in found {
@@ -61,8 +62,8 @@ fn reads_argument(
     Ok(is_any_formal(names, tree, *name, found.as_slice()))
 }
 
-/// Whether the body is higher than that.
-fn is_high(body: &Sequence) -> bool
+/// Whether the body is higher than 200 nodes.
+pub fn is_high(body: &Sequence) -> bool
     ensures { result ≡ is_high (sequence_of body.now) }
 {
     for statement in body.statements.as_slice() {

@@ -13,4 +13,5 @@ mod temporaries;
 
 pub use answers::{are_arguments_plain, is_parameter_unused, is_shallow_speaking};
 pub use atoms::is_passed_atom;
-pub use temporaries::{is_declared_once, is_not_in};
+pub use faults::is_high;
+pub use temporaries::{declares_once, is_declared_once, is_not_in, users_method};

@@ -26,7 +26,7 @@ use std::alloc::Global;
 use std::sync::ledger::Ledger;
 
 /// The method of these names, if the class itself has it and it is one of the user. Counts at most one step.
-fn users_method<'a, L: Ledger>(
+pub fn users_method<'a, L: Ledger>(
     image: &'a Image,
     method: MethodName,
     steps: &mut Steps<L>,
@@ -105,8 +105,8 @@ fn is_any_use(nodes: &[&Node], name: NameId) -> bool
     false
 }
 
-/// Whether just one place of the method declares the name.
-fn declares_once(alloc: Global, tree: &Method, name: NameId) -> Result<bool, Memory>
+/// Whether just one place of the method declares the name. Want of memory, if there is not enough of it to look.
+pub fn declares_once(alloc: Global, tree: &Method, name: NameId) -> Result<bool, Memory>
     ensures { IfOk result (λ is. is ≡ (length (filter (nat_eq name) (model.declared_in (method_of tree.now))) == 1)) }
 {
     let nodes = nodes_of(alloc, &tree.body)?;

@@ -13,11 +13,11 @@ use Rattle.temporary_code.specs.Naming.{new_name, called, method_called}
 
 module _ (P : ℕ → Type 0) where
   -- nodes are made anew from known names
-  abbrev Keeps : Making ℕ → Type 0
+  abbrev pub Keeps : Making ℕ → Type 0
   Keeps f = (path : List ℕ) (t : TreeOf ℕ) → AllNames P t → AllNames P (f path t)
 
   mutual
-    names-rebuilt : (f : Making ℕ) → Keeps f → (t : TreeOf ℕ) → AllNames P t → AllNames P (rebuilt f t)
+    pub names-rebuilt : (f : Making ℕ) → Keeps f → (t : TreeOf ℕ) → AllNames P t → AllNames P (rebuilt f t)
     names-rebuilt f h (var n) p = h [] (var n) p
     names-rebuilt f h (literal l) p = h [] (literal l) p
     names-rebuilt f h (send r s args) p =
@@ -37,7 +37,7 @@ module _ (P : ℕ → Type 0) where
     names-rebuilt_messages f h k no_messages p = tt
     names-rebuilt_messages f h k (more_messages s args ms) p = (p.0, names-rebuilt_trees f h k args p.1, names-rebuilt_messages f h (k + count args) ms p.2)
 
-    names-rebuilt_statements : (f : Making ℕ) → Keeps f → (k : ℕ) (ss : StatementsOf ℕ) → StatementsNames P ss → StatementsNames P (rebuilt_statements f k ss)
+    pub names-rebuilt_statements : (f : Making ℕ) → Keeps f → (k : ℕ) (ss : StatementsOf ℕ) → StatementsNames P ss → StatementsNames P (rebuilt_statements f k ss)
     names-rebuilt_statements f h k no_statements p = tt
     names-rebuilt_statements f h k (more_statements c t ss) p = (names-rebuilt (onward k f) (λ path u. h (k ∷ path) u) t p.0, names-rebuilt_statements f h (suc k) ss p.1)
 
@@ -46,7 +46,7 @@ module _ (P : ℕ → Type 0) where
   names-without_leading ts no_statements tail a b = record { temporaries = a; statements = b }
   names-without_leading ts (more_statements c t ss) tail a b = record { temporaries = a; statements = b }
 
-  names-normal_by : (ts : List ℕ) (m : MethodOf ℕ) → MethodNames P m → MethodNames P (normal_by ts m)
+  pub names-normal_by : (ts : List ℕ) (m : MethodOf ℕ) → MethodNames P m → MethodNames P (normal_by ts m)
   names-normal_by [] m p = record { selector = p.selector; arguments = p.arguments; body = names-without_leading m.body.temporaries m.body.statements m.body.tail p.body.temporaries p.body.statements }
   names-normal_by (n ∷ ns) m p = p
 

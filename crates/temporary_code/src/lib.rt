@@ -6,4 +6,4 @@ mod naming;
 mod normal;
 
 pub use naming::renamed_temporary;
-pub use normal::same_code;
+pub use normal::{normalized, same_code};

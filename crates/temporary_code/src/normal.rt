@@ -44,8 +44,9 @@ fn take_first(alloc: Global, body: Sequence) -> Bared
     }
 }
 
-/// The method with its comments in normal form: the first ones of a body without temporaries stand at the end of the head.
-pub(crate) fn normalized(alloc: Global, method: Method) -> Result<Method, Memory>
+/// The method with its comments in normal form: the first ones of a body without temporaries stand at the end of the head. Want
+/// of memory, if there is not enough of it for a longer head.
+pub fn normalized(alloc: Global, method: Method) -> Result<Method, Memory>
     ensures { IfOk result (λ after. method_of after ≡ normal (method_of method)) }
 {
     if !method.body.temporaries.is_empty() {

@@ -1,6 +1,6 @@
 use Rattle.std.proofs.Common.{◌≡◌, drop}
 use Rattle.std.specs.List.{list_all}
-use Rattle.parameter_questions.specs.Found.{placed}
+use Rattle.placed_nodes.specs.Placing.{placed}
 use Rattle.parameter_questions.specs.Codes.{means_in, are_dropped}
 use Rattle.parameter_questions.proofs.code.are_dropped_in.Given as goal
 

@@ -5,7 +5,7 @@ use Rattle.scope_model.specs.NameTests.{is_pseudo_in}
 use Rattle.scope_model.specs.Scope.{local_in}
 use Rattle.st_tree.specs.View.{method_of}
 use Rattle.command_model.specs.Places.{is_formal}
-use Rattle.parameter_questions.specs.Found.{placed}
+use Rattle.placed_nodes.specs.Placing.{placed}
 use Rattle.parameter_questions.proofs.faults.is_any_formal.Given as goal
 
 abbrev pub invariant-loop-node : goal.invariant-loop-node

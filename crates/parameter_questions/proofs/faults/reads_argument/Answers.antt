@@ -11,8 +11,8 @@ use Rattle.st_tree.specs.View.{method_of}
 use Rattle.command_model.specs.Places.{is_formal}
 use Rattle.command_model.specs.ParameterConditions.{formal_reads}
 use Rattle.commands.specs.Views.{asked_by}
-use Rattle.parameter_questions.specs.declared.found.Found.{Found}
-use Rattle.parameter_questions.specs.Found.{placed}
+use Rattle.placed_nodes.specs.declared.placed.PlacedNode.{PlacedNode}
+use Rattle.placed_nodes.specs.Placing.{placed}
 use Rattle.parameter_questions.proofs.Reading.{formal-read}
 use Rattle.parameter_questions.proofs.faults.reads_argument.Goals as goal
 
@@ -27,7 +27,7 @@ returns c =
     let there : slice_get m.arguments k ≡ Some x =
     ap (λ (ys : List ℕ). slice_get ys k) (sym c.as_slice.ensures) ∙ slice_get-get_or xs k x c.in-Some.ensures.lookup.3.0 ∙ ap Some (sym c.in-Some.ensures.lookup.1) in
     c.is_any_formal.ensures
-    ∙ ap (λ (fs : List Found). list_any test (placed fs)) c.as_slice-2.ensures.value
+    ∙ ap (λ (fs : List PlacedNode). list_any test (placed fs)) c.as_slice-2.ensures.value
     ∙ ap (list_any test) c.in_ok-found.ensures
     ∙ formal-read names m x
     ∙ ap (λ (o : Option ℕ). not (option_map_or (λ y. is_empty (formal_reads (asked_by names) m y)) o false)) (sym there)

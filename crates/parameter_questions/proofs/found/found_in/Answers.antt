@@ -1,12 +1,16 @@
-use Rattle.std.proofs.Common.{◌++◌, ◌∙◌}
-use Rattle.st_tree.specs.View.{statements_of}
-use Rattle.parameter_questions.specs.Found.{is_sought, placed, in_statements}
-use Rattle.parameter_questions.proofs.Filtered.{found-nodes}
+use Rattle.std.proofs.Common.{ap, rules, ◌∙◌}
+use Rattle.std.specs.Prelude.{ℕ, filter}
+use Rattle.std.proofs.lemmas.Fn.{filter_same}
+use Rattle.tree_model.specs.Nodes.{Placed}
+use Rattle.placed_nodes.specs.declared.placed.PlacedNode.{PlacedNode}
+use Rattle.placed_nodes.specs.Placing.{placed}
+use Rattle.parameter_questions.specs.Found.{is_sought}
+use Rattle.parameter_questions.proofs.Kept.{mapped-filter}
 use Rattle.parameter_questions.proofs.found.found_in.Goals as goal
 
 pub returns : goal.returns
 returns c =
     let test = is_sought c.args.what.now in
-    c.in_ok-put_statements.ensures.found
-    ∙ (λ j. placed (c.new-found.ensures.items j) ++ in_statements test (c.new-path.ensures.items j) 0 (statements_of (c.as_slice.ensures j)))
-    ∙ found-nodes test (statements_of c.args.body.now.statements)
+    ap placed (filter_same _ (λ (f : PlacedNode). test f.node.now) _ (λ x b f' k. search rules) _ _ c.retain.ensures.filtered)
+    ∙ mapped-filter (λ (f : PlacedNode). (f.path, f.node.now)) (λ (e : Placed ℕ). test e.1) c.in_ok-found.found.items
+    ∙ ap (filter (λ (e : Placed ℕ). test e.1)) c.in_ok-found.ensures

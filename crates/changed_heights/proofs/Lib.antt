@@ -1,0 +1,2 @@
+pub mod Alls
+pub mod Slots

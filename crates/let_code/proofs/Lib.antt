@@ -1,0 +1,4 @@
+pub mod Only
+pub mod Known
+pub mod KnownLets
+pub mod Put

@@ -1,0 +1,4 @@
+pub mod Lets
+pub mod Uses
+pub mod Valuing
+pub mod Changes
