@@ -1,0 +1,2 @@
+mod FreeNames
+mod Meant
