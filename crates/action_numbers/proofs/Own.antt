@@ -4,7 +4,8 @@ use Rattle.std.specs.List.{AllByRecursion}
 use Rattle.rb_base.specs.Names.{HasNoTwice, name_at}
 use Rattle.image_model.specs.Image.{ImageOf, map_image}
 use Rattle.image_model.specs.ImageNames.{ImageNames}
-use Rattle.command_model.specs.Asked.{AskedOf, text_asked, no_parts}
+use Rattle.command_model.specs.Asked.{AskedOf, text_asked}
+use Rattle.command_model.specs.PartsOfText.{parts_of_text}
 use Rattle.command_model.specs.Commands.{CommandOf, AddInstVar, RemoveClass}
 use Rattle.command_model.specs.Conditions.{ConditionOf, NoReflection, IsUserClass, HasVariable}
 use Rattle.command_model.specs.Located.{Locating}
@@ -17,7 +18,7 @@ use Rattle.command_numbers.specs.WithoutMove.{IsWithoutMove}
 use Rattle.session_model.specs.Actions.{ActionOf, Single, CreateAccessors, ExtractSuperclass, PushUpWithMethods}
 use Rattle.session_model.specs.OwnConditions.{first_own_false}
 use Rattle.commands.specs.Actions.{ActionNames, map_action}
-use Rattle.commands.specs.Views.{asked_by}
+use Rattle.commands.specs.Views.{asked_by, self_in}
 
 -- what is known of single conditions over the numbers of names
 abbrev pub HoldsByNumbers : Type 0
@@ -61,7 +62,7 @@ module _ (law : HoldsByNumbers) (names : List (List ℕ)) (i : ImageOf ℕ) (dis
   reflects : (c : ℕ) → c < length names → has_no_reflection text_asked.command_words (map_image text i) ≡ has_no_reflection (asked_by names).command_words i
   reflects c h =
       and_true (has_no_reflection text_asked.command_words (map_image text i)) (has_no_reflection (asked_by names).command_words i)
-      (law names 0 no_parts i (RemoveClass c) NoReflection distinct known h tt tt)
+      (law names (self_in names) parts_of_text i (RemoveClass c) NoReflection distinct known h tt tt)
 
   pub own-numbers : (action : ActionOf ℕ) → ActionNames (λ n. n < length names) action
       → first_own_false text_asked (map_image text i) (map_action text action) ≡ option_map (map_condition text) (first_own_false (asked_by names) i action)
@@ -69,8 +70,8 @@ module _ (law : HoldsByNumbers) (names : List (List ℕ)) (i : ImageOf ℕ) (dis
   own-numbers (CreateAccessors c x s parameter) h =
       (λ j. first
       ((NoReflection, reflects c h.0 j)
-      ∷ (IsUserClass (text c), law names 0 no_parts i (AddInstVar c x) (IsUserClass c) distinct known (h.0, h.1) h.0 tt j)
-      ∷ (HasVariable (text c) (text x), law names 0 no_parts i (AddInstVar c x) (HasVariable c x) distinct known (h.0, h.1) (h.0, h.1) tt j)
+      ∷ (IsUserClass (text c), law names (self_in names) parts_of_text i (AddInstVar c x) (IsUserClass c) distinct known (h.0, h.1) h.0 tt j)
+      ∷ (HasVariable (text c) (text x), law names (self_in names) parts_of_text i (AddInstVar c x) (HasVariable c x) distinct known (h.0, h.1) (h.0, h.1) tt j)
       ∷ []))
       ∙ first_of_three text NoReflection (IsUserClass c) (HasVariable c x)
       (has_no_reflection (asked_by names).command_words i) (holds (asked_by names) i (AddInstVar c x) (IsUserClass c)) (holds (asked_by names) i (AddInstVar c x) (HasVariable c x))

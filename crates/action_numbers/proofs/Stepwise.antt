@@ -20,7 +20,8 @@ use Rattle.image_model.proofs.Lists.{all-implies, map-all, find-map, find-all, a
 use Rattle.image_model.proofs.Tables.{KeepsWords-number_words}
 use Rattle.rename_model.specs.ClassRenamed.{canonical}
 use Rattle.rename_model.specs.Conditions.{has_variable}
-use Rattle.command_model.specs.Asked.{no_parts}
+use Rattle.command_model.specs.PartsOfText.{parts_of_text}
+use Rattle.commands.specs.Views.{self_in}
 use Rattle.command_model.specs.Commands.{CommandOf, AddClass, AddInstVar, PushUpInstVar, PushUpMethod}
 use Rattle.command_model.specs.Conditions.{HasVariable}
 use Rattle.command_model.specs.Hierarchy.{is_method_of}
@@ -113,7 +114,7 @@ module _ (names : List (List ℕ)) (i : ImageOf ℕ) where
 
     -- whether a class has a variable, and whether others have it
     variable-there : (t x : ℕ) → Known t → Known x → has_variable text_eq (map_image text i) of_instance (text t) (text x) ≡ has_variable nat_eq i of_instance t x
-    variable-there t x h k = law names 0 no_parts i (AddInstVar t x) (HasVariable t x) distinct known (h, k) (h, k) tt
+    variable-there t x h k = law names (self_in names) parts_of_text i (AddInstVar t x) (HasVariable t x) distinct known (h, k) (h, k) tt
 
     others-there : (x : ℕ) → Known x → (ts : List ℕ) → AllByRecursion Known ts
         → list_all (λ t. has_variable text_eq (map_image text i) of_instance t (text x)) (map text ts) ≡ list_all (λ t. has_variable nat_eq i of_instance t x) ts

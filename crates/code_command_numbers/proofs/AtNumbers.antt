@@ -8,7 +8,8 @@ use Rattle.image_model.specs.ImageNames.{ImageNames}
 use Rattle.image_model.proofs.MapImage.{map_image-id}
 use Rattle.rename_model.specs.ClassRenamed.{canonical}
 use Rattle.command_model.specs.Located.{Locating}
-use Rattle.command_model.specs.Asked.{asked_of_texts, no_parts, text_asked}
+use Rattle.command_model.specs.Asked.{asked_of_texts, text_asked}
+use Rattle.command_model.specs.PartsOfText.{parts_of_text}
 use Rattle.command_model.specs.Commands.{CommandOf, MovesNoCode}
 use Rattle.command_model.specs.Conditions.{ConditionOf}
 use Rattle.command_model.specs.Numbers.{number_asked, number_writing}
@@ -35,7 +36,7 @@ module _ (names : List (List ℕ)) (self_number : ℕ) (part_of : Locating) (dis
       → needs (asked_of_texts part_of) (map_image (name_at names) i) (map_command (name_at names) command) ≡ map (map_condition (name_at names)) (needs (number_asked names self_number part_of) i command)
   needs-texts law =
       all_needs-named (λ n. n < length names) (name_at names) (number_asked names self_number part_of) (asked_of_texts part_of) (KeepsMoves-number_asked names self_number part_of distinct is_self) i p
-      (λ command q still. needs-parts part_of no_parts (map_image (name_at names) i) (map_command (name_at names) command) (no_move-mapped (name_at names) command still) ∙ law command q still)
+      (λ command q still. needs-parts part_of parts_of_text (map_image (name_at names) i) (map_command (name_at names) command) (no_move-mapped (name_at names) command still) ∙ law command q still)
 
   pub holds-texts : ((command : CommandOf ℕ) (condition : ConditionOf ℕ) → CommandNames (λ n. n < length names) command → ConditionNames (λ n. n < length names) condition → IsWithoutMove command condition
       → holds text_asked (map_image (name_at names) i) (map_command (name_at names) command) (map_condition (name_at names) condition) ≡ holds (number_asked names self_number part_of) i command condition)
@@ -43,7 +44,7 @@ module _ (names : List (List ℕ)) (self_number : ℕ) (part_of : Locating) (dis
       → holds (asked_of_texts part_of) (map_image (name_at names) i) (map_command (name_at names) command) (map_condition (name_at names) condition) ≡ holds (number_asked names self_number part_of) i command condition
   holds-texts law =
       all_holds-named (λ n. n < length names) (name_at names) (number_asked names self_number part_of) (asked_of_texts part_of) (KeepsMoves-number_asked names self_number part_of distinct is_self) i p
-      (λ command condition q r still. holds-parts part_of no_parts (map_image (name_at names) i) (map_command (name_at names) command) (map_condition (name_at names) condition) (without_move-mapped (name_at names) command condition still)
+      (λ command condition q r still. holds-parts part_of parts_of_text (map_image (name_at names) i) (map_command (name_at names) command) (map_condition (name_at names) condition) (without_move-mapped (name_at names) command condition still)
       ∙ law command condition q r still)
 
   pub effect-texts : ((command : CommandOf ℕ) → CommandNames (λ n. n < length names) command → MovesNoCode command
@@ -53,7 +54,7 @@ module _ (names : List (List ℕ)) (self_number : ℕ) (part_of : Locating) (dis
   effect-texts law =
       all_effect-named (λ n. n < length names) (name_at names) (number_asked names self_number part_of) (asked_of_texts part_of) (KeepsMoves-number_asked names self_number part_of distinct is_self) i p
       (number_writing names) canonical (KeepsWriting-number_writing names)
-      (λ command q still. effect-parts part_of no_parts (map_image (name_at names) i) canonical (map_command (name_at names) command) (no_move-mapped (name_at names) command still) ∙ law command q still)
+      (λ command q still. effect-parts part_of parts_of_text (map_image (name_at names) i) canonical (map_command (name_at names) command) (no_move-mapped (name_at names) command still) ∙ law command q still)
 
   -- a verdict on numbers is one on texts
   pub verdict : (command : CommandOf ℕ) (r : Result (ImageOf ℕ) (ConditionOf ℕ))

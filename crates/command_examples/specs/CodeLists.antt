@@ -3,7 +3,7 @@ use Rattle.std.specs.Prelude.{◌≡◌, List, [], ◌∷◌, true, false, codes
 use Rattle.rb_base.specs.Names.{text_eq}
 use Rattle.run_model.specs.Renamings.{no_renaming}
 use Rattle.rename_model.specs.ClassRenamed.{canonical}
-use Rattle.command_model.specs.Asked.{text_asked}
+use Rattle.command_model.specs.Asked.{asked_of_texts, no_parts}
 use Rattle.command_model.specs.Commands.{CommandOf, AddClass, RenameInstVar, PushUpInstVar, PushUpClassVar, RemoveClass, PushUpMethod, ExtractMethod, InlineMethod, ExtractTemp, RenameTemp}
 use Rattle.command_model.specs.Conditions.{of_methods, of_another_variable, ConditionOf, NoReflection, IsUserClass, GoodName, NotKernelSelector, Implements, PartIs, NoReturn, AssignsNoOuter, TempsSteady, ValueUnused, SelfSend, FirstEvaluated, NotIn, Shallow}
 use Rattle.command_model.specs.Needs.{needs}
@@ -16,7 +16,7 @@ use Rattle.command_examples.specs.CodeRows.{a}
 
 -- the conditions of a command whose places hold no part
 abbrev pub listed : CommandOf Text → List (ConditionOf Text)
-listed command = needs text_asked due command
+listed command = needs (asked_of_texts no_parts) due command
 
 abbrev pub s : Text
 s = codes "due"

@@ -4,6 +4,7 @@ use Rattle.rb_base.specs.Names.{text_eq}
 use Rattle.image_model.specs.Words.{WordsOf, text_words}
 use Rattle.rename_model.specs.CommandWords.{CommandWordsOf, text_command_words}
 use Rattle.command_model.specs.Located.{Locating}
+use Rattle.command_model.specs.PartsOfText.{parts_of_text}
 
 -- what images ask of names, what commands ask of new ones, and which name is `super`; the name `self`, and whether a name is `nil`, `true` or `false`; and the part of a method at a place of its source
 pub record AskedOf (N : Type 0) : Type 0 where
@@ -29,9 +30,10 @@ asked_of_texts part_of = record {
   part_of = part_of;
 }
 
--- no place of a source is looked up: that is enough for each command that names no part
+-- the look-up that finds nothing: that is enough for each command that names no part
 abbrev pub no_parts : Locating
 no_parts source from to = None
 
+-- what is asked of texts, where parts are looked up in sources that spell a method
 abbrev pub text_asked : AskedOf (List ℕ)
-text_asked = asked_of_texts no_parts
+text_asked = asked_of_texts parts_of_text

@@ -1,11 +1,12 @@
 -- What commands and conditions of the program stand for, over the numbers of names.
-use Rattle.std.specs.Prelude.{ℕ, ◌<◌, List, length}
-use Rattle.rb_base.specs.Names.{name_at}
+use Rattle.std.specs.Prelude.{◌≡◌, ℕ, ◌<◌, List, length, codes, unwrap_or}
+use Rattle.rb_base.specs.Names.{name_at, number_in}
 use Rattle.st_tree.specs.View.{method_of}
 use Rattle.image_model.specs.Means.{VariableKind, of_instance, of_class_side, of_class}
-use Rattle.command_model.specs.Commands.{CommandOf, RenameClass, AddClass, RemoveClass, AddInstVar, RenameInstVar, RemoveInstVar, PushUpInstVar, PushDownInstVar, AddClassVar, RenameClassVar, RemoveClassVar, PushUpClassVar, PushDownClassVar, AddClassSideVar, RenameClassSideVar, RemoveClassSideVar, RenameSelector, AddMethod, RemoveMethod, PushUpMethod, PushDownMethod, AddParameter, RemoveParameter, RenameTemp}
-use Rattle.command_model.specs.Conditions.{NameKind, of_a_class, of_a_class_variable, of_another_variable, of_methods, ConditionOf, NoReflection, IsUserClass, GoodName, NameUnused, SelectorFresh, NotKernelSelector, Arity, Implements, NotImplements, Removable, NoSubclasses, NotReferenced, HasVariable, VariableFree, VariableUnused, ParentIsUser, NoSuper, MeansSame, Unreached, ParameterUnused, PlainArguments, AtomLiteral, Declared, NotIn, Shallow, IsClass, ChildOf, LacksVariable, KnownSelector, UndoLeft, RedoLeft}
-use Rattle.command_model.specs.Asked.{AskedOf, no_parts}
+use Rattle.command_model.specs.Commands.{CommandOf, RenameClass, AddClass, RemoveClass, AddInstVar, RenameInstVar, RemoveInstVar, PushUpInstVar, PushDownInstVar, AddClassVar, RenameClassVar, RemoveClassVar, PushUpClassVar, PushDownClassVar, AddClassSideVar, RenameClassSideVar, RemoveClassSideVar, RenameSelector, AddMethod, RemoveMethod, PushUpMethod, PushDownMethod, AddParameter, RemoveParameter, AbstractInstVar, ExtractMethod, InlineMethod, ExtractTemp, InlineTemp, RenameTemp}
+use Rattle.command_model.specs.Conditions.{NameKind, of_a_class, of_a_class_variable, of_another_variable, of_methods, ConditionOf, NoReflection, IsUserClass, GoodName, NameUnused, SelectorFresh, NotKernelSelector, Arity, Implements, NotImplements, Removable, NoSubclasses, NotReferenced, HasVariable, VariableFree, VariableUnused, ParentIsUser, NoSuper, MeansSame, Unreached, ParameterUnused, PlainArguments, AtomLiteral, PartIs, NoReturn, AssignsNoOuter, TempsSteady, ValueUnused, SelfSend, OneTarget, Inlinable, PlainActuals, SpotOf, AtPart, AtName, NoCapture, NoNewControl, Declared, NotIn, LetForm, FirstEvaluated, Shallow, IsClass, ChildOf, LacksVariable, KnownSelector, UndoLeft, RedoLeft}
+use Rattle.command_model.specs.Asked.{AskedOf}
+use Rattle.command_model.specs.PartsOfText.{parts_of_text}
 use Rattle.command_model.specs.Numbers.{number_asked}
 use Rattle.history_model.specs.Rules.{RequestOf, Perform, Undo, Redo}
 use Rattle.session_model.specs.Actions.{ActionOf, Single, CreateAccessors, ExtractSuperclass, PushUpWithMethods}
@@ -15,6 +16,8 @@ use Rattle.commands.specs.declared.command.Renaming.{Renaming}
 use Rattle.commands.specs.declared.command.Renaming.TheVariants as renaming
 use Rattle.commands.specs.declared.command.VariableMove.{VariableMove}
 use Rattle.commands.specs.declared.command.VariableMove.TheVariants as move
+use Rattle.commands.specs.declared.command.CodeMove.{CodeMove}
+use Rattle.commands.specs.declared.command.CodeMove.TheVariants as code
 use Rattle.commands.specs.declared.command.Command.{Command}
 use Rattle.commands.specs.declared.command.Command.TheVariants as command
 use Rattle.commands.specs.declared.command.Action.{Action}
@@ -23,6 +26,8 @@ use Rattle.commands.specs.declared.command.Request.{Request}
 use Rattle.commands.specs.declared.command.Request.TheVariants as request
 use Rattle.commands.specs.declared.condition.NameKind as declared
 use Rattle.commands.specs.declared.condition.NameKind.TheVariants as kind
+use Rattle.commands.specs.declared.condition.Spot.{Spot}
+use Rattle.commands.specs.declared.condition.Spot.TheVariants as declared_spot
 use Rattle.commands.specs.declared.condition.Condition.{Condition}
 use Rattle.commands.specs.declared.condition.Condition.TheVariants as condition
 
@@ -57,6 +62,14 @@ move_command (move.InstanceDown c x) = PushDownInstVar c x
 move_command (move.SharedUp c x) = PushUpClassVar c x
 move_command (move.SharedDown c x d) = PushDownClassVar c x d
 
+-- the command by which code moves
+abbrev pub code_command : CodeMove → CommandOf ℕ
+code_command (code.AbstractVariable c x setter parameter) = AbstractInstVar c x setter parameter
+code_command (code.ExtractMethod p t) = ExtractMethod p.method.class p.method.meta p.method.selector p.from p.to t
+code_command (code.InlineMethod p) = InlineMethod p.method.class p.method.meta p.method.selector p.from p.to
+code_command (code.ExtractTemporary p x) = ExtractTemp p.method.class p.method.meta p.method.selector p.from p.to x
+code_command (code.InlineTemporary m x) = InlineTemp m.class m.meta m.selector x
+
 -- the command
 abbrev pub command_of : Command → CommandOf ℕ
 command_of (command.Rename r) = renaming_command r
@@ -70,6 +83,7 @@ command_of (command.PushDownMethod m) = PushDownMethod m.class m.meta m.selector
 command_of (command.AddParameter n) = AddParameter n.selector n.to n.parameter n.passed
 command_of (command.RemoveParameter s k t) = RemoveParameter s k t
 command_of (command.RenameTemporary m x y) = RenameTemp m.class m.meta m.selector x y
+command_of (command.MoveCode m) = code_command m
 
 -- the action
 abbrev pub action_of : Action → ActionOf ℕ
@@ -90,6 +104,11 @@ name_kind_of kind.Class = of_a_class
 name_kind_of kind.ClassVariable = of_a_class_variable
 name_kind_of kind.Variable = of_another_variable
 name_kind_of kind.Selector = of_methods
+
+-- where code is put
+abbrev pub spot_of : Spot → SpotOf ℕ
+spot_of (declared_spot.Part from to) = AtPart from to
+spot_of (declared_spot.Name x) = AtName x
 
 -- the condition
 abbrev pub condition_of : Condition → ConditionOf ℕ
@@ -115,8 +134,21 @@ condition_of (condition.Unreached s) = Unreached s
 condition_of (condition.ParameterUnused s k) = ParameterUnused s k
 condition_of (condition.PlainArguments s k) = PlainArguments s k
 condition_of condition.AtomLiteral = AtomLiteral
+condition_of (condition.PartIs p) = PartIs p.method.class p.method.meta p.method.selector p.from p.to
+condition_of (condition.NoReturn p) = NoReturn p.method.class p.method.meta p.method.selector p.from p.to
+condition_of (condition.AssignsNoOuter p) = AssignsNoOuter p.method.class p.method.meta p.method.selector p.from p.to
+condition_of (condition.TempsSteady p) = TempsSteady p.method.class p.method.meta p.method.selector p.from p.to
+condition_of (condition.ValueUnused p) = ValueUnused p.method.class p.method.meta p.method.selector p.from p.to
+condition_of (condition.SelfSend p) = SelfSend p.method.class p.method.meta p.method.selector p.from p.to
+condition_of (condition.OneTarget m) = OneTarget m.class m.meta m.selector
+condition_of (condition.Inlinable m) = Inlinable m.class m.meta m.selector
+condition_of (condition.PlainActuals p) = PlainActuals p.method.class p.method.meta p.method.selector p.from p.to
+condition_of (condition.NoCapture m spot) = NoCapture m.class m.meta m.selector (spot_of spot)
+condition_of (condition.NoNewControl m spot) = NoNewControl m.class m.meta m.selector (spot_of spot)
 condition_of (condition.Declared m x) = Declared m.class m.meta m.selector x
 condition_of (condition.NotIn m x) = NotIn m.class m.meta m.selector x
+condition_of (condition.LetForm m x) = LetForm m.class m.meta m.selector x
+condition_of (condition.FirstEvaluated p) = FirstEvaluated p.method.class p.method.meta p.method.selector p.from p.to
 condition_of condition.Shallow = Shallow
 condition_of (condition.IsClass c) = IsClass c
 condition_of (condition.ChildOf d c) = ChildOf d c
@@ -125,9 +157,17 @@ condition_of (condition.KnownSelector s) = KnownSelector s
 condition_of condition.UndoLeft = UndoLeft
 condition_of condition.RedoLeft = RedoLeft
 
--- what commands ask of the names of a table; those that are carried out neither send to `self` nor name a part
+-- the number of the name `self` in a table that has it
+abbrev pub self_in : List (List ℕ) → ℕ
+self_in names = unwrap_or (number_in names (codes "self")) 0
+
+-- whether a table has it
+abbrev pub HasSelf : List (List ℕ) → Type 0
+HasSelf names = (self_in names < length names) × (name_at names (self_in names) ≡ codes "self")
+
+-- what commands ask of the names of a table
 abbrev pub asked_by : List (List ℕ) → AskedOf ℕ
-asked_by names = number_asked names 0 no_parts
+asked_by names = number_asked names (self_in names) parts_of_text
 
 -- each name of what is asked for is in the table
 abbrev pub IsKnownRequest : List (List ℕ) → Request → Type 0

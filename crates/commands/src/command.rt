@@ -73,6 +73,46 @@ pub struct MethodName {
     pub selector: NameId,
 }
 
+/// A part of a method: from one place of its source up to another, in bytes.
+#[derive(Clone, Copy, Debug)]
+pub struct MethodPart {
+    pub method: MethodName,
+    /// The first byte of the part.
+    pub from: usize,
+    /// The first byte behind it.
+    pub to: usize,
+}
+
+/// What moves code from one place to another.
+#[derive(Clone, Copy, Debug)]
+pub enum CodeMove {
+    /// The instance variable is read and assigned by messages: `setter` is the selector of the one that assigns, and
+    /// `parameter` what its argument is called.
+    AbstractVariable {
+        class: NameId,
+        variable: NameId,
+        setter: NameId,
+        parameter: NameId,
+    },
+    /// The part becomes a message of `to`, and a method.
+    ExtractMethod {
+        part: MethodPart,
+        to: NameId,
+    },
+    /// The message that the part is becomes the body of the method that it finds.
+    InlineMethod(MethodPart),
+    /// The part becomes the temporary.
+    ExtractTemporary {
+        part: MethodPart,
+        variable: NameId,
+    },
+    /// The temporary becomes what is assigned to it.
+    InlineTemporary {
+        method: MethodName,
+        variable: NameId,
+    },
+}
+
 /// A class that comes under another one, and the direct subclasses of that one that come under it.
 #[derive(Drop)]
 pub struct NewClass {
@@ -139,6 +179,8 @@ pub enum Command {
         variable: NameId,
         to: NameId,
     },
+    /// Code moves.
+    MoveCode(CodeMove),
 }
 
 /// A single command, or a composite, which is several of them.

@@ -1,6 +1,6 @@
 // Conditions of commands.
 
-use crate::command::MethodName;
+use crate::command::{MethodName, MethodPart};
 use rb_base::NameId;
 
 /// What a new name is for.
@@ -11,6 +11,15 @@ pub enum NameKind {
     /// An instance variable or a class-instance variable.
     Variable,
     Selector,
+}
+
+/// Where code is put in a method, as it is printed.
+#[derive(Clone, Copy, Debug)]
+pub enum Spot {
+    /// In place of a part, from one place of the source up to another.
+    Part { from: usize, to: usize },
+    /// Where a temporary is read.
+    Name(NameId),
 }
 
 /// A condition of a command, with what is printed of it. Which kind a variable has, and which classes and methods are looked
@@ -101,6 +110,34 @@ pub enum Condition {
     },
     /// The literal that the command passes is an atom.
     AtomLiteral,
+    /// The part is an expression or neighbouring statements, neither `super` nor a block of a control message.
+    PartIs(MethodPart),
+    /// There is no return in the part.
+    NoReturn(MethodPart),
+    /// The part assigns no argument and no temporary that is declared outside it.
+    AssignsNoOuter(MethodPart),
+    /// The part may be given the values of the temporaries that it names: none of them changes while it runs.
+    TempsSteady(MethodPart),
+    /// The part is an expression, or statements whose last value nobody uses.
+    ValueUnused(MethodPart),
+    /// The part is a message to `self` that is no message of a cascade.
+    SelfSend(MethodPart),
+    /// The class finds a method of the user for the selector, and no class below it has another one.
+    OneTarget(MethodName),
+    /// The body of the method may stand in place of the message of the command.
+    Inlinable(MethodName),
+    /// What the message passes may be evaluated at other places, and any number of times.
+    PlainActuals(MethodPart),
+    /// Each name that is moved means the same where it comes.
+    NoCapture {
+        method: MethodName,
+        spot: Spot,
+    },
+    /// No block that is moved comes where it is a block of a control message.
+    NoNewControl {
+        method: MethodName,
+        spot: Spot,
+    },
     /// Just one place of the method declares the name.
     Declared {
         method: MethodName,
@@ -111,6 +148,13 @@ pub enum Condition {
         method: MethodName,
         variable: NameId,
     },
+    /// The temporary is assigned once, and may be read as what is assigned to it.
+    LetForm {
+        method: MethodName,
+        variable: NameId,
+    },
+    /// The part is an expression before which its statement evaluates nothing that could change.
+    FirstEvaluated(MethodPart),
     /// No method of the user and no do-it is higher than 200 nodes afterwards.
     Shallow,
     /// There is such a class.

@@ -6,6 +6,7 @@ mod command;
 mod condition;
 
 pub use command::{
-    Action, Command, MethodName, NewClass, NewMethod, NewParameter, Renaming, Request, VariableMove,
+    Action, CodeMove, Command, MethodName, MethodPart, NewClass, NewMethod, NewParameter, Renaming,
+    Request, VariableMove,
 };
-pub use condition::{Condition, NameKind};
+pub use condition::{Condition, NameKind, Spot};

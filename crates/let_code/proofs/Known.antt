@@ -15,12 +15,12 @@ use Rattle.command_model.specs.Walk.{rebuilt_method}
 use Rattle.temporary_code.proofs.NamesKept.{Keeps, names-rebuilt_statements, names-normal_by}
 
 module _ (P : ℕ → Type 0) where
-  take-names : (k : ℕ) (ss : StatementsOf ℕ) → StatementsNames P ss → StatementsNames P (take_statements k ss)
+  pub take-names : (k : ℕ) (ss : StatementsOf ℕ) → StatementsNames P ss → StatementsNames P (take_statements k ss)
   take-names zero ss a = tt
   take-names (suc k) no_statements a = tt
   take-names (suc k) (more_statements c t ss) a = (a.0, take-names k ss a.1)
 
-  drop-names : (k : ℕ) (ss : StatementsOf ℕ) → StatementsNames P ss → StatementsNames P (drop_statements k ss)
+  pub drop-names : (k : ℕ) (ss : StatementsOf ℕ) → StatementsNames P ss → StatementsNames P (drop_statements k ss)
   drop-names zero ss a = a
   drop-names (suc k) no_statements a = tt
   drop-names (suc k) (more_statements c t ss) a = drop-names k ss a.1
@@ -34,7 +34,7 @@ module _ (P : ℕ → Type 0) where
   noted-names notes (more_statements c t ss) a = a
 
   -- statements that are put in
-  put_in-names : (first count : ℕ) (new : StatementsOf ℕ) (b : SequenceOf ℕ) → StatementsNames P new → SequenceNames P b → SequenceNames P (put_in first count new b)
+  pub put_in-names : (first count : ℕ) (new : StatementsOf ℕ) (b : SequenceOf ℕ) → StatementsNames P new → SequenceNames P b → SequenceNames P (put_in first count new b)
   put_in-names first count new b n a = record {
     temporaries = a.temporaries;
     statements =

@@ -10,6 +10,13 @@ use Rattle.session_model.specs.Actions.{ActionOf, Single, CreateAccessors, Extra
 abbrev pub IsLawful : CommandOf Name → Type 0
 IsLawful command = MovesNoCode command × IsSpelled command × MayBeFiled command
 
+-- an action that moves no code: a single command that moves none, or a composite
+abbrev pub LeavesCode : ActionOf Name → Type 0
+LeavesCode (Single command) = MovesNoCode command
+LeavesCode (CreateAccessors c x setter parameter) = Unit {0}
+LeavesCode (ExtractSuperclass d p under) = Unit {0}
+LeavesCode (PushUpWithMethods c x) = Unit {0}
+
 -- the names in a setter of a variable
 pub record AreSetterNames (x setter parameter : Name) : Type 0 where
   pub selector : setter ≡ setter_selector x

@@ -33,7 +33,7 @@ Refusal = RefusalOf (ConditionOf Name)
 abbrev pub Rules : Type 0
 Rules = RulesOf (ImageOf Name) (CommandOf Name) (ActionOf Name) (ConditionOf Name) Renaming
 
--- what commands do, where changed code is written so; no place of a source is looked up, so a command that names a part is refused
+-- what commands do, where changed code is written so
 abbrev pub rules_writing : WritingOf Name → Rules
 rules_writing writing = record {
   judged = judged text_asked writing;
