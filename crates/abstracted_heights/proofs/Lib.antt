@@ -1,0 +1,3 @@
+mod Alls
+mod Sameness
+mod Told

@@ -1,0 +1,46 @@
+-- What is made of items, of parts of them, and of what is found there.
+use Rattle.std.proofs.Common.{◌≡◌, Bool, false, Option, None, Some, option_map, refl}
+use Rattle.std.specs.Option.{option_and_then, option_map_or}
+
+-- a test of what is made of an item that may not be there
+pub test_made : {X Y : Type 0} (test : Y → Bool) (f : X → Y) (o : Option X) → option_map_or {T = X} (λ (x : X). test (f x)) o false ≡ option_map_or {T = Y} test (option_map {U = Y} f o) false
+test_made test f None = refl
+test_made test f (Some x) = refl
+
+module _ {X Y : Type 0} (part : X → Option Y) where
+  -- an item and its part
+  abbrev pub parted : Option X → Option (X × Y)
+  parted o = option_and_then {U = X × Y} (λ (x : X). option_map {U = X × Y} (λ (y : Y). (x, y)) (part x)) o
+
+  module _ {W : Type 0} (found : X → Y → Option W) where
+    -- an item and what is found by it and its part
+    abbrev pub founded : Option (X × Y) → Option (X × W)
+    founded o = option_and_then {U = X × W} (λ (e : X × Y). option_map {U = X × W} (λ (w : W). (e.0, w)) (found e.0 e.1)) o
+
+    module _ {Z : Type 0} (f : X → W → Option Z) where
+      -- what is made of them
+      pub through_found : (o : Option X) → option_and_then {U = Z} (λ (e : X × Y). option_and_then {U = Z} (f e.0) (found e.0 e.1)) (parted o) ≡ option_and_then {U = Z} (λ (x : X). option_and_then {U = Z} (λ (e : X × W). f x e.1) (founded (parted o))) o
+      through_found None = refl
+      through_found (Some x) = by (part x)
+        where
+          by : (q : Option Y) → option_and_then {U = Z} (λ (e : X × Y). option_and_then {U = Z} (f e.0) (found e.0 e.1)) (option_map {U = X × Y} (λ (y : Y). (x, y)) q) ≡ option_and_then {U = Z} (λ (e : X × W). f x e.1) (founded (option_map {U = X × Y} (λ (y : Y). (x, y)) q))
+          by None = refl
+          by (Some y) = at (found x y)
+            where
+              at : (r : Option W) → option_and_then {U = Z} (f x) r ≡ option_and_then {U = Z} (λ (e : X × W). f x e.1) (option_map {U = X × W} (λ (w : W). (x, w)) r)
+              at None = refl
+              at (Some w) = refl
+
+  module _ {Z : Type 0} (f : X → Y → Option Z) where
+    pub through_part : (o : Option X) → option_and_then {U = Z} (λ (e : X × Y). f e.0 e.1) (parted o) ≡ option_and_then {U = Z} (λ (x : X). option_and_then {U = Z} (f x) (part x)) o
+    through_part None = refl
+    through_part (Some x) = by (part x)
+      where
+        by : (q : Option Y) → option_and_then {U = Z} (λ (e : X × Y). f e.0 e.1) (option_map {U = X × Y} (λ (y : Y). (x, y)) q) ≡ option_and_then {U = Z} (f x) q
+        by None = refl
+        by (Some y) = refl
+
+-- what is made of what is made of an item
+pub through_both : {X Y Z : Type 0} (g : X → Option Y) (f : Y → Option Z) (o : Option X) → option_and_then {U = Z} (λ (x : X). option_and_then {U = Z} f (g x)) o ≡ option_and_then {U = Z} f (option_and_then {U = Y} g o)
+through_both g f None = refl
+through_both g f (Some x) = refl
