@@ -1,5 +1,6 @@
 pub mod Unnamed
-pub mod Shape
+mod SelfKnown
 mod NamesKnown
 pub mod Reflecting
 pub mod CodeAsked
+mod Messages

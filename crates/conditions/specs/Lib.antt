@@ -1,3 +1,5 @@
 pub mod Reflection
 pub mod Concerns
 pub mod Unnamed
+pub mod Spots
+pub mod Messages

@@ -9,9 +9,13 @@ ghost use Rattle.command_numbers.specs.CommandNames.{ConditionNames};
 ghost use Rattle.commands.specs.Views.{asked_by, command_of, condition_of};
 ghost use Rattle.reference_index.specs.Mentioned.{IsIndexOf};
 ghost use Rattle.conditions.specs.Concerns.{Concerns};
+ghost use Rattle.conditions.specs.Spots.{spot_passes};
 
 use class_table::Image;
-use commands::{Command, Condition};
+use code_conditions::{
+    is_one_target, is_self_send, is_shallow_after, let_holds, part_holds, target_holds,
+};
+use commands::{CodeMove, Command, Condition, MethodName, MethodPart, Spot};
 use parameter_questions::{
     are_arguments_plain, is_declared_once, is_not_in, is_parameter_unused, is_passed_atom,
     is_shallow_speaking,
@@ -41,14 +45,55 @@ fn is_shallow<L: Ledger>(
 ) -> Result<bool, Memory>
     requires orderly { IsOrderly image.now }
     requires index { IsIndexOf image.now index.now }
-    requires concerns { Concerns (command_of command.now) asked.Shallow }
+    requires concerns { Concerns (number_image image.now) (command_of command.now) asked.Shallow }
     ensures { IfOk result (λ is. is ≡ code_holds (asked_by image.now.names) (number_image image.now) (command_of command.now) asked.Shallow) }
 {
     match command {
         Command::AddParameter(new) => {
             is_shallow_speaking(alloc, image, index, new.selector, steps)
         }
+        Command::MoveCode(change) => is_shallow_after(alloc, image, change, steps),
         _ => Ok(false),
+    }
+}
+
+/// Whether the message that the command replaces finds a method whose body may stand in its place.
+fn is_target_inlinable<L: Ledger>(
+    alloc: Global,
+    image: &Image,
+    command: &Command,
+    method: MethodName,
+    steps: &mut Steps<L>,
+) -> Result<bool, Memory>
+    requires { IsOrderly image.now }
+    ensures { IfOk result (λ is. is ≡ code_holds (asked_by image.now.names) (number_image image.now) (command_of command.now) (asked.Inlinable method.class method.meta method.selector)) }
+{
+    match command {
+        Command::MoveCode(CodeMove::InlineMethod(part)) => {
+            target_holds(alloc, image, part, &Condition::Inlinable(method), steps)
+        }
+        _ => Ok(false),
+    }
+}
+
+/// Whether such a condition holds where the method has a part at the spot, or assigns a temporary of that name.
+fn spot_holds<L: Ledger>(
+    alloc: Global,
+    image: &Image,
+    method: MethodName,
+    spot: Spot,
+    condition: &Condition,
+    steps: &mut Steps<L>,
+) -> Result<bool, Memory>
+    requires { IsOrderly image.now }
+    ensures { IfOk result (λ is. is ≡ spot_passes image.now method spot condition.now) }
+{
+    match spot {
+        Spot::Part { from, to } => {
+            let part = MethodPart { method, from, to };
+            target_holds(alloc, image, &part, condition, steps)
+        }
+        Spot::Name(variable) => let_holds(alloc, image, &method, variable, condition, steps),
     }
 }
 
@@ -64,7 +109,7 @@ pub(crate) fn code_holds<L: Ledger>(
     requires orderly { IsOrderly image.now }
     requires index { IsIndexOf image.now index.now }
     requires condition { ConditionNames (λ n. n < length image.now.names) (condition_of condition.now) }
-    requires concerns { Concerns (command_of command.now) (condition_of condition.now) }
+    requires concerns { Concerns (number_image image.now) (command_of command.now) (condition_of condition.now) }
     ensures { IfOk result (λ is. is ≡ code_holds (asked_by image.now.names) (number_image image.now) (command_of command.now) (condition_of condition.now)) }
 {
     match *condition {
@@ -80,6 +125,25 @@ pub(crate) fn code_holds<L: Ledger>(
         }
         Condition::NotIn { method, variable } => is_not_in(alloc, image, method, variable, steps),
         Condition::Shallow => is_shallow(alloc, image, index, command, steps),
+        Condition::PartIs(part) => part_holds(alloc, image, &part, condition, steps),
+        Condition::NoReturn(part) => part_holds(alloc, image, &part, condition, steps),
+        Condition::AssignsNoOuter(part) => part_holds(alloc, image, &part, condition, steps),
+        Condition::TempsSteady(part) => part_holds(alloc, image, &part, condition, steps),
+        Condition::ValueUnused(part) => part_holds(alloc, image, &part, condition, steps),
+        Condition::FirstEvaluated(part) => part_holds(alloc, image, &part, condition, steps),
+        Condition::SelfSend(part) => is_self_send(alloc, image, &part, steps),
+        Condition::OneTarget(method) => Ok(is_one_target(image, &method)),
+        Condition::Inlinable(method) => is_target_inlinable(alloc, image, command, method, steps),
+        Condition::PlainActuals(part) => target_holds(alloc, image, &part, condition, steps),
+        Condition::NoCapture { method, spot } => {
+            spot_holds(alloc, image, method, spot, condition, steps)
+        }
+        Condition::NoNewControl { method, spot } => {
+            spot_holds(alloc, image, method, spot, condition, steps)
+        }
+        Condition::LetForm { method, variable } => {
+            let_holds(alloc, image, &method, variable, condition, steps)
+        }
         _ => Ok(false),
     }
 }

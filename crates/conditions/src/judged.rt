@@ -66,6 +66,11 @@ fn leaving(command: &Command) -> VariableMove
 {
     match command {
         Command::Variable(change) => *change,
+        Command::MoveCode(_) => VariableMove::Remove {
+            kind: VariableKind::Instance,
+            class: NameId(0),
+            variable: NameId(0),
+        },
         _ => VariableMove::Remove {
             kind: kind_of(command),
             class: NameId(0),
@@ -140,7 +145,7 @@ fn is_unreached<L: Ledger>(
     requires orderly { IsOrderly image.now }
     requires index { IsIndexOf image.now index.now }
     requires known { CommandNames (λ n. n < length image.now.names) (command_of command.now) }
-    requires concerns { Concerns (command_of command.now) (asked.Unreached selector) }
+    requires concerns { Concerns (number_image image.now) (command_of command.now) (asked.Unreached selector) }
     ensures { IfOk result (λ is. is ≡ model.holds (asked_by image.now.names) (number_image image.now) (command_of command.now) (asked.Unreached selector)) }
 {
     match command {
@@ -184,7 +189,7 @@ pub fn holds<L: Ledger>(
     requires index { IsIndexOf image.now index.now }
     requires command { CommandNames (λ n. n < length image.now.names) (command_of command.now) }
     requires condition { ConditionNames (λ n. n < length image.now.names) (condition_of condition.now) }
-    requires concerns { Concerns (command_of command.now) (condition_of condition.now) }
+    requires concerns { Concerns (number_image image.now) (command_of command.now) (condition_of condition.now) }
     ensures { IfOk result (λ is. is ≡ model.holds (asked_by image.now.names) (number_image image.now) (command_of command.now) (condition_of condition.now)) }
 {
     match *condition {
@@ -237,6 +242,21 @@ pub fn holds<L: Ledger>(
         Condition::Declared { .. } | Condition::NotIn { .. } => {
             code_holds(alloc, image, index, command, condition, steps)
         }
+        Condition::PartIs(_) | Condition::NoReturn(_) | Condition::AssignsNoOuter(_) => {
+            code_holds(alloc, image, index, command, condition, steps)
+        }
+        Condition::TempsSteady(_) | Condition::ValueUnused(_) | Condition::FirstEvaluated(_) => {
+            code_holds(alloc, image, index, command, condition, steps)
+        }
+        Condition::SelfSend(_) | Condition::OneTarget(_) | Condition::Inlinable(_) => {
+            code_holds(alloc, image, index, command, condition, steps)
+        }
+        Condition::PlainActuals(_) | Condition::LetForm { .. } => {
+            code_holds(alloc, image, index, command, condition, steps)
+        }
+        Condition::NoCapture { .. } | Condition::NoNewControl { .. } => {
+            code_holds(alloc, image, index, command, condition, steps)
+        }
     }
 }
 
@@ -253,7 +273,7 @@ fn first_false_of<L: Ledger>(
     requires index { IsIndexOf image.now index.now }
     requires command { CommandNames (λ n. n < length image.now.names) (command_of command.now) }
     requires conditions { AllByRecursion (λ c. ConditionNames (λ n. n < length image.now.names) (condition_of c)) conditions.now }
-    requires concern { AllByRecursion (λ c. Concerns (command_of command.now) (condition_of c)) conditions.now }
+    requires concern { AllByRecursion (λ c. Concerns (number_image image.now) (command_of command.now) (condition_of c)) conditions.now }
     ensures first { IfOk result (λ found. option_map condition_of found ≡ find (λ c. not (model.holds (asked_by image.now.names) (number_image image.now) (command_of command.now) c)) (map condition_of conditions.now)) }
     ensures known { IfOk result (λ found. OptionNames (λ c. ConditionNames (λ n. n < length image.now.names) (condition_of c)) found) }
 {
@@ -279,6 +299,6 @@ pub fn first_false<L: Ledger>(
     ensures first { IfOk result (λ found. option_map condition_of found ≡ judged.first_false (asked_by image.now.names) (number_image image.now) (command_of command.now)) }
     ensures known { IfOk result (λ found. OptionNames (λ c. ConditionNames (λ n. n < length image.now.names) (condition_of c)) found) }
 {
-    let conditions = needs(alloc, image, command)?;
+    let conditions = needs(alloc, image, command, steps)?;
     first_false_of(alloc, image, index, command, conditions.as_slice(), steps)
 }

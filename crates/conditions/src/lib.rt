@@ -5,6 +5,7 @@ mod added;
 mod code;
 mod code_judged;
 mod judged;
+mod moves;
 mod needed;
 mod parameters;
 mod reflection;

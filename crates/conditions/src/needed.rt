@@ -17,17 +17,19 @@ ghost use Rattle.name_meanings.specs.Meanings.{kind_of};
 ghost use Rattle.commands.specs.Views.{asked_by, adds_variable, command_of, condition_of, move_command, name_kind_of, removes_variable, renames_variable, renaming_command};
 ghost use Rattle.conditions.specs.Concerns.{Concerns};
 
+use crate::moves::needs_of_code;
 use crate::parameters::{needs_of_new_parameter, needs_of_parameter_removal, needs_of_temporary};
 use class_table::Image;
-use command_numbers::numbers_of_commands;
+use code_command_numbers::numbers_of_all_commands;
 use commands::{
     Command, Condition, MethodName, NameKind, NewClass, NewMethod, Renaming, VariableMove,
 };
 use hierarchy_questions::{receivers, superclass_of};
 use name_meanings::VariableKind;
 use name_questions::{arity, is_good_class_name, is_good_selector, is_good_variable_name};
-use rb_base::{Memory, NameId, Names};
+use rb_base::{Memory, NameId, Names, Steps};
 use std::alloc::Global;
+use std::sync::ledger::Ledger;
 
 /// Whether such a thing may be given the name.
 pub(crate) fn is_good_name(names: &Names, name: NameId, kind: NameKind) -> bool
@@ -330,10 +332,10 @@ fn put_children(
     ensures { OnOk result (map condition_of conditions.new.items ≡ map condition_of conditions.old.items ++ map (λ s. needed.ChildOf s superclass) classes.now) }
 {
     for class in classes {
-        conditions.push(Condition::ChildOf {
+        conditions.extend_from_slice(&[Condition::ChildOf {
             class: *class,
             superclass,
-        })?;
+        }])?;
     }
     Ok(())
 }
@@ -492,10 +494,10 @@ fn put_meanings(
     ensures { OnOk result (map condition_of conditions.new.items ≡ map condition_of conditions.old.items ++ map (needed.MeansSame method.now.class method.now.meta method.now.selector) classes.now) }
 {
     for class in classes {
-        conditions.push(Condition::MeansSame {
+        conditions.extend_from_slice(&[Condition::MeansSame {
             method: *method,
             to: *class,
-        })?;
+        }])?;
     }
     Ok(())
 }
@@ -529,7 +531,12 @@ fn needs_of_method_down(
 }
 
 /// The conditions of the command, in their order.
-fn listed(alloc: Global, image: &Image, command: &Command) -> Result<Vec<Condition>, Memory>
+fn listed<L: Ledger>(
+    alloc: Global,
+    image: &Image,
+    command: &Command,
+    steps: &mut Steps<L>,
+) -> Result<Vec<Condition>, Memory>
     requires orderly { IsOrderly image.now }
     requires known { CommandNames (λ n. n < length image.now.names) (command_of command.now) }
     ensures { IfOk result (λ found. map condition_of found.items ≡ model.needs (asked_by image.now.names) (number_image image.now) (command_of command.now)) }
@@ -554,17 +561,23 @@ fn listed(alloc: Global, image: &Image, command: &Command) -> Result<Vec<Conditi
             variable,
             to,
         } => needs_of_temporary(alloc, image, method, *variable, *to),
+        Command::MoveCode(change) => needs_of_code(alloc, image, change, steps),
     }
 }
 
-/// The conditions of the command, in their order.
-pub fn needs(alloc: Global, image: &Image, command: &Command) -> Result<Vec<Condition>, Memory>
+/// The conditions of the command, in their order. Opens at most two methods.
+pub fn needs<L: Ledger>(
+    alloc: Global,
+    image: &Image,
+    command: &Command,
+    steps: &mut Steps<L>,
+) -> Result<Vec<Condition>, Memory>
     requires orderly { IsOrderly image.now }
     requires known { CommandNames (λ n. n < length image.now.names) (command_of command.now) }
     ensures needed { IfOk result (λ found. map condition_of found.items ≡ model.needs (asked_by image.now.names) (number_image image.now) (command_of command.now)) }
     ensures known { IfOk result (λ found. AllByRecursion (λ c. ConditionNames (λ n. n < length image.now.names) (condition_of c)) found.items) }
-    ensures concern { IfOk result (λ found. AllByRecursion (λ c. Concerns (command_of command.now) (condition_of c)) found.items) }
+    ensures concern { IfOk result (λ found. AllByRecursion (λ c. Concerns (number_image image.now) (command_of command.now) (condition_of c)) found.items) }
 {
-    numbers_of_commands();
-    listed(alloc, image, command)
+    numbers_of_all_commands();
+    listed(alloc, image, command, steps)
 }

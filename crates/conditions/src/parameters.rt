@@ -44,7 +44,7 @@ fn put_found(found: Option<Condition>, conditions: &mut Vec<Condition>) -> Resul
     match found {
         None => Ok(()),
         Some(condition) => {
-            conditions.push(condition)?;
+            conditions.extend_from_slice(&[condition])?;
             Ok(())
         }
     }
@@ -81,13 +81,13 @@ pub(crate) fn needs_of_new_parameter(
         return Err(Memory);
     };
     let mut conditions = needs_of_selector(alloc, new.selector, count, new.to)?;
-    conditions.push(Condition::GoodName {
+    let name = Condition::GoodName {
         name: new.parameter,
         kind: NameKind::Variable,
-    })?;
+    };
+    conditions.extend_from_slice(&[name])?;
     put_unnamed(image, new.selector, new.parameter, &mut conditions)?;
-    conditions.push(Condition::AtomLiteral)?;
-    conditions.push(Condition::Shallow)?;
+    conditions.extend_from_slice(&[Condition::AtomLiteral, Condition::Shallow])?;
     Ok(conditions)
 }
 
@@ -104,8 +104,10 @@ pub(crate) fn needs_of_parameter_removal(
 {
     let count = arity_of(image.names(), selector).saturating_sub(1);
     let mut conditions = needs_of_selector(alloc, selector, count, to)?;
-    conditions.push(Condition::ParameterUnused { selector, argument })?;
-    conditions.push(Condition::PlainArguments { selector, argument })?;
+    conditions.extend_from_slice(&[
+        Condition::ParameterUnused { selector, argument },
+        Condition::PlainArguments { selector, argument },
+    ])?;
     Ok(conditions)
 }
 
