@@ -24,12 +24,9 @@ use slot_room::room_for_method;
 use st_tree::try_copy;
 use std::alloc::Global;
 
-/// Puts the change by which a method comes to a place of the order, or goes, at the end.
-pub(crate) fn put_live(
-    plan: &mut Plan,
-    slot: MethodSlot,
-    place: Option<usize>,
-) -> Result<(), Memory>
+/// Puts the change by which a method comes to a place of the order, or goes, at the end of a plan. Want of memory, if there is
+/// not enough of it for a longer plan.
+pub fn put_live(plan: &mut Plan, slot: MethodSlot, place: Option<usize>) -> Result<(), Memory>
     ensures changes { OnOk result (plan.new.changes ≡ plan.old.changes ++ change.Live (slots.Method slot) place ∷ []) }
     ensures touched { OnOk result (plan.new.touched.items ≡ plan.old.touched.items ++ places.Method slot ∷ []) }
 {

@@ -8,5 +8,5 @@ mod named;
 mod up;
 
 pub use down::plan_method_down;
-pub use going::{plan_method_removal, plan_new_method};
+pub use going::{plan_method_removal, plan_new_method, put_live};
 pub use up::plan_method_up;

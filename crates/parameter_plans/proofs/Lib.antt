@@ -1,8 +1,4 @@
-mod RemadeCode
-mod ImageAfter
-mod Whole
 mod Planned
 mod Passed
 mod MessagesPassed
 mod Made
-mod SoFar

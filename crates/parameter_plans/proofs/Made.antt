@@ -1,19 +1,17 @@
 -- The change of the code at a place, from what was asked of it and made of it.
-use Rattle.std.proofs.Common.{◌≡◌, ℕ, ◌<◌, Bool, true, false, ◌||◌, List, [], ◌∷◌, ◌++◌, length, map, None, Some, slice_get, option_map, refl, sym, ap, subst, ◌∙◌}
-use Rattle.std.specs.Prelude.{nat_eq, if◌then◌else◌}
+use Rattle.std.proofs.Common.{◌≡◌, ℕ, ◌<◌, Bool, true, false, ◌||◌, List, [], ◌∷◌, ◌++◌, length, None, Some, slice_get, option_map, refl, sym, ap, ◌∙◌}
+use Rattle.std.specs.Prelude.{nat_eq}
 use Rattle.std.specs.Borrow.{Bor}
-use Rattle.std.specs.List.{list_any, AllByRecursion}
+use Rattle.std.specs.List.{list_any}
 use Rattle.std.specs.Option.{option_copied}
-use Rattle.std.proofs.lemmas.Simd.{map-map}
 use Rattle.tree_model.specs.Tree.{TreeOf}
 use Rattle.tree_model.specs.AllNames.{SequenceNames, MethodNames}
 use Rattle.tree_model.specs.Nodes.{Placed, nodes}
-use Rattle.st_tree.specs.View.{method_of, method_from, sequence_of, sequence_from}
+use Rattle.st_tree.specs.View.{method_of, sequence_of}
 use Rattle.st_tree.specs.declared.tree.Method.{Method}
 use Rattle.st_tree.specs.declared.tree.Sequence.{Sequence}
-use Rattle.st_tree.proofs.Back.{method_from-method_of, sequence_from-sequence_of}
 use Rattle.command_model.specs.Numbers.{number_writing}
-use Rattle.image_model.specs.ImageNames.{EntryNames, DoItNames, ImageNames}
+use Rattle.image_model.specs.ImageNames.{ImageNames}
 use Rattle.image_model.specs.Uses.{is_sender}
 use Rattle.class_table.specs.declared.record.MethodRec.{MethodRec}
 use Rattle.class_table.specs.declared.record.DoIt.{DoIt}
@@ -21,30 +19,18 @@ use Rattle.class_table.specs.declared.record.MethodInfo.{MethodInfo}
 use Rattle.class_table.specs.declared.record.Place.TheVariants as place
 use Rattle.class_table.specs.Slots.{Slots}
 use Rattle.class_table.specs.Info.{IsInfoOf}
-use Rattle.class_table.specs.View.{live, live_at, entry_of, doit_of}
-use Rattle.class_table.specs.Valid.{IsLive}
-use Rattle.class_table.proofs.Live.{live-fact}
+use Rattle.class_table.specs.View.{live_at, entry_of, doit_of}
 use Rattle.change_set.specs.declared.change.Change.TheVariants as change
 use Rattle.mentions.specs.Mentions.{trees_of_nodes}
-use Rattle.renamed_code.proofs.Changed.{method-there, doit-there}
+use Rattle.remade_plans.specs.Remade.{Remaking, image_after, change_at}
+use Rattle.remade_plans.proofs.MadeAnew.{method_told, doit_told, method-stays, method-names, method-changes, doit-stays, doit-names, doit-changes}
 use Rattle.parameter_plans.specs.declared.given.ParameterChange.{ParameterChange}
-use Rattle.parameter_plans.specs.Given.{selector_before, remaking_of}
-use Rattle.parameter_plans.specs.Remade.{Remaking, entry_after, doit_after, image_after, change_at}
-use Rattle.parameter_plans.proofs.RemadeCode.{method-gives, doit-gives}
-use Rattle.parameter_plans.proofs.Whole.{item-fact}
+use Rattle.parameter_plans.specs.Given.{selector_before, tree_after, remaking_of}
 
 -- a test of the nodes of code
 pub any-node : (test : TreeOf ℕ → Bool) (es : List (Placed ℕ)) → list_any test (trees_of_nodes es) ≡ list_any (λ (e : Placed ℕ). test e.1) es
 any-node test [] = refl
 any-node test (e ∷ es) = ap (λ (b : Bool). test e.1 || b) (any-node test es)
-
--- what a live slot holds
-live-slot : {X : Type 0} (xs : List X) (order : List ℕ) (k : ℕ) (x : X) → live_at xs order k ≡ Some x → IsLive order k × (slice_get xs k ≡ Some x)
-live-slot xs order k x e = by (list_any (nat_eq k) order) refl e
-  where
-    by : (b : Bool) → list_any (nat_eq k) order ≡ b → (if b then slice_get xs k else None) ≡ Some x → (list_any (nat_eq k) order ≡ true) × (slice_get xs k ≡ Some x)
-    by true is f = (is, f)
-    by false is f = absurd (cc)
 
 module _ (image : Bor Slots) (p : ParameterChange) where
   abbrev r : Remaking
@@ -58,64 +44,37 @@ module _ (image : Bor Slots) (p : ParameterChange) where
       (lent : option_copied (Some tree) ≡ option_map (λ (m : MethodRec). m.tree) (live_at image.now.methods image.now.method_order k))
       (selector : ℕ) (spoken : Bool) (is : selector ≡ selector_before p)
       (tells : spoken ≡ (nat_eq selector tree.now.selector || list_any (λ (e : Placed ℕ). is_sender nat_eq selector e.1) (nodes (sequence_of tree.now.body)))) where
-    abbrev m : MethodRec
-    m = record { class = info.class; meta = info.meta; protocol = info.protocol.now; source = info.source.now; tree = tree.now; kernel = info.kernel }
-
-    there : live_at image.now.methods image.now.method_order k ≡ Some m
-    there = method-there image.now k info tree told lent
-
-    found : r.is_method_remade (entry_of image.now.classes m) ≡ spoken
+    found : r.is_method_remade (entry_of image.now.classes (method_told image r k info tree told lent)) ≡ spoken
     found = sym (tells ∙ ap (λ (s : ℕ). nat_eq s tree.now.selector || list_any (λ (e : Placed ℕ). is_sender nat_eq s e.1) (nodes (sequence_of tree.now.body))) is)
 
     -- it does not speak of the selector
     pub method-none : spoken ≡ false → None ≡ change_at image.now r (place.Method k)
-    method-none f = sym (method-gives image.now r k m there false (found ∙ f))
+    method-none f = method-stays image r k info tree told lent (found ∙ f)
 
     -- it does, and this is made of it
-    module _ (copy made : Method) (f : spoken ≡ true) (same : copy ≡ tree.now) (e : method_of made ≡ r.method_after (method_of copy)) where
-      tree-is : method_of made ≡ r.method_after (method_of tree.now)
-      tree-is = e ∙ ap (λ (t : Method). r.method_after (method_of t)) same
+    module _ (copy made : Method) (f : spoken ≡ true) (same : copy ≡ tree.now) (e : method_of made ≡ tree_after p (method_of copy)) where
+      tree-is : method_of made ≡ tree_after p (method_of tree.now)
+      tree-is = e ∙ ap (λ (t : Method). tree_after p (method_of t)) same
 
       -- each name in it has a text
       pub method-known : ImageNames IsKnown (image_after image.now r) → MethodNames IsKnown (method_of made)
-      method-known known =
-          let slot = live-slot image.now.methods image.now.method_order k m there in
-          let all : AllByRecursion (EntryNames IsKnown) (map (λ (x : MethodRec). entry_after image.now r (entry_of image.now.classes x)) (live image.now.methods image.now.method_order)) =
-          subst (AllByRecursion (EntryNames IsKnown)) (map-map (entry_after image.now r) (entry_of image.now.classes) (live image.now.methods image.now.method_order)) known.methods in
-          let named = live-fact (EntryNames IsKnown) (λ (x : MethodRec). entry_after image.now r (entry_of image.now.classes x)) image.now.methods image.now.method_order k m all slot.0 slot.1 in
-          subst (MethodNames IsKnown) (ap (λ (b : Bool). if b then r.method_after (method_of tree.now) else method_of tree.now) (found ∙ f) ∙ sym tree-is)
-          (subst (MethodNames IsKnown) (picked (r.is_method_remade (entry_of image.now.classes m))) named.tree)
-        where
-          picked : (b : Bool) → (if b then record (entry_of image.now.classes m) { tree = r.method_after (method_of tree.now); source = (number_writing image.now.names).method_text (r.method_after (method_of tree.now)) } else entry_of image.now.classes m).tree
-              ≡ (if b then r.method_after (method_of tree.now) else method_of tree.now)
-          picked true = refl
-          picked false = refl
+      method-known known = method-names image r k info tree told lent made (found ∙ f) tree-is known
 
       -- the change
       pub method-some : (protocol source empty : List ℕ) (names : List (List ℕ)) → protocol ≡ info.protocol.now → empty ≡ [] → names ≡ image.now.names → source ≡ empty ++ (number_writing names).method_text (method_of made)
           → Some (change.Method k (record { class = info.class; meta = info.meta; protocol = protocol; source = source; tree = made; kernel = info.kernel })) ≡ change_at image.now r (place.Method k)
-      method-some protocol source empty names noted blank known text =
-          let like : made ≡ method_from (r.method_after (method_of tree.now)) = sym (method_from-method_of made) ∙ ap method_from tree-is in
-          let spelled : source ≡ (number_writing image.now.names).method_text (r.method_after (method_of tree.now)) = text ∙ (λ i. blank i ++ (number_writing (known i)).method_text (tree-is i)) in
-          (λ i. let rec : MethodRec = record { class = info.class; meta = info.meta; protocol = noted i; source = spelled i; tree = like i; kernel = info.kernel } in Some (change.Method k rec))
-          ∙ sym (method-gives image.now r k m there true (found ∙ f))
+      method-some protocol source empty names noted blank known text = method-changes image r k info tree told lent made (found ∙ f) tree-is protocol source empty names noted blank known text
 
   -- a do-it whose body is lent
   module _ (n : ℕ) (body : Bor Sequence) (lent : option_copied (Some body) ≡ option_map (λ (d : DoIt). d.body) (slice_get image.now.doits n))
       (selector : ℕ) (sent : Bool) (is : selector ≡ selector_before p)
       (tells : sent ≡ list_any (λ (e : Placed ℕ). is_sender nat_eq selector e.1) (nodes (sequence_of body.now))) where
-    doit-place : (source : List ℕ) × (slice_get image.now.doits n ≡ Some (record { source = source; body = body.now }))
-    doit-place = doit-there image.now n body lent
-
-    abbrev d : DoIt
-    d = record { source = doit-place.0; body = body.now }
-
-    doit-found : r.is_doit_remade (doit_of d) ≡ sent
+    doit-found : r.is_doit_remade (doit_of (doit_told image r n body lent)) ≡ sent
     doit-found = sym (tells ∙ ap (λ (s : ℕ). list_any (λ (e : Placed ℕ). is_sender nat_eq s e.1) (nodes (sequence_of body.now))) is)
 
     -- it does not send the selector
     pub doit-none : sent ≡ false → None ≡ change_at image.now r (place.DoIt n)
-    doit-none f = sym (doit-gives image.now r n d doit-place.1 false (doit-found ∙ f))
+    doit-none f = doit-stays image r n body lent (doit-found ∙ f)
 
     -- it does, and this is made of it
     module _ (copy made : Sequence) (f : sent ≡ true) (same : copy ≡ body.now) (e : sequence_of made ≡ r.body_after (sequence_of copy)) where
@@ -124,23 +83,9 @@ module _ (image : Bor Slots) (p : ParameterChange) where
 
       -- each name in it has a text
       pub doit-known : ImageNames IsKnown (image_after image.now r) → SequenceNames IsKnown (sequence_of made)
-      doit-known known =
-          let all : AllByRecursion (DoItNames IsKnown) (map (λ (x : DoIt). doit_after image.now r (doit_of x)) image.now.doits) =
-          subst (AllByRecursion (DoItNames IsKnown)) (map-map (doit_after image.now r) doit_of image.now.doits) known.doits in
-          let named = item-fact (DoItNames IsKnown) (λ (x : DoIt). doit_after image.now r (doit_of x)) image.now.doits n d all doit-place.1 in
-          subst (SequenceNames IsKnown) (ap (λ (b : Bool). if b then r.body_after (sequence_of body.now) else sequence_of body.now) (doit-found ∙ f) ∙ sym body-is)
-          (subst (SequenceNames IsKnown) (picked (r.is_doit_remade (doit_of d))) named)
-        where
-          picked : (b : Bool) → (if b then record { body = r.body_after (sequence_of body.now); source = (number_writing image.now.names).doit_text (r.body_after (sequence_of body.now)) } else doit_of d).body
-              ≡ (if b then r.body_after (sequence_of body.now) else sequence_of body.now)
-          picked true = refl
-          picked false = refl
+      doit-known known = doit-names image r n body lent made (doit-found ∙ f) body-is known
 
       -- the change
       pub doit-some : (source empty : List ℕ) (names : List (List ℕ)) → empty ≡ [] → names ≡ image.now.names → source ≡ empty ++ (number_writing names).doit_text (sequence_of made)
           → Some (change.DoIt n (record { source = source; body = made })) ≡ change_at image.now r (place.DoIt n)
-      doit-some source empty names blank known text =
-          let like : made ≡ sequence_from (r.body_after (sequence_of body.now)) = sym (sequence_from-sequence_of made) ∙ ap sequence_from body-is in
-          let spelled : source ≡ (number_writing image.now.names).doit_text (r.body_after (sequence_of body.now)) = text ∙ (λ i. blank i ++ (number_writing (known i)).doit_text (body-is i)) in
-          (λ i. let rec : DoIt = record { source = spelled i; body = like i } in Some (change.DoIt n rec))
-          ∙ sym (doit-gives image.now r n d doit-place.1 true (doit-found ∙ f))
+      doit-some source empty names blank known text = doit-changes image r n body lent made (doit-found ∙ f) body-is source empty names blank known text

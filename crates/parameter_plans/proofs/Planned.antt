@@ -33,9 +33,9 @@ use Rattle.plans.specs.Plan.{IsPlan}
 use Rattle.parameter_plans.specs.declared.given.ParameterChange.{ParameterChange}
 use Rattle.parameter_plans.specs.declared.given.ParameterChange.TheVariants as given
 use Rattle.parameter_plans.specs.Given.{parameter_command, selector_before, selector_after, passed_after, taken_after, remaking_of}
-use Rattle.parameter_plans.specs.Remade.{image_after, change_at, changes_at, touched}
-use Rattle.parameter_plans.proofs.RemadeCode.{given-method, given-doit, live-there}
-use Rattle.parameter_plans.proofs.Whole.{remade-can, remade-image, remade-names, remade-orderly, remade-fit, remade-touched}
+use Rattle.remade_plans.specs.Remade.{image_after, change_at, changes_at, touched}
+use Rattle.remade_plans.proofs.RemadeCode.{given-method, given-doit, live-there}
+use Rattle.remade_plans.proofs.Whole.{remade-can, remade-image, remade-names, remade-orderly, remade-fit, remade-touched}
 
 -- what nodes and code become does not depend on how trees are written
 module _ (v w : WritingOf ℕ) (t u : ℕ) (passed : TreesOf ℕ → TreesOf ℕ) (taken : List ℕ → List ℕ) where
@@ -62,12 +62,12 @@ module _ (v w : WritingOf ℕ) (t u : ℕ) (passed : TreesOf ℕ → TreesOf ℕ
 -- the command makes of the image the one after
 is-effect : (s : Slots) (c : ParameterChange) → image_after s (remaking_of c) ≡ effect (asked_by s.names) (number_writing s.names) (parameter_command c) (number_image s)
 is-effect s c = (λ j. image_after s (record (remaking_of c) {
-  method_after = λ m. tree-same no_writing (number_writing s.names) (selector_before c) (selector_after c) (passed_after c) (taken_after c) m j;
+  method_after = λ m. tree-same no_writing (number_writing s.names) (selector_before c) (selector_after c) (passed_after c) (taken_after c) m.tree j;
   body_after = λ b. sequence-same no_writing (number_writing s.names) (selector_before c) (selector_after c) (passed_after c) (taken_after c) b j;
 })) ∙ by c
   where
     by : (d : ParameterChange) → image_after s (record (remaking_of d) {
-      method_after = tree_passed nat_eq (number_writing s.names) (selector_before d) (selector_after d) (passed_after d) (taken_after d);
+      method_after = λ m. tree_passed nat_eq (number_writing s.names) (selector_before d) (selector_after d) (passed_after d) (taken_after d) m.tree;
       body_after = sequence_passed nat_eq (number_writing s.names) (selector_before d) (selector_after d) (passed_after d) (taken_after d);
     }) ≡ effect (asked_by s.names) (number_writing s.names) (parameter_command d) (number_image s)
     by (given.Added n) = refl

@@ -1,7 +1,7 @@
 -- The command by which an argument comes or goes, and what it makes of code.
 use Rattle.std.specs.Prelude.{ℕ, ◌-◌, List, [], ◌∷◌, ◌++◌, remove, nat_eq}
 use Rattle.std.specs.List.{list_any}
-use Rattle.tree_model.specs.Tree.{TreeOf, TreesOf, no_trees, more_trees, MessagesOf}
+use Rattle.tree_model.specs.Tree.{TreeOf, TreesOf, no_trees, more_trees, MessagesOf, MethodOf}
 use Rattle.tree_model.specs.Path.{append}
 use Rattle.tree_model.specs.Nodes.{nodes}
 use Rattle.image_model.specs.Uses.{is_sender}
@@ -12,7 +12,7 @@ use Rattle.command_model.specs.Parameters.{without_nth, messages_passed, node_pa
 use Rattle.command_model.specs.Plain.{literal_node}
 use Rattle.parameter_plans.specs.declared.given.ParameterChange.{ParameterChange}
 use Rattle.parameter_plans.specs.declared.given.ParameterChange.TheVariants as given
-use Rattle.parameter_plans.specs.Remade.{Remaking}
+use Rattle.remade_plans.specs.Remade.{Remaking}
 
 -- the command
 abbrev pub parameter_command : ParameterChange → CommandOf ℕ
@@ -46,11 +46,15 @@ module _ (c : ParameterChange) where
   abbrev pub node_after : TreeOf ℕ → TreeOf ℕ
   node_after = node_passed nat_eq no_writing (selector_before c) (selector_after c) (passed_after c) (taken_after c)
 
+  -- the tree of a method after
+  abbrev pub tree_after : MethodOf ℕ → MethodOf ℕ
+  tree_after = tree_passed nat_eq no_writing (selector_before c) (selector_after c) (passed_after c) (taken_after c)
+
   -- which code is made anew, and what it is then
   abbrev pub remaking_of : Remaking
   remaking_of = record {
     is_method_remade = speaks_of nat_eq (selector_before c);
-    method_after = tree_passed nat_eq no_writing (selector_before c) (selector_after c) (passed_after c) (taken_after c);
+    method_after = λ m. tree_after m.tree;
     is_doit_remade = λ d. list_any (λ e. is_sender nat_eq (selector_before c) e.1) (nodes d.body);
     body_after = sequence_passed nat_eq no_writing (selector_before c) (selector_after c) (passed_after c) (taken_after c);
   }

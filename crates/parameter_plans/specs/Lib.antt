@@ -1,2 +1,1 @@
-pub mod Remade
 pub mod Given

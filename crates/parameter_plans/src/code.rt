@@ -8,7 +8,7 @@ ghost use Rattle.class_table.specs.declared.record.Place.TheVariants as places;
 ghost use Rattle.class_table.specs.Valid.{IsOrderly};
 ghost use Rattle.command_numbers.specs.CommandNames.{CommandNames};
 ghost use Rattle.parameter_plans.specs.Given.{parameter_command, remaking_of};
-ghost use Rattle.parameter_plans.specs.Remade.{change_at};
+ghost use Rattle.remade_plans.specs.Remade.{change_at};
 
 use crate::given::ParameterChange;
 use crate::laws::law_known;

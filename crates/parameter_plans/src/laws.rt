@@ -6,7 +6,7 @@ ghost use Rattle.command_numbers.specs.CommandNames.{CommandNames};
 ghost use Rattle.image_model.specs.ImageNames.{ImageNames};
 ghost use Rattle.parameter_plans.specs.declared.given.ParameterChange.{ParameterChange};
 ghost use Rattle.parameter_plans.specs.Given.{parameter_command, remaking_of};
-ghost use Rattle.parameter_plans.specs.Remade.{image_after};
+ghost use Rattle.remade_plans.specs.Remade.{image_after};
 
 use command_numbers::numbers_of_commands;
 

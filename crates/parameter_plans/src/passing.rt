@@ -3,7 +3,7 @@ ghost use Rattle.std.specs.Prelude.{◌≡◌, remove, OnOk};
 ghost use Rattle.tree_model.specs.Tree.{trees_of};
 ghost use Rattle.command_model.specs.Plain.{literal_node};
 ghost use Rattle.st_tree.specs.View.{messages_of, method_of};
-ghost use Rattle.parameter_plans.specs.Given.{selector_before, selector_after, passed_after, taken_after, messages_after, node_after, remaking_of};
+ghost use Rattle.parameter_plans.specs.Given.{selector_before, selector_after, passed_after, taken_after, messages_after, node_after, tree_after};
 
 use crate::given::ParameterChange;
 use rb_base::{Ids, Memory, NameId};
@@ -102,7 +102,7 @@ impl ParameterChange<'_> {
 
     /// Changes each message of the selector in a method, and the method itself where it has the selector.
     pub(crate) fn change_method(&self, alloc: Global, method: &mut Method) -> Result<(), Memory>
-        ensures { OnOk result (method_of method.new ≡ (remaking_of self.now).method_after (method_of method.old)) }
+        ensures { OnOk result (method_of method.new ≡ tree_after self.now (method_of method.old)) }
     {
         remake_method(alloc, self, method)?;
         if self.selector() == method.selector {

@@ -5,7 +5,6 @@ use Rattle.std.specs.List.{cons_option}
 use Rattle.std.specs.Option.{option_map_or, option_and_then, option_copied}
 use Rattle.std.specs.Borrow.{Bor}
 use Rattle.tree_model.specs.AllNames.{MethodNames}
-use Rattle.tree_model.specs.Normal.{normal}
 use Rattle.st_tree.specs.View.{method_of}
 use Rattle.st_tree.specs.declared.tree.Method.{Method}
 use Rattle.image_model.specs.Image.{EntryOf}
@@ -17,14 +16,7 @@ use Rattle.class_table.specs.View.{live, live_at, entry_of, number_image}
 use Rattle.class_table.proofs.Live.{there, find-passes, IsLive-first, IsLive-rest}
 use Rattle.class_table.proofs.KeptLemmas.{method-fits}
 use Rattle.class_questions.proofs.AnyLive.{live_at-live}
-use Rattle.command_model.specs.Commands.{RenameTemp}
-use Rattle.command_model.specs.Asked.{no_parts}
-use Rattle.command_model.specs.Judged.{first_false}
-use Rattle.command_model.specs.Numbers.{number_asked}
 use Rattle.command_model.specs.Places.{users_method}
-use Rattle.command_model.specs.Temporaries.{temporary_renamed}
-use Rattle.command_model.proofs.Held.{all-hold}
-use Rattle.commands.specs.Views.{asked_by}
 use Rattle.commands.specs.declared.command.MethodName.{MethodName}
 use Rattle.temporary_plans.specs.Retold.{is_users, users_slot}
 
@@ -62,11 +54,11 @@ of-user : (b : Bool) (m : EntryOf ℕ) → not b ≡ true → (if b then None el
 of-user true m e = absurd (true≢false (sym e))
 of-user false m e = refl
 
--- the tree that a command gives the method of the user
-pub record IsTold (s : Slots) (method : MethodName) (x y : ℕ) (tree : Method) : Type 0 where
+-- the tree of the user's method
+pub record IsUsers (s : Slots) (method : MethodName) (tree : Method) : Type 0 where
   pub entry : EntryOf ℕ
   pub found : users_method nat_eq (number_image s) method.class method.meta method.selector ≡ Some entry
-  pub is : method_of tree ≡ normal (temporary_renamed (asked_by s.names) entry.tree x y)
+  pub is : entry.tree ≡ method_of tree
   pub known : MethodNames (λ n. n < length s.names) (method_of tree)
 
 module _ (s : Slots) (o : IsOrderly s) (method : MethodName) where
@@ -85,9 +77,9 @@ module _ (s : Slots) (o : IsOrderly s) (method : MethodName) where
       let r = there s.methods k (o.method_order.below k l) in
       (r.0, r.1, users-live k r.0 l r.1)
 
-  module _ (x y : ℕ) (none : first_false (asked_by s.names) (number_image s) (RenameTemp method.class method.meta method.selector x y) ≡ None) where
+  module _ (has : option_map_or (λ (m : EntryOf ℕ). not m.kernel) (own_method nat_eq (number_image s).methods method.class method.meta method.selector) false ≡ true) where
     own : (m : EntryOf ℕ) × (own_method nat_eq (number_image s).methods method.class method.meta method.selector ≡ Some m) × (not m.kernel ≡ true)
-    own = own-there (own_method nat_eq (number_image s).methods method.class method.meta method.selector) (all-hold (asked_by s.names) (number_image s) (RenameTemp method.class method.meta method.selector x y) none).has_method
+    own = own-there (own_method nat_eq (number_image s).methods method.class method.meta method.selector) has
 
     found : users_method nat_eq (number_image s) method.class method.meta method.selector ≡ Some own.0
     found = ap (option_and_then (λ (m : EntryOf ℕ). if m.kernel then None else Some m)) own.1 ∙ of-user own.0.kernel own.0 own.2
@@ -128,23 +120,16 @@ module _ (s : Slots) (o : IsOrderly s) (method : MethodName) where
         no_tree : (m : Method) → option_copied missing_tree ≡ Some m → ⊥
         no_tree m h = absurd (cc)
 
-    -- the tree that is made of it is that which the command gives the method
-    pub first-told : (k : ℕ) (names : List (List ℕ)) (tree : Bor Method) (made : Method) → users_slot s method ≡ Some k → option_copied (Some tree) ≡ option_map (λ (m : MethodRec). m.tree) (live_at s.methods s.method_order k)
-        → names ≡ s.names → y < length s.names → method_of made ≡ normal (temporary_renamed (number_asked names 0 no_parts) (method_of tree.now) x y)
-        → (y < length names → MethodNames (λ n. n < length names) (method_of tree.now) → MethodNames (λ n. n < length names) (method_of made)) → IsTold s method x y made
-    first-told k names tree made is lent table new makes known =
+    -- it is the tree of the user's method
+    pub first-told : (k : ℕ) (tree : Bor Method) → users_slot s method ≡ Some k → option_copied (Some tree) ≡ option_map (λ (m : MethodRec). m.tree) (live_at s.methods s.method_order k) → IsUsers s method tree.now
+    first-told k tree is lent =
         let r = first-holds k is in
         let same_tree : tree.now ≡ r.0.tree = same_some tree.now r.0.tree (tree-lent k (Some tree) is lent) in
-        let made_is : method_of made ≡ normal (temporary_renamed (asked_by s.names) (method_of tree.now) x y) =
-        makes ∙ ap (λ (ns : List (List ℕ)). normal (temporary_renamed (number_asked ns 0 no_parts) (method_of tree.now) x y)) table in
-        let made_known : MethodNames (λ n. n < length s.names) (method_of made) =
-        subst (λ (ns : List (List ℕ)). y < length ns → MethodNames (λ n. n < length ns) (method_of tree.now) → MethodNames (λ n. n < length ns) (method_of made)) table known new
-        (subst (λ (m : Method). MethodNames (λ n. n < length s.names) (method_of m)) (sym same_tree) (method-fits s o k r.0 r.1 r.2).names_known) in
         record {
           entry = e r.0;
           found = r.3;
-          is = made_is ∙ ap (λ (m : Method). normal (temporary_renamed (asked_by s.names) (method_of m) x y)) same_tree;
-          known = made_known;
+          is = ap method_of (sym same_tree);
+          known = subst (λ (m : Method). MethodNames (λ n. n < length s.names) (method_of m)) (sym same_tree) (method-fits s o k r.0 r.1 r.2).names_known;
         }
       where
         same_some : (m n : Method) → Some m ≡ Some n → m ≡ n

@@ -1,6 +1,6 @@
 -- The slots in which the user's methods of a class, a side and a selector get a tree.
 use Rattle.std.proofs.Common.{◌≡◌, ◌⊎◌, inl, inr, ℕ, ◌+◌, ◌<◌, Bool, true, false, List, [], ◌∷◌, ◌++◌, length, take, drop, map, Option, None, Some, option_map, slice_get, refl, sym, ap, subst, ◌∙◌}
-use Rattle.std.specs.Prelude.{nat_eq, not, ◌&&◌, if◌then◌else◌, unwrap_or}
+use Rattle.std.specs.Prelude.{nat_eq, not, ◌&&◌, if◌then◌else◌}
 use Rattle.std.specs.List.{list_any}
 use Rattle.std.specs.Option.{option_map_or, option_and_then}
 use Rattle.std.proofs.Math.Dec.{eqb}
@@ -31,11 +31,8 @@ use Rattle.class_questions.proofs.AnyLive.{live_at-live}
 use Rattle.image_laws.proofs.Orders.{stands-live}
 use Rattle.change_set.specs.declared.change.Change.{Change}
 use Rattle.change_set.specs.declared.change.Change.TheVariants as change
-use Rattle.command_model.specs.Commands.{RenameTemp}
+use Rattle.command_model.specs.Commands.{CommandOf}
 use Rattle.command_model.specs.Numbers.{number_writing}
-use Rattle.command_model.specs.Sequences.{with_tree}
-use Rattle.command_model.specs.Temporaries.{temporary_renamed}
-use Rattle.commands.specs.Views.{asked_by}
 use Rattle.commands.specs.declared.command.MethodName.{MethodName}
 use Rattle.mentions.specs.Mentions.{method_names}
 use Rattle.mentions.proofs.Lists.{Contains-first}
@@ -45,8 +42,8 @@ use Rattle.plans.specs.Plan.{IsPlan}
 use Rattle.method_plans.proofs.Leads.{Leads, leads-nowhere, leads-on, leads-plan}
 use Rattle.method_plans.proofs.Orders.{drop-at, take-at, parts-at, distinct-before, distinct-right, live-apart}
 use Rattle.method_plans.proofs.LiveMethods.{live-append, live-cons}
-use Rattle.temporary_plans.specs.Retold.{is_users, retold_at}
-use Rattle.temporary_plans.proofs.First.{IsTold, users-live}
+use Rattle.temporary_plans.specs.Retold.{is_users, retold_at, Retells}
+use Rattle.temporary_plans.proofs.First.{users-live}
 
 -- the text of a tree
 abbrev text : Slots → MethodOf ℕ → List ℕ
@@ -77,6 +74,7 @@ pub record Retelling (s : Slots) (method : MethodName) (tree : Method) (i : ℕ)
   pub leads : Leads s cs ps (record s { methods = methods })
   pub done : map (entry_of s.classes) (live methods (take i s.method_order)) ≡ map (after_of s method (method_of tree)) (map (entry_of s.classes) (live s.methods (take i s.method_order)))
   pub rest : (k : ℕ) → IsLive (drop i s.method_order) k → slice_get methods k ≡ slice_get s.methods k
+  pub others : (k : ℕ) → list_any (eqb k) s.method_order ≡ false → slice_get methods k ≡ slice_get s.methods k
 
 pub retelling-same : (s : Slots) (method : MethodName) (tree : Method) (i : ℕ) (cs ds : List Change) (ps qs : List Place) → ds ≡ cs → qs ≡ ps → Retelling s method tree i cs ps → Retelling s method tree i ds qs
 retelling-same s method tree i cs ds ps qs a b now = subst (λ (xs : List Change). Retelling s method tree i xs qs) (sym a) (subst (λ (xs : List Place). Retelling s method tree i cs xs) (sym b) now)
@@ -89,7 +87,7 @@ module _ (s : Slots) (o : IsOrderly s) (method : MethodName) (tree : Method) (kn
   after = after_of s method (method_of tree)
 
   pub retelling-start : (cs : List Change) (ps : List Place) → cs ≡ [] → ps ≡ [] → Retelling s method tree 0 cs ps
-  retelling-start cs ps a b = retelling-same s method tree 0 [] cs [] ps a b (record { methods = s.methods; leads = leads-nowhere s o; done = refl; rest = λ k l. refl })
+  retelling-start cs ps a b = retelling-same s method tree 0 [] cs [] ps a b (record { methods = s.methods; leads = leads-nowhere s o; done = refl; rest = λ k l. refl; others = λ k l. refl })
 
   module _ (i k : ℕ) (r : MethodRec) (at : slice_get s.method_order i ≡ Some k) (there : slice_get s.methods k ≡ Some r) where
     abbrev before : List ℕ
@@ -141,6 +139,7 @@ module _ (s : Slots) (o : IsOrderly s) (method : MethodName) (tree : Method) (kn
       leads = now.leads;
       done = one-more now.methods r now.done (now.rest k here-still ∙ there) is;
       rest = λ j l. now.rest j (behind-still j l);
+      others = now.others;
     }
 
     -- the method with the tree
@@ -180,6 +179,7 @@ module _ (s : Slots) (o : IsOrderly s) (method : MethodName) (tree : Method) (kn
               (live-same e e (set now.methods k rec) now.methods before (λ j l. ap (option_map e) (get-set_other now.methods k j rec (apart-before j l))) ∙ now.done)
               (get-set_same now.methods k rec less) is;
           rest = λ j l. get-set_other now.methods k j rec (apart-behind j l) ∙ now.rest j (behind-still j l);
+          others = λ j l. get-set_other now.methods k j rec (λ same. live-apart k j s.method_order l is_live (sym same)) ∙ now.others j l;
         }
 
     -- a slot that holds such a method
@@ -211,30 +211,18 @@ module _ (s : Slots) (o : IsOrderly s) (method : MethodName) (tree : Method) (kn
   retelling-miss i k cs ps at miss now = let r = rec-at i k at in miss-more i k r.0 at r.1 cs ps miss now
 
 -- all slots have been looked at
-module _ (s : Slots) (method : MethodName) (x y : ℕ) (tree : Method) (told : IsTold s method x y tree) where
-  abbrev c : ℕ
-  c = method.class
-
-  abbrev anew : MethodOf ℕ
-  anew = temporary_renamed (asked_by s.names) told.entry.tree x y
-
+module _ (s : Slots) (method : MethodName) (tree : Method) (command : CommandOf ℕ) (told : Retells s method tree command) where
   -- each method with the tree
   abbrev all_after : MethodOf ℕ → ImageOf ℕ
   all_after t = record (number_image s) { methods = map (after_of s method t) (number_image s).methods }
 
-  abbrev given : Option (EntryOf ℕ) → ImageOf ℕ
-  given q =
-      unwrap_or
-      (option_map (λ t. with_tree nat_eq (number_writing s.names) c method.meta method.selector t (number_image s)) (option_and_then (λ (m : EntryOf ℕ). Some (temporary_renamed (asked_by s.names) m.tree x y)) q))
-      (number_image s)
-
-  pub retelling-end : (i : ℕ) (cs : List Change) (ps : List Place) → i ≡ length s.method_order → Retelling s method tree i cs ps → IsPlan s (RenameTemp c method.meta method.selector x y) cs ps
+  pub retelling-end : (i : ℕ) (cs : List Change) (ps : List Place) → i ≡ length s.method_order → Retelling s method tree i cs ps → IsPlan s command cs ps
   retelling-end i cs ps end last =
       let now : Retelling s method tree (length s.method_order) cs ps = subst (λ (j : ℕ). Retelling s method tree j cs ps) end last in
       let all : map (entry_of s.classes) (live now.methods s.method_order) ≡ map (after_of s method (method_of tree)) (number_image s).methods =
       ap (λ (ks : List ℕ). map (entry_of s.classes) (live now.methods ks)) (sym (take-length s.method_order)) ∙ now.done
       ∙ ap (λ (ks : List ℕ). map (after_of s method (method_of tree)) (map (entry_of s.classes) (live s.methods ks))) (take-length s.method_order) in
-      leads-plan s (RenameTemp c method.meta method.selector x y) cs ps (record s { methods = now.methods }) now.leads refl (
+      leads-plan s command cs ps (record s { methods = now.methods }) now.leads refl (
       ap (λ (ms : List (EntryOf ℕ)). record (number_image s) { methods = ms }) all
-      ∙ ap all_after told.is
-      ∙ sym (ap given told.found))
+      ∙ ap all_after told.is_normal
+      ∙ sym told.effect)

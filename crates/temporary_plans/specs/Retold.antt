@@ -1,14 +1,20 @@
 -- The user's methods of a class, a side and a selector, and these with another tree.
-use Rattle.std.specs.Prelude.{ℕ, Bool, false, not, ◌&&◌, nat_eq, if◌then◌else◌, find, Option, None, Some}
+use Rattle.std.specs.Prelude.{◌≡◌, ℕ, Bool, false, not, ◌&&◌, nat_eq, if◌then◌else◌, find, Option, None, Some}
 use Rattle.std.specs.Option.{option_map_or, option_and_then}
+use Rattle.tree_model.specs.Tree.{MethodOf}
+use Rattle.tree_model.specs.Normal.{normal}
 use Rattle.same_trees.specs.SameTrees.{same_code}
 use Rattle.st_tree.specs.View.{method_of}
 use Rattle.st_tree.specs.declared.tree.Method.{Method}
 use Rattle.image_model.specs.Lookup.{is_method}
 use Rattle.class_table.specs.declared.record.MethodRec.{MethodRec}
 use Rattle.class_table.specs.Slots.{Slots}
-use Rattle.class_table.specs.View.{entry_of, live_at}
+use Rattle.class_table.specs.View.{entry_of, live_at, number_image}
+use Rattle.command_model.specs.Commands.{CommandOf}
+use Rattle.command_model.specs.Effects.{effect}
 use Rattle.command_model.specs.Numbers.{number_writing}
+use Rattle.command_model.specs.Sequences.{with_tree}
+use Rattle.commands.specs.Views.{asked_by}
 use Rattle.commands.specs.declared.command.MethodName.{MethodName}
 
 module _ (s : Slots) (method : MethodName) where
@@ -32,3 +38,10 @@ module _ (s : Slots) (tree : Method) where
   -- the method in a slot so, if the slot is live
   abbrev pub retold_at : ℕ → Option MethodRec
   retold_at k = option_and_then retold_rec (live_at s.methods s.method_order k)
+
+-- a command that gives the user's methods of a class, a side and a selector a tree, which the program has in normal form
+pub record Retells (s : Slots) (method : MethodName) (tree : Method) (command : CommandOf ℕ) : Type 0 where
+  pub anew : MethodOf ℕ
+  pub is_normal : method_of tree ≡ normal anew
+  pub effect : effect (asked_by s.names) (number_writing s.names) command (number_image s)
+      ≡ with_tree nat_eq (number_writing s.names) method.class method.meta method.selector anew (number_image s)

@@ -1,12 +1,15 @@
 // The changes by which an argument, a parameter or a temporary gets another name.
-ghost use Rattle.std.specs.Prelude.{◌≡◌, ◌<◌, length, None, IfOk};
+ghost use Rattle.std.specs.Prelude.{◌≡◌, ℕ, ◌<◌, [], length, None, IfOk};
+ghost use Rattle.tree_model.specs.AllNames.{MethodNames};
+ghost use Rattle.st_tree.specs.View.{method_of};
 ghost use Rattle.class_table.specs.Valid.{IsOrderly};
 ghost use Rattle.class_table.specs.View.{number_image};
-ghost use Rattle.command_model.specs.Commands.{RenameTemp};
+ghost use Rattle.command_model.specs.Commands.{CommandOf, RenameTemp};
 ghost use Rattle.command_model.specs.Judged.{first_false};
 ghost use Rattle.command_numbers.specs.CommandNames.{CommandNames};
 ghost use Rattle.commands.specs.Views.{asked_by};
 ghost use Rattle.plans.specs.Plan.{IsPlan};
+ghost use Rattle.temporary_plans.specs.Retold.{Retells};
 
 use crate::retold::{is_users, put_retold, users_slot};
 use change_set::Changes;
@@ -14,9 +17,43 @@ use class_table::Image;
 use commands::MethodName;
 use plans::Plan;
 use rb_base::{Memory, NameId, Steps};
+use st_tree::Method;
 use std::alloc::Global;
 use std::sync::ledger::Ledger;
 use temporary_code::renamed_temporary;
+
+/// No changes, which takes no memory.
+pub fn no_changes(alloc: Global) -> Plan
+    ensures changes { result.changes ≡ [] }
+    ensures touched { result.touched.items ≡ [] }
+{
+    Plan {
+        changes: Changes::new(alloc),
+        touched: Vec::new(alloc),
+    }
+}
+
+/// The changes by which the user's methods of a class, a side and a selector have another tree, whose comments are in normal
+/// form. Want of memory, if there is not enough of it for the changes.
+pub fn plan_retold<L: Ledger>(
+    alloc: Global,
+    image: &Image,
+    method: &MethodName,
+    tree: &Method,
+    steps: &mut Steps<L>,
+) -> Result<Plan, Memory>
+    requires orderly { IsOrderly image.now }
+    requires known { MethodNames (λ n. n < length image.now.names) (method_of tree.now) }
+    ensures { IfOk result (λ found. (command : CommandOf ℕ) → Retells image.now method.now tree.now command → IsPlan image.now command found.changes found.touched.items) }
+{
+    let mut plan = no_changes(alloc);
+    for slot in image.methods() {
+        if is_users(image, *slot, method) {
+            put_retold(alloc, image, *slot, tree, &mut plan, steps)?;
+        }
+    }
+    Ok(plan)
+}
 
 /// The change by which the argument, the parameter or the temporary of the method gets another name, where no condition of
 /// that is false.
@@ -33,22 +70,13 @@ pub fn plan_temporary<L: Ledger>(
     requires holds { first_false (asked_by image.now.names) (number_image image.now) (RenameTemp method.class method.meta method.selector variable to) ≡ None }
     ensures { IfOk result (λ found. IsPlan image.now (RenameTemp method.class method.meta method.selector variable to) found.changes found.touched.items) }
 {
-    let mut plan = Plan {
-        changes: Changes::new(alloc),
-        touched: Vec::new(alloc),
-    };
     // The user has the method, so it is found.
     let Some(first) = users_slot(image, &method) else {
-        return Ok(plan);
+        return Ok(no_changes(alloc));
     };
     let Some(old) = image.open_body(first, steps) else {
-        return Ok(plan);
+        return Ok(no_changes(alloc));
     };
     let tree = renamed_temporary(alloc, old, image.names(), variable, to)?;
-    for slot in image.methods() {
-        if is_users(image, *slot, &method) {
-            put_retold(alloc, image, *slot, &tree, &mut plan, steps)?;
-        }
-    }
-    Ok(plan)
+    plan_retold(alloc, image, &method, &tree, steps)
 }

@@ -83,7 +83,7 @@ fn retold<L: Ledger>(
 }
 
 /// Puts the change by which the method in a slot has another tree at the end, and its place, if it is another tree.
-pub(crate) fn put_retold<L: Ledger>(
+pub fn put_retold<L: Ledger>(
     alloc: Global,
     image: &Image,
     slot: MethodSlot,

@@ -2,9 +2,9 @@ use Rattle.std.proofs.Common.{ℕ, sym, ap, subst, ◌∙◌}
 use Rattle.std.proofs.lemmas.List.{take_all}
 use Rattle.reference_index.specs.Mentioned.{ListsPlaces}
 use Rattle.parameter_plans.specs.Given.{remaking_of}
-use Rattle.parameter_plans.specs.Remade.{changes_at, touched}
+use Rattle.remade_plans.specs.Remade.{changes_at, touched}
 use Rattle.parameter_plans.proofs.Planned.{is_plan}
-use Rattle.parameter_plans.proofs.SoFar.{next-some, next-none}
+use Rattle.remade_plans.proofs.SoFar.{next-some, next-none}
 use Rattle.parameter_plans.proofs.planning.plan_parameter.Goals as goal
 use Rattle.parameter_plans.proofs.planning.plan_parameter.Goals.{in-Some+in_ok-push+in_ok-push-2, in_default}
 

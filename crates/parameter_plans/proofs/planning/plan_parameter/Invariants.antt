@@ -1,6 +1,6 @@
 use Rattle.std.proofs.Common.{take}
 use Rattle.parameter_plans.specs.Given.{remaking_of}
-use Rattle.parameter_plans.proofs.SoFar.{SoFar}
+use Rattle.remade_plans.proofs.SoFar.{SoFar}
 use Rattle.parameter_plans.proofs.planning.plan_parameter.Given as goal
 
 abbrev pub invariant-loop-place : goal.invariant-loop-place

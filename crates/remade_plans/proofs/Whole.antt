@@ -22,9 +22,9 @@ use Rattle.mentions.specs.Mentions.{code_names, method_names}
 use Rattle.mentions.proofs.Lists.{Contains-first, Contains-later}
 use Rattle.reference_index.specs.Mentioned.{names_at, DiffersAtMost}
 use Rattle.plan_laws.proofs.Applied.{Contains-cases, IsOf, get_at, Keeps, all-keep, all-classes, all-other, all-there, all-can, all-given}
-use Rattle.parameter_plans.specs.Remade.{Remaking, image_after, method_rec_after, doit_rec_after, change_at, changes_at, touched}
-use Rattle.parameter_plans.proofs.RemadeCode.{entry_changes, doit_changes, given-method, given-doit, method-gives, doit-gives, no-doit_gives, live-there}
-use Rattle.parameter_plans.proofs.ImageAfter.{AreAfter, image-is, orderly-is}
+use Rattle.remade_plans.specs.Remade.{Remaking, image_after, method_rec_after, doit_rec_after, change_at, changes_at, touched}
+use Rattle.remade_plans.proofs.RemadeCode.{entry_changes, doit_changes, given-method, given-doit, method-gives, doit-gives, no-doit_gives, live-there}
+use Rattle.remade_plans.proofs.ImageAfter.{AreAfter, image-is, orderly-is}
 
 -- a fact of each item
 pub item-fact : {X Y : Type 0} (P : Y → Type 0) (g : X → Y) (xs : List X) (n : ℕ) (x : X) → AllByRecursion P (map g xs) → slice_get xs n ≡ Some x → P (g x)
@@ -44,7 +44,7 @@ module _ (s : Slots) (r : Remaking) (places : List Place) (o : IsOrderly s) (kno
   abbrev after : Slots
   after = all_applied s (changes_at s r places)
 
-  keeps : Keeps s after
+  pub keeps : Keeps s after
   keeps = all-keep f (length s.methods) (length s.doits) own places s
 
   -- a place that gives no change
@@ -83,7 +83,7 @@ module _ (s : Slots) (r : Remaking) (places : List Place) (o : IsOrderly s) (kno
   are : AreAfter s r after.methods after.doits
   are = record { method_slots = keeps.methods; methods = method-point; doits = doit-point }
 
-  is-end : after ≡ end
+  pub is-end : after ≡ end
   is-end = λ j. record {
     names = keeps.names j;
     classes = all-classes f (length s.methods) (length s.doits) own places s j;

@@ -3,7 +3,7 @@ use Rattle.std.proofs.Common.{◌≡◌, ℕ, Bool, true, false, Option, None, S
 use Rattle.std.specs.Prelude.{if◌then◌else◌, nat_eq}
 use Rattle.std.specs.List.{list_any}
 use Rattle.std.specs.Option.{option_and_then}
-use Rattle.st_tree.specs.View.{method_of, sequence_of}
+use Rattle.st_tree.specs.View.{sequence_of}
 use Rattle.st_tree.proofs.Back.{sequence_of-sequence_from, method_of-method_from}
 use Rattle.class_table.specs.declared.record.MethodRec.{MethodRec}
 use Rattle.class_table.specs.declared.record.DoIt.{DoIt}
@@ -13,7 +13,7 @@ use Rattle.class_table.specs.Valid.{IsLive}
 use Rattle.class_table.specs.View.{live_at, entry_of, doit_of}
 use Rattle.change_set.specs.declared.change.Change.{Change}
 use Rattle.change_set.specs.declared.change.Change.TheVariants as change
-use Rattle.parameter_plans.specs.Remade.{Remaking, entry_after, doit_after, method_rec_after, doit_rec_after, change_at}
+use Rattle.remade_plans.specs.Remade.{Remaking, entry_after, doit_after, method_rec_after, doit_rec_after, change_at}
 
 module _ (s : Slots) (r : Remaking) where
   -- which records are made anew
@@ -26,9 +26,9 @@ module _ (s : Slots) (r : Remaking) where
   -- the record after stands for the method after, and the other record for the do-it after
   pub entry-is : (m : MethodRec) (b : Bool) → entry_changes m ≡ b → entry_of s.classes (if b then method_rec_after s r m else m) ≡ entry_after s r (entry_of s.classes m)
   entry-is m true q =
-      (λ j. record (entry_of s.classes (method_rec_after s r m)) { tree = method_of-method_from (r.method_after (method_of m.tree)) j })
-      ∙ sym (ap (λ (c : Bool). if c then record (entry_of s.classes (method_rec_after s r m)) { tree = r.method_after (method_of m.tree) } else entry_of s.classes m) q)
-  entry-is m false q = sym (ap (λ (c : Bool). if c then record (entry_of s.classes (method_rec_after s r m)) { tree = r.method_after (method_of m.tree) } else entry_of s.classes m) q)
+      (λ j. record (entry_of s.classes (method_rec_after s r m)) { tree = method_of-method_from (r.method_after (entry_of s.classes m)) j })
+      ∙ sym (ap (λ (c : Bool). if c then record (entry_of s.classes (method_rec_after s r m)) { tree = r.method_after (entry_of s.classes m) } else entry_of s.classes m) q)
+  entry-is m false q = sym (ap (λ (c : Bool). if c then record (entry_of s.classes (method_rec_after s r m)) { tree = r.method_after (entry_of s.classes m) } else entry_of s.classes m) q)
 
   pub doit-is : (d : DoIt) (b : Bool) → doit_changes d ≡ b → doit_of (if b then doit_rec_after s r d else d) ≡ doit_after s r (doit_of d)
   doit-is d true q =

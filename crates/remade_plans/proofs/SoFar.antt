@@ -7,7 +7,7 @@ use Rattle.std.proofs.lemmas.List.Elements.{filter_map-append, filter-append}
 use Rattle.class_table.specs.declared.record.Place.{Place}
 use Rattle.class_table.specs.Slots.{Slots}
 use Rattle.change_set.specs.declared.change.Change.{Change}
-use Rattle.parameter_plans.specs.Remade.{Remaking, change_at, changes_at, touched}
+use Rattle.remade_plans.specs.Remade.{Remaking, change_at, changes_at, touched}
 
 -- these are the changes of the places, and the places that have one
 pub record SoFar (s : Slots) (r : Remaking) (places : List Place) (changes : List Change) (now : List Place) : Type 0 where

@@ -3,7 +3,7 @@ use Rattle.std.specs.Prelude.{ℕ, Bool, Option, Some, None, slice_get, is_some,
 use Rattle.std.specs.List.{filter_map}
 use Rattle.std.specs.Option.{option_and_then}
 use Rattle.tree_model.specs.Tree.{SequenceOf, MethodOf}
-use Rattle.st_tree.specs.View.{method_of, method_from, sequence_of, sequence_from}
+use Rattle.st_tree.specs.View.{method_from, sequence_of, sequence_from}
 use Rattle.image_model.specs.Image.{EntryOf, DoItOf, ImageOf}
 use Rattle.class_table.specs.declared.record.MethodRec.{MethodRec}
 use Rattle.class_table.specs.declared.record.DoIt.{DoIt}
@@ -15,10 +15,10 @@ use Rattle.change_set.specs.declared.change.Change.{Change}
 use Rattle.change_set.specs.declared.change.Change.TheVariants as change
 use Rattle.command_model.specs.Numbers.{number_writing}
 
--- which methods and do-its are made anew, and what their code is then
+-- which methods and do-its are made anew, and what the tree of a method and the body of a do-it are then
 pub record Remaking : Type 0 where
   pub is_method_remade : EntryOf ℕ → Bool
-  pub method_after : MethodOf ℕ → MethodOf ℕ
+  pub method_after : EntryOf ℕ → MethodOf ℕ
   pub is_doit_remade : DoItOf ℕ → Bool
   pub body_after : SequenceOf ℕ → SequenceOf ℕ
 
@@ -27,7 +27,7 @@ module _ (s : Slots) (r : Remaking) where
   abbrev pub entry_after : EntryOf ℕ → EntryOf ℕ
   entry_after m =
       if r.is_method_remade m
-      then record m { tree = r.method_after m.tree; source = (number_writing s.names).method_text (r.method_after m.tree) }
+      then record m { tree = r.method_after m; source = (number_writing s.names).method_text (r.method_after m) }
       else m
 
   abbrev pub doit_after : DoItOf ℕ → DoItOf ℕ
@@ -46,7 +46,7 @@ module _ (s : Slots) (r : Remaking) where
   -- the record of a method that is made anew, and that of a do-it
   abbrev pub method_rec_after : MethodRec → MethodRec
   method_rec_after m =
-      let tree = r.method_after (method_of m.tree) in
+      let tree = r.method_after (entry_of s.classes m) in
       record m { tree = method_from tree; source = (number_writing s.names).method_text tree }
 
   abbrev pub doit_rec_after : DoIt → DoIt

@@ -10,8 +10,8 @@ use Rattle.class_table.specs.Slots.{Slots}
 use Rattle.class_table.specs.Valid.{IsLive, IsOrderly}
 use Rattle.class_table.specs.View.{live, entry_of, doit_of, number_image}
 use Rattle.class_table.proofs.Live.{there, live-same}
-use Rattle.parameter_plans.specs.Remade.{Remaking, entry_after, doit_after, image_after, method_rec_after, doit_rec_after}
-use Rattle.parameter_plans.proofs.RemadeCode.{entry_changes, doit_changes, entry-is, doit-is}
+use Rattle.remade_plans.specs.Remade.{Remaking, entry_after, doit_after, image_after, method_rec_after, doit_rec_after}
+use Rattle.remade_plans.proofs.RemadeCode.{entry_changes, doit_changes, entry-is, doit-is}
 
 -- lists that read the same at each place
 same-lists : {X Y Z : Type 0} (g : X → Z) (h : Y → Z) (xs : List X) (ys : List Y) → ((k : ℕ) → option_map g (slice_get xs k) ≡ option_map h (slice_get ys k)) → map g xs ≡ map h ys

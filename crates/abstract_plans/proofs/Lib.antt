@@ -1,0 +1,7 @@
+mod Known
+mod Made
+mod Spoken
+mod Roomy
+mod Fits
+mod Planned
+mod Whole

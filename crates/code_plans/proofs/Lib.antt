@@ -1,0 +1,4 @@
+pub mod Users
+pub mod Given
+pub mod Extracted
+pub mod Inlined

@@ -1,0 +1,4 @@
+pub mod Places
+pub mod KnownParts
+pub mod Extractions
+pub mod Planned

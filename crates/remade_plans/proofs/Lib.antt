@@ -1,0 +1,5 @@
+pub mod RemadeCode
+pub mod ImageAfter
+pub mod Whole
+pub mod SoFar
+pub mod MadeAnew
