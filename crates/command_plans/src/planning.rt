@@ -6,10 +6,11 @@ ghost use Rattle.wider_slots.specs.Closed.{IsClosed};
 ghost use Rattle.wider_slots.specs.Wider.{Wider};
 ghost use Rattle.command_model.specs.Judged.{first_false};
 ghost use Rattle.command_numbers.specs.CommandNames.{CommandNames};
-ghost use Rattle.commands.specs.Views.{asked_by, command_of};
+ghost use Rattle.commands.specs.Views.{asked_by, command_of, HasSelf};
 ghost use Rattle.reference_index.specs.Mentioned.{IsIndexOf};
 ghost use Rattle.plans.specs.Plan.{IsPlan};
 
+use crate::code::plan_code;
 use class_plans::{plan_class_removal, plan_new_class};
 use class_table::Image;
 use commands::Command;
@@ -36,6 +37,7 @@ pub fn plan<L: Ledger>(
     requires closed { IsClosed image.old }
     requires orderly { IsOrderly image.old }
     requires index { IsIndexOf image.old index.now }
+    requires self_known { HasSelf image.old.names }
     requires known { CommandNames (λ n. n < length image.old.names) (command_of command.now) }
     requires holds { first_false (asked_by image.old.names) (number_image image.old) (command_of command.now) ≡ None }
     ensures wider { Wider image.old image.new }
@@ -72,5 +74,6 @@ pub fn plan<L: Ledger>(
             variable,
             to,
         } => plan_temporary(alloc, image, *method, *variable, *to, steps),
+        Command::MoveCode(change) => plan_code(alloc, image, index, change, steps),
     }
 }

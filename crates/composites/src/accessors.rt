@@ -2,7 +2,6 @@
 ghost use Rattle.std.specs.Prelude.{◌≡◌, ◌<◌, nat_eq, length, map, IfOk};
 ghost use Rattle.tree_model.specs.AllNames.{MethodNames};
 ghost use Rattle.st_tree.specs.View.{method_of};
-ghost use Rattle.command_model.specs.Accessors as model;
 ghost use Rattle.command_model.specs.Numbers.{number_writing};
 ghost use Rattle.session_model.specs.Actions.{CreateAccessors};
 ghost use Rattle.session_model.specs.Steps.{accessor, steps_of};
@@ -10,60 +9,16 @@ ghost use Rattle.commands.specs.Actions.{ActionNames};
 ghost use Rattle.commands.specs.Views.{command_of};
 ghost use Rattle.class_table.specs.View.{number_image};
 
+use abstracted_code::{getter, setter};
 use class_table::Image;
 use commands::{Command, NewMethod};
-use rb_base::{Ids, Memory, NameId, Text};
+use rb_base::{Memory, NameId, Text};
 use st_formatter::format_method;
-use st_tree::{Comments, Method, Node, NodeKind, Sequence, Statement, Statements};
+use st_tree::Method;
 use std::alloc::Global;
 
 /// The protocol of getters and setters.
 const PROTOCOL: &[u8] = b"accessing";
-
-/// A method that answers an expression.
-fn answering(alloc: Global, selector: NameId, arguments: Ids, value: Node) -> Result<Method, Memory>
-    ensures { IfOk result (λ tree. method_of tree ≡ model.answering selector arguments value) }
-{
-    let kind = NodeKind::Return {
-        value: Box::new(alloc, value)?,
-    };
-    let mut statements = Statements::new(alloc);
-    statements.push(Statement {
-        comments: Comments::new(alloc),
-        node: Node { kind },
-    })?;
-    let body = Sequence {
-        temporaries: Ids::new(alloc),
-        statements,
-        tail: Comments::new(alloc),
-    };
-    Ok(Method {
-        selector,
-        arguments,
-        head: Comments::new(alloc),
-        primitive: None,
-        body,
-    })
-}
-
-/// The setter of a variable, of this selector and this name of its parameter.
-fn setter(
-    alloc: Global,
-    variable: NameId,
-    selector: NameId,
-    parameter: NameId,
-) -> Result<Method, Memory>
-    ensures { IfOk result (λ tree. method_of tree ≡ model.setter_of variable selector parameter) }
-{
-    let mut arguments = Ids::new(alloc);
-    arguments.push(parameter)?;
-    let given = NodeKind::Var { name: parameter };
-    let kind = NodeKind::Assign {
-        name: variable,
-        value: Box::new(alloc, Node { kind: given })?,
-    };
-    answering(alloc, selector, arguments, Node { kind })
-}
 
 /// The command by which the class gets an instance method that gives access to a variable, in canonical text.
 fn added(alloc: Global, image: &Image, class: NameId, tree: Method) -> Result<Command, Memory>
@@ -95,8 +50,7 @@ pub(crate) fn accessors(
     ensures { IfOk result (λ found. map command_of found.items
         ≡ steps_of nat_eq (number_image image.now) (number_writing image.now.names) (CreateAccessors class variable selector parameter)) }
 {
-    let read = NodeKind::Var { name: variable };
-    let reads = answering(alloc, variable, Ids::new(alloc), Node { kind: read })?;
+    let reads = getter(alloc, variable)?;
     let writes = setter(alloc, variable, selector, parameter)?;
     let mut commands = Vec::new(alloc);
     commands.push(added(alloc, image, class, reads)?)?;

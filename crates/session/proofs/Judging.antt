@@ -7,8 +7,9 @@ use Rattle.image_model.specs.ImageNames.{ImageNames}
 use Rattle.class_table.specs.Slots.{Slots}
 use Rattle.class_table.specs.Valid.{IsOrderly}
 use Rattle.class_table.specs.View.{number_image, image_of}
-use Rattle.command_model.specs.Asked.{text_asked, no_parts}
-use Rattle.command_model.specs.Commands.{CommandOf, MovesNoCode}
+use Rattle.command_model.specs.Asked.{asked_of_texts, text_asked}
+use Rattle.command_model.specs.PartsOfText.{parts_of_text}
+use Rattle.command_model.specs.Commands.{CommandOf}
 use Rattle.command_model.specs.Conditions.{ConditionOf}
 use Rattle.command_model.specs.Effects.{effect}
 use Rattle.command_model.specs.Judged.{first_false, judged}
@@ -18,23 +19,27 @@ use Rattle.rename_model.specs.ClassRenamed.{canonical}
 use Rattle.command_numbers.specs.CommandNames.{CommandNames}
 use Rattle.command_numbers.specs.MappedCommands.{map_command, map_condition}
 use Rattle.commands.specs.declared.command.Command.{Command}
-use Rattle.commands.specs.Views.{command_of, asked_by}
-use Rattle.conditions.proofs.Shape.{keeps-shape}
+use Rattle.commands.specs.Views.{command_of, self_in, HasSelf, asked_by}
+use Rattle.code_command_numbers.specs.SelfNumber.{IsNumberOfSelf}
 use Rattle.wider_slots.proofs.Images.{numbers-still}
 use Rattle.session.specs.Stepping.{IsRoom}
 
 -- what is known of verdicts over the numbers of names
 abbrev pub Accepts : Type 0
 Accepts =
-    (names : List (List ℕ)) (self_number : ℕ) (part_of : Locating) (i j : ImageOf ℕ) (command : CommandOf ℕ) → HasNoTwice names → ImageNames (λ n. n < length names) i → CommandNames (λ n. n < length names) command → MovesNoCode command
-    → judged (number_asked names self_number part_of) (number_writing names) i command ≡ Ok j → judged text_asked canonical (map_image (name_at names) i) (map_command (name_at names) command) ≡ Ok (map_image (name_at names) j)
+    (names : List (List ℕ)) (self_number : ℕ) (part_of : Locating) (i j : ImageOf ℕ) (command : CommandOf ℕ) → HasNoTwice names → IsNumberOfSelf names self_number → ImageNames (λ n. n < length names) i → CommandNames (λ n. n < length names) command
+    → judged (number_asked names self_number part_of) (number_writing names) i command ≡ Ok j → judged (asked_of_texts part_of) canonical (map_image (name_at names) i) (map_command (name_at names) command) ≡ Ok (map_image (name_at names) j)
 
 abbrev pub Refuses : Type 0
 Refuses =
-    (names : List (List ℕ)) (self_number : ℕ) (part_of : Locating) (i : ImageOf ℕ) (command : CommandOf ℕ) (condition : ConditionOf ℕ) → HasNoTwice names → ImageNames (λ n. n < length names) i → CommandNames (λ n. n < length names) command → MovesNoCode command
-    → judged (number_asked names self_number part_of) (number_writing names) i command ≡ Err condition → judged text_asked canonical (map_image (name_at names) i) (map_command (name_at names) command) ≡ Err (map_condition (name_at names) condition)
+    (names : List (List ℕ)) (self_number : ℕ) (part_of : Locating) (i : ImageOf ℕ) (command : CommandOf ℕ) (condition : ConditionOf ℕ) → HasNoTwice names → IsNumberOfSelf names self_number → ImageNames (λ n. n < length names) i → CommandNames (λ n. n < length names) command
+    → judged (number_asked names self_number part_of) (number_writing names) i command ≡ Err condition → judged (asked_of_texts part_of) canonical (map_image (name_at names) i) (map_command (name_at names) command) ≡ Err (map_condition (name_at names) condition)
 
-module _ (s : Slots) (c : Command) (orderly : IsOrderly s) (known : CommandNames (λ n. n < length s.names) (command_of c)) where
+-- the number of `self` in a table that has it
+number-of-self : (names : List (List ℕ)) → HasSelf names → IsNumberOfSelf names (self_in names)
+number-of-self names has = record { known = has.0; spelled = has.1 }
+
+module _ (s : Slots) (c : Command) (orderly : IsOrderly s) (has : HasSelf s.names) (known : CommandNames (λ n. n < length s.names) (command_of c)) where
   -- what becomes of it over numbers, by the first condition that is false
   by_numbers : (o : Option (ConditionOf ℕ)) → first_false (asked_by s.names) (number_image s) (command_of c) ≡ o
       → judged (asked_by s.names) (number_writing s.names) (number_image s) (command_of c)
@@ -44,7 +49,7 @@ module _ (s : Slots) (c : Command) (orderly : IsOrderly s) (known : CommandNames
   -- it is refused for the condition
   pub refused-texts : Refuses → (q : ConditionOf ℕ) → first_false (asked_by s.names) (number_image s) (command_of c) ≡ Some q
       → judged text_asked canonical (image_of s) (map_command (name_at s.names) (command_of c)) ≡ Err (map_condition (name_at s.names) q)
-  refused-texts law q e = law s.names 0 no_parts (number_image s) (command_of c) q orderly.names_distinct orderly.names_known known (keeps-shape c) (by_numbers (Some q) e)
+  refused-texts law q e = law s.names (self_in s.names) parts_of_text (number_image s) (command_of c) q orderly.names_distinct (number-of-self s.names has) orderly.names_known known (by_numbers (Some q) e)
 
   -- or makes what its changes make of slots with room for them
   pub accepted-texts : Accepts → (p t : Slots) → IsRoom s p → first_false (asked_by s.names) (number_image s) (command_of c) ≡ None
@@ -54,5 +59,5 @@ module _ (s : Slots) (c : Command) (orderly : IsOrderly s) (known : CommandNames
       let numbers : number_image p ≡ number_image s = ap number_image room.wider.state ∙ numbers-still s room.wider.closed room.wider.more in
       let there : number_image t ≡ effect (asked_by s.names) (number_writing s.names) (command_of c) (number_image s) =
       made ∙ (λ i. effect (asked_by (room.names i)) (number_writing (room.names i)) (command_of c) (numbers i)) in
-      law s.names 0 no_parts (number_image s) (number_image t) (command_of c) orderly.names_distinct orderly.names_known known (keeps-shape c) (by_numbers None e ∙ ap (λ (j : ImageOf ℕ). Ok j) (sym there))
+      law s.names (self_in s.names) parts_of_text (number_image s) (number_image t) (command_of c) orderly.names_distinct (number-of-self s.names has) orderly.names_known known (by_numbers None e ∙ ap (λ (j : ImageOf ℕ). Ok j) (sym there))
       ∙ ap (λ (ns : List (List ℕ)). Ok (map_image (name_at ns) (number_image t))) (sym (names ∙ room.names))

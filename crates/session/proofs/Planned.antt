@@ -12,7 +12,7 @@ use Rattle.command_model.specs.Judged.{first_false}
 use Rattle.command_model.specs.Renamings.{renaming_of}
 use Rattle.command_numbers.specs.CommandNames.{CommandNames}
 use Rattle.command_numbers.specs.MappedCommands.{map_command}
-use Rattle.commands.specs.Views.{command_of, asked_by}
+use Rattle.commands.specs.Views.{command_of, HasSelf, asked_by}
 use Rattle.commands.specs.declared.command.Command.{Command}
 use Rattle.plans.specs.Plan.{IsPlan}
 use Rattle.reference_index.specs.Mentioned.{Mentioned}
@@ -22,15 +22,15 @@ use Rattle.session.specs.Stepping.{IsRoom, IsUnderWay, IsCarriedOut}
 use Rattle.session.proofs.Judging.{Accepts, accepted-texts}
 use Rattle.session.proofs.UnderWay.{Follows, carried-one}
 
-pub carried-planned : Accepts → (first s p t : Slots) (x y : Mentioned) (d e : Done) (c : Command) (k : DoneCommand) (places : List Place) → IsUnderWay first s x d → CommandNames (λ n. n < length s.names) (command_of c) → IsRoom s p
+pub carried-planned : Accepts → (first s p t : Slots) (x y : Mentioned) (d e : Done) (c : Command) (k : DoneCommand) (places : List Place) → IsUnderWay first s x d → HasSelf s.names → CommandNames (λ n. n < length s.names) (command_of c) → IsRoom s p
     → first_false (asked_by s.names) (number_image s) (command_of c) ≡ None → IsPlan p (command_of c) k.changes places → renamed_by s k ≡ renaming_of (image_of s) (map_command (name_at s.names) (command_of c))
     → t ≡ all_applied p k.changes → e ≡ with_command d (record { changes = inverses p k.changes; renames = k.renames }) places → Follows t x y places
     → IsCarriedOut s x d (map_command (name_at s.names) (command_of c) ∷ []) t y e (Ok tt)
-carried-planned law first s p t x y d e c k places is known room none plan renamed made left follows =
+carried-planned law first s p t x y d e c k places is has known room none plan renamed made left follows =
     let command : CommandOf Name = map_command (name_at s.names) (command_of c) in
     let u : Slots = all_applied p k.changes in
     let can : CanDoAgain p k.changes = record { can = plan.can; fit = plan.fit; orderly = plan.orderly } in
     let there : Follows u x y places = subst (λ (z : Slots). Follows z x y places) made follows in
     subst (λ (z : Done). IsCarriedOut s x d (command ∷ []) t y z (Ok tt)) (sym left) (
     subst (λ (z : Slots). IsCarriedOut s x d (command ∷ []) z y (with_command d (record { changes = inverses p k.changes; renames = k.renames }) places) (Ok tt)) (sym made) (
-    carried-one s x d command p y k places room can is.back plan.touched there (accepted-texts s c is.orderly known law p u room none plan.effect plan.names) renamed))
+    carried-one s x d command p y k places room can is.back plan.touched there (accepted-texts s c is.orderly has known law p u room none plan.effect plan.names) renamed))

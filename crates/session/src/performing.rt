@@ -7,7 +7,7 @@ ghost use Rattle.class_table.specs.Slots.{Slots};
 ghost use Rattle.change_set.specs.Changes.{all_applied, inverses, CanApplyAll};
 ghost use Rattle.command_numbers.specs.CommandNames.{CommandNames};
 ghost use Rattle.command_numbers.specs.MappedCommands.{map_command};
-ghost use Rattle.commands.specs.Views.{command_of};
+ghost use Rattle.commands.specs.Views.{command_of, HasSelf};
 ghost use Rattle.reference_index.specs.Mentioned.{IsIndexOf, DiffersAtMost};
 ghost use Rattle.session.specs.Log.{with_command};
 ghost use Rattle.session.specs.Stepping.{IsUnderWay, IsCarriedOut};
@@ -16,7 +16,7 @@ use crate::done::{Done, DoneCommand, do_one};
 use crate::refusal::StepRefusal;
 use crate::renames::{Renames, renames_of};
 use class_table::{Image, Place};
-use command_numbers::verdicts_by_numbers;
+use code_command_numbers::all_verdicts_by_numbers;
 use command_plans::plan;
 use commands::Command;
 use conditions::first_false;
@@ -85,10 +85,11 @@ fn judge_and_carry_out<L: Ledger>(
     steps: &mut Steps<L>,
 ) -> Result<(), StepRefusal>
     requires under_way { (first : Slots) × IsUnderWay first image.old index.old done.old }
+    requires self_known { HasSelf image.old.names }
     requires known { CommandNames (λ n. n < length image.old.names) (command_of command.now) }
     ensures { IsCarriedOut image.old index.old done.old (map_command (name_at image.old.names) (command_of command.now) ∷ []) image.new index.new done.new result }
 {
-    verdicts_by_numbers();
+    all_verdicts_by_numbers();
     if let Some(condition) = first_false(alloc, image, index, command, steps)? {
         return Err(StepRefusal::Condition(condition));
     }
@@ -125,6 +126,7 @@ fn perform_one<L: Ledger>(
     steps: &mut Steps<L>,
 ) -> Result<(), StepRefusal>
     requires under_way { (first : Slots) × IsUnderWay first image.old index.old done.old }
+    requires self_known { HasSelf image.old.names }
     requires known { CommandNames (λ n. n < length image.old.names) (command_of command.now) }
     ensures { IsCarriedOut image.old index.old done.old (map_command (name_at image.old.names) (command_of command.now) ∷ []) image.new index.new done.new result }
 {
@@ -142,6 +144,7 @@ pub(crate) fn perform_each<L: Ledger>(
     steps: &mut Steps<L>,
 ) -> Result<(), StepRefusal>
     requires under_way { (first : Slots) × IsUnderWay first image.old index.old done.old }
+    requires self_known { HasSelf image.old.names }
     requires known { AllByRecursion (λ c. CommandNames (λ n. n < length image.old.names) (command_of c)) commands.now }
     ensures { IsCarriedOut image.old index.old done.old (map (λ c. map_command (name_at image.old.names) (command_of c)) commands.now) image.new index.new done.new result }
 {

@@ -14,7 +14,7 @@ ghost use Rattle.command_numbers.specs.CommandNames.{CommandNames};
 ghost use Rattle.command_numbers.specs.MappedCommands.{map_command, map_condition};
 ghost use Rattle.session_model.specs.Scripts.{rules};
 ghost use Rattle.commands.specs.Actions.{map_action, ActionNames};
-ghost use Rattle.commands.specs.Views.{action_of, command_of, condition_of, request_in, IsKnownRequest};
+ghost use Rattle.commands.specs.Views.{action_of, command_of, condition_of, request_in, HasSelf, IsKnownRequest};
 ghost use Rattle.commands.specs.declared.condition.Condition.{Condition};
 ghost use Rattle.session.specs.Log.{IsLogOf};
 ghost use Rattle.session.specs.History.{renames_done, images_judged, renamed_along, history_of};
@@ -197,6 +197,7 @@ impl Session {
     ) -> Result<(), StepRefusal>
         requires log { IsLogOf image.old self.old }
         requires renewed { self.old.stale ≡ [] }
+        requires self_known { HasSelf image.old.names }
         requires known { AllByRecursion (λ c. CommandNames (λ n. n < length image.old.names) (command_of c)) commands.now }
         ensures { IsStepped image.old self.old (after_commands (history_of image.old self.old) (map (λ c. map_command (name_at image.old.names) (command_of c)) commands.now)) image.new self.new result }
     {
@@ -233,6 +234,7 @@ impl Session {
     ) -> Result<(), StepRefusal>
         requires log { IsLogOf image.old self.old }
         requires renewed { self.old.stale ≡ [] }
+        requires self_known { HasSelf image.old.names }
         requires known { ActionNames (λ n. n < length image.old.names) (action_of action) }
         ensures { IsStepped image.old self.old (stepped rules (history_of image.old self.old) (Perform (map_action (name_at image.old.names) (action_of action)))) image.new self.new result }
     {
@@ -252,6 +254,7 @@ impl Session {
         steps: &mut Steps<L>,
     ) -> Result<(), StepRefusal>
         requires log { IsLogOf image.old self.old }
+        requires self_known { HasSelf image.old.names }
         requires known { IsKnownRequest image.old.names request }
         ensures log { IsLogOf image.new self.new }
         ensures names { image.new.names ≡ image.old.names }

@@ -15,7 +15,7 @@ returns-in-Some g c =
     let s = c.args.image.now in
     let command = c.args.command.now in
     carried-false s c.args.index.now c.args.done.now (map_command (name_at s.names) (command_of command)) c.in-Some.condition
-    (refused-texts s command c.requires.under_way.1.orderly c.requires.known c.verdicts_by_numbers.ensures.refused (condition_of c.in-Some.condition)
+    (refused-texts s command c.requires.under_way.1.orderly c.requires.self_known c.requires.known c.all_verdicts_by_numbers.ensures.refused (condition_of c.in-Some.condition)
     (sym (ap (option_map condition_of) (sym c.in-Some.is) ∙ c.in_ok-condition.ensures.first)))
 
 pub returns-in_err-planned : goal.returns-in_err-planned
@@ -42,6 +42,6 @@ returns g c =
     let made = c.in_ok-carry_out.ensures in
     let k : DoneCommand = record { changes = c.in_ok-planned.planned.changes; renames = c.renames_of-renames.result } in
     let room : IsRoom s c.plan.new.image = record { wider = c.in_ok-planned.ensures.wider; names = c.in_ok-planned.ensures.names } in
-    carried-planned c.verdicts_by_numbers.ensures.accepted c.requires.under_way.0 s c.plan.new.image c.carry_out.new.image c.args.index.now c.carry_out.new.index c.args.done.now c.carry_out.new.done c.args.command.now k
-    c.in_ok-planned.planned.touched.items c.requires.under_way.1 c.requires.known room (sym c.in_ok-condition.ensures.first ∙ ap (option_map condition_of) c.in_default.is) c.in_ok-planned.ensures.plan c.renames_of-renames.ensures
+    carried-planned c.all_verdicts_by_numbers.ensures.accepted c.requires.under_way.0 s c.plan.new.image c.carry_out.new.image c.args.index.now c.carry_out.new.index c.args.done.now c.carry_out.new.done c.args.command.now k
+    c.in_ok-planned.planned.touched.items c.requires.under_way.1 c.requires.self_known c.requires.known room (sym c.in_ok-condition.ensures.first ∙ ap (option_map condition_of) c.in_default.is) c.in_ok-planned.ensures.plan c.renames_of-renames.ensures
     made.image made.done made.index

@@ -1,11 +1,15 @@
-use Rattle.std.proofs.Common.{◌<◌, ◌∷◌, [], length, Ok, Err, arith}
+use Rattle.std.proofs.Common.{◌<◌, ◌∷◌, [], length, Ok, Err, sym, subst, arith}
 use Rattle.std.proofs.lemmas.Result.{err_from_is_err_and}
+use Rattle.commands.specs.Views.{HasSelf}
 use Rattle.session.specs.Stepping.{IsCarriedOut}
 use Rattle.session.proofs.Each.{text_in, known-next, each-next, each-refused}
 use Rattle.session.proofs.performing.perform_each.Goals as goal
 
 pub perform_one-requires-clause-under_way : goal.perform_one-requires-clause-under_way
 perform_one-requires-clause-under_way g c = (c.requires.under_way.0, c.loop-command.invariant.done.under_way c.requires.under_way.0 c.requires.under_way.1)
+
+pub perform_one-requires-clause-self_known : goal.perform_one-requires-clause-self_known
+perform_one-requires-clause-self_known g c = subst HasSelf (sym c.loop-command.invariant.done.names) c.requires.self_known
 
 pub returns-in_err-perform_one : goal.returns-in_err-perform_one
 returns-in_err-perform_one g c =
