@@ -4,6 +4,7 @@ ghost use Rattle.class_table.specs.View.{image_of};
 ghost use Rattle.class_table.specs.Valid.{IsOrderly};
 ghost use Rattle.live_slots.specs.Live.{AllLive};
 ghost use Rattle.wider_slots.specs.Closed.{IsClosed};
+ghost use Rattle.commands.specs.Views.{HasSelf};
 ghost use Rattle.script_model.specs.Scripts.{Says};
 ghost use Rattle.script_lang.specs.Shown.{requests_in, AreKnown};
 ghost use Rattle.apply_model.specs.Applied.{AppliesIn};
@@ -33,6 +34,7 @@ fn perform_counted<L: Ledger>(
 ) -> Result<Status, Memory>
     requires orderly { IsOrderly image.old }
     requires closed { IsClosed image.old }
+    requires self_known { HasSelf image.old.names }
     requires known { AreKnown image.old.names requests.items }
     requires empty { out.old ≡ [] }
     requires name { blank.name ≡ L.name }

@@ -12,7 +12,7 @@ ghost use Rattle.session_model.specs.Scripts.{rules};
 ghost use Rattle.script_model.specs.Commands.{Cause};
 ghost use Rattle.script_model.specs.Scripts.{Says, IsRefused};
 ghost use Rattle.script_lang.specs.Shown.{requests_in, AreKnown, fault_shown};
-ghost use Rattle.commands.specs.Views.{condition_of};
+ghost use Rattle.commands.specs.Views.{condition_of, HasSelf};
 ghost use Rattle.commands.specs.declared.condition.Condition.{Condition};
 ghost use Rattle.session.specs.Log.{IsLogOf};
 ghost use Rattle.session.specs.History.{history_of};
@@ -21,7 +21,7 @@ ghost use Rattle.applied_scripts.specs.declared.requests.Stop.TheVariants as sto
 
 use class_table::Image;
 use commands::{Condition, Request};
-use rb_base::Steps;
+use rb_base::{Memory, Names, Steps};
 use script_lang::{ScriptFault, parse_script};
 use session::{Session, StepRefusal};
 use std::alloc::Global;
@@ -35,7 +35,33 @@ pub(crate) enum Stop {
     Memory,
 }
 
-/// Reads the requests of a script with the names of an image, to which those that are new are added.
+/// Adds `self` to the names, where it is new. The error is want of memory.
+fn intern_self(names: &mut Names) -> Result<(), Memory>
+    ensures self_known { OnOk result (HasSelf names.new) }
+    ensures grows { Grows names.old names.new }
+{
+    let _self_name = names.intern(b"self")?;
+    Ok(())
+}
+
+/// Reads the requests of a script. Names that are new are added to the table, and so is `self`.
+fn requests_and_self(
+    alloc: Global,
+    script: &[u8],
+    names: &mut Names,
+) -> Result<Vec<Request>, ScriptFault>
+    ensures grows { Grows names.old names.new }
+    ensures self_known { OnOk result (HasSelf names.new) }
+    ensures said { IfOk result (λ requests. Says script.now (requests_in names.new requests.items)) }
+    ensures known { IfOk result (λ requests. AreKnown names.new requests.items) }
+    ensures fault { IfErr result (λ f. (n : ℕ) (cause : Cause) → fault_shown f ≡ Some (n, cause) → IsRefused script.now n cause) }
+{
+    let requests = parse_script(alloc, script, names)?;
+    intern_self(names)?;
+    Ok(requests)
+}
+
+/// Reads the requests of a script with the names of an image, to which those that are new are added, and `self`.
 fn requests_with_names(
     alloc: Global,
     script: &[u8],
@@ -43,11 +69,12 @@ fn requests_with_names(
 ) -> Result<Vec<Request>, ScriptFault>
     ensures rest { image.new ≡ record image.old { names = image.new.names } }
     ensures grows { Grows image.old.names image.new.names }
+    ensures self_known { OnOk result (HasSelf image.new.names) }
     ensures said { IfOk result (λ requests. Says script.now (requests_in image.new.names requests.items)) }
     ensures known { IfOk result (λ requests. AreKnown image.new.names requests.items) }
     ensures fault { IfErr result (λ f. (n : ℕ) (cause : Cause) → fault_shown f ≡ Some (n, cause) → IsRefused script.now n cause) }
 {
-    parse_script(alloc, script, image.names_mut())
+    requests_and_self(alloc, script, image.names_mut())
 }
 
 /// Reads the requests of a script. Names that are new are added to those of the image, which for the rest is as it was.
@@ -61,6 +88,7 @@ pub(crate) fn requests_of(
     ensures image { image_of image.new ≡ image_of image.old }
     ensures orderly { IsOrderly image.new }
     ensures closed { IsClosed image.new }
+    ensures self_known { OnOk result (HasSelf image.new.names) }
     ensures said { IfOk result (λ requests. Says script.now (requests_in image.new.names requests.items)) }
     ensures known { IfOk result (λ requests. AreKnown image.new.names requests.items) }
     ensures fault { IfErr result (λ f. (n : ℕ) (cause : Cause) → fault_shown f ≡ Some (n, cause) → IsRefused script.now n cause) }
@@ -88,6 +116,7 @@ pub(crate) fn perform_all<L: Ledger>(
     steps: &mut Steps<L>,
 ) -> Result<(), Stop>
     requires log { IsLogOf image.old session.old }
+    requires self_known { HasSelf image.old.names }
     requires known { AreKnown image.old.names requests.items }
     ensures log { IsLogOf image.new session.new }
     ensures names { image.new.names ≡ image.old.names }

@@ -13,12 +13,12 @@ use Rattle.history_model.specs.Rules.{Asks}
 use Rattle.history_model.proofs.Parts.{refused-at}
 use Rattle.session_model.specs.Admitted.{Admits, nil_doit}
 use Rattle.session_model.specs.Scripts.{Request, History, rules, verdict_in}
-use Rattle.session_model.specs.Lawful.{IsLawfulAction}
+use Rattle.session_model.specs.Lawful.{IsLawfulAction, LeavesCode}
 use Rattle.script_model.specs.Makers.{Text}
 use Rattle.apply_model.specs.declared.status.Status.{Status}
 use Rattle.apply_model.specs.declared.status.Status.TheVariants as status
 use Rattle.apply_model.specs.Applied.{AppliesIn, NoScript, Refused, Accepted, Applies, NoImage, InImage}
-use Rattle.apply_model.specs.Promised.{IsChangedFile, IsRefusalOf}
+use Rattle.apply_model.specs.Promised.{KeepsItsRuns, IsChangedFile, IsRefusalOf}
 use Rattle.apply_laws.proofs.LawfulRequests.{requests-lawful}
 
 module _ (text script : Text)
@@ -33,11 +33,21 @@ module _ (text script : Text)
     verdict_in i requests ≡ Ok h → (a : Admits i requests e) →
     (last : DoItOf Text) × (a.history.now.image ≡ plus h.now.image last) × (a.history.now.renaming ≡ h.now.renaming)
     × AreMatched (plus i e) (plus h.now.image last) h.now.renaming × AreMatched (plus i e) (plus (with_heads h.now.image) last) h.now.renaming) where
+  -- the runs of the image, where each command is lawful
+  kept-in : (i : ImageOf Text) (rs : List Request) (h : History) (sent : Text) → IsImageOf Second prelude_text text i → verdict_in i rs ≡ Ok h → sent ≡ file_of h.now.image →
+      AllByRecursion (Asks IsLawfulAction) rs → KeepsItsRuns i rs h sent
+  kept-in i rs h sent is v b lawful =
+      record {
+        matched = matched i rs h is lawful v;
+        read_again = λ within. subst (λ t. IsImageOf Second prelude_text t (with_heads h.now.image)) (sym b) (again i rs h is lawful v within);
+        matched_again = matched_again i rs h is lawful v;
+        expressions = λ x ad. let all = admitted i rs h x is lawful v ad in record { last = all.0; added = all.1; renaming = all.2; matched = all.3; matched_again = all.4 };
+      }
+
   done-in : (i : ImageOf Text) (s : Status) (sent : Text) → IsImageOf Second prelude_text text i → AppliesIn i script s sent → s ≡ status.Done → IsChangedFile text script sent
   done-in i s sent is (NoScript n cause refused a b) e = absurd (cc)
   done-in i s sent is (Refused rs r says v a b) e = absurd (cc)
   done-in i s sent is (Accepted rs h says v a b) e =
-      let lawful = requests-lawful script rs says in
       record {
         image = i;
         is_image = is;
@@ -46,11 +56,8 @@ module _ (text script : Text)
         history = h;
         accepted = v;
         file = b;
-        matched = matched i rs h is lawful v;
-        read_again = λ within. subst (λ t. IsImageOf Second prelude_text t (with_heads h.now.image)) (sym b) (again i rs h is lawful v within);
-        matched_again = matched_again i rs h is lawful v;
-        expressions = λ x ad. let all = admitted i rs h x is lawful v ad in record { last = all.0; added = all.1; renaming = all.2; matched = all.3; matched_again = all.4 };
         nil_admitted = nil i rs h v;
+        kept = λ leaves. kept-in i rs h sent is v b (requests-lawful script rs says leaves);
       }
 
   pub done : (image_line : ImageRefusal → Text) (s : Status) (sent : Text) → Applies image_line text script s sent → s ≡ status.Done → IsChangedFile text script sent

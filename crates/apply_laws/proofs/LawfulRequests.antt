@@ -17,19 +17,19 @@ use Rattle.history_model.specs.Rules.{Asks}
 use Rattle.file_model.specs.Fileable.{MayStand}
 use Rattle.command_model.specs.Commands.{AddMethod, AddParameter}
 use Rattle.session_model.specs.Scripts.{Request}
-use Rattle.session_model.specs.Lawful.{IsLawfulAction}
+use Rattle.session_model.specs.Lawful.{IsLawfulAction, LeavesCode}
 use Rattle.script_model.specs.Lines.{words_of, lines_of, spoken}
 use Rattle.script_model.specs.Arguments.{Argument, name, side, number, side_of, arguments_of}
-use Rattle.script_model.specs.Makers.{Text, Maker, single, of_none, of_one, of_two, of_three, names_in, of_classes, of_parameter, of_method, of_local_to}
+use Rattle.script_model.specs.Makers.{Text, Maker, single, of_none, of_one, of_two, of_three, names_in, of_classes, of_parameter, of_method, of_local, of_local_to, of_part, of_part_to}
 use Rattle.script_model.specs.Commands.{Row, Cause, BadArgument, table, no_command, said_by_row, said_by}
 use Rattle.script_model.specs.Additions.{first_word, behind_word, Addition, addition, addition_of, Spelled, Incomplete, Faulty}
 use Rattle.script_model.specs.Parameters.{Parameter, literal_in, passing, Read, Wordless, Unreadable}
 use Rattle.script_model.specs.Scripts.{LineSays, InWords, InText, InLiteral, EachSays, Says}
 use Rattle.apply_laws.proofs.SpelledLiterals.{literal-spelled}
 
--- a request that the laws of scripts speak of
+-- a request that is lawful, if it moves no code
 abbrev IsFit : Request → Type 0
-IsFit r = Asks IsLawfulAction r
+IsFit r = Asks LeavesCode r → Asks IsLawfulAction r
 
 abbrev MakesFit : Maker → Type 0
 MakesFit m = (arguments : List Argument) (r : Request) → m arguments ≡ Some r → IsFit r
@@ -62,9 +62,21 @@ parameter : (f : Text → ℕ → Text → Request) → ((s : Text) (k : ℕ) (t
 parameter f h (name s ∷ number k ∷ name t ∷ []) r e = let same : f s k t ≡ r = cc in subst IsFit same (h s k t)
 parameter f h arguments r e = absurd (cc)
 
-local : (f : Text → Bool → Text → Text → Text → Request) → ((c : Text) (meta : Bool) (s x y : Text) → IsFit (f c meta s x y)) → MakesFit (of_local_to f)
-local f h (name c ∷ side meta ∷ name s ∷ name x ∷ name y ∷ []) r e = let same : f c meta s x y ≡ r = cc in subst IsFit same (h c meta s x y)
+local : (f : Text → Bool → Text → Text → Request) → ((c : Text) (meta : Bool) (s x : Text) → IsFit (f c meta s x)) → MakesFit (of_local f)
+local f h (name c ∷ side meta ∷ name s ∷ name x ∷ []) r e = let same : f c meta s x ≡ r = cc in subst IsFit same (h c meta s x)
 local f h arguments r e = absurd (cc)
+
+local_to : (f : Text → Bool → Text → Text → Text → Request) → ((c : Text) (meta : Bool) (s x y : Text) → IsFit (f c meta s x y)) → MakesFit (of_local_to f)
+local_to f h (name c ∷ side meta ∷ name s ∷ name x ∷ name y ∷ []) r e = let same : f c meta s x y ≡ r = cc in subst IsFit same (h c meta s x y)
+local_to f h arguments r e = absurd (cc)
+
+part : (f : Text → Bool → Text → ℕ → ℕ → Request) → ((c : Text) (meta : Bool) (s : Text) (from to : ℕ) → IsFit (f c meta s from to)) → MakesFit (of_part f)
+part f h (name c ∷ side meta ∷ name s ∷ number from ∷ number to ∷ []) r e = let same : f c meta s from to ≡ r = cc in subst IsFit same (h c meta s from to)
+part f h arguments r e = absurd (cc)
+
+part_to : (f : Text → Bool → Text → ℕ → ℕ → Text → Request) → ((c : Text) (meta : Bool) (s : Text) (from to : ℕ) (t : Text) → IsFit (f c meta s from to t)) → MakesFit (of_part_to f)
+part_to f h (name c ∷ side meta ∷ name s ∷ number from ∷ number to ∷ name t ∷ []) r e = let same : f c meta s from to t ≡ r = cc in subst IsFit same (h c meta s from to t)
+part_to f h arguments r e = absurd (cc)
 
 method : (f : Text → Bool → Text → Request) → ((c : Text) (meta : Bool) (s : Text) → IsFit (f c meta s)) → MakesFit (of_method f)
 method f h (name c ∷ side meta ∷ name s ∷ []) r e = let same : f c meta s ≡ r = cc in subst IsFit same (h c meta s)
@@ -79,36 +91,45 @@ joined zero rows first rest = rest
 joined (suc n) [] first rest = tt
 joined (suc n) (r ∷ rs) first rest = (first.0, joined n rs first.1 rest)
 
--- the commands of classes, of the variables of each kind, and of selectors and methods, and the other ones
+-- the commands of classes, of the variables of each kind, of selectors and methods, those that move code, and the other ones
 classes-fit : Fits (take 3 table)
-classes-fit = (classes _ (λ d p under. (tt, tt, tt)), (two _ (λ c x. (tt, tt, tt)), (one _ (λ c. (tt, tt, tt)), tt)))
+classes-fit = (classes _ (λ d p under leaves. (tt, tt, tt)), (two _ (λ c x leaves. (tt, tt, tt)), (one _ (λ c leaves. (tt, tt, tt)), tt)))
 
 instance-fit : Fits (take 5 (drop 3 table))
-instance-fit = (two _ (λ c x. (tt, tt, tt)), (three _ (λ c x y. (tt, tt, tt)), (two _ (λ c x. (tt, tt, tt)), (two _ (λ c x. (tt, tt, tt)), (two _ (λ c x. (tt, tt, tt)), tt)))))
+instance-fit = (two _ (λ c x leaves. (tt, tt, tt)), (three _ (λ c x y leaves. (tt, tt, tt)), (two _ (λ c x leaves. (tt, tt, tt)), (two _ (λ c x leaves. (tt, tt, tt)), (two _ (λ c x leaves. (tt, tt, tt)), tt)))))
 
 shared-fit : Fits (take 5 (drop 8 table))
-shared-fit = (two _ (λ c x. (tt, tt, tt)), (three _ (λ c x y. (tt, tt, tt)), (two _ (λ c x. (tt, tt, tt)), (two _ (λ c x. (tt, tt, tt)), (three _ (λ c x y. (tt, tt, tt)), tt)))))
+shared-fit = (two _ (λ c x leaves. (tt, tt, tt)), (three _ (λ c x y leaves. (tt, tt, tt)), (two _ (λ c x leaves. (tt, tt, tt)), (two _ (λ c x leaves. (tt, tt, tt)), (three _ (λ c x y leaves. (tt, tt, tt)), tt)))))
 
 class_side-fit : Fits (take 3 (drop 13 table))
-class_side-fit = (two _ (λ c x. (tt, tt, tt)), (three _ (λ c x y. (tt, tt, tt)), (two _ (λ c x. (tt, tt, tt)), tt)))
+class_side-fit = (two _ (λ c x leaves. (tt, tt, tt)), (three _ (λ c x y leaves. (tt, tt, tt)), (two _ (λ c x leaves. (tt, tt, tt)), tt)))
 
 methods-fit : Fits (take 6 (drop 16 table))
 methods-fit = (
-  two _ (λ c x. (tt, tt, tt)),
+  two _ (λ c x leaves. (tt, tt, tt)),
   (
-    method _ (λ c meta s. (tt, tt, tt)),
-    (method _ (λ c meta s. (tt, tt, tt)), (method _ (λ c meta s. (tt, tt, tt)), (parameter _ (λ s k t. (tt, tt, tt)), (local _ (λ c meta s x y. (tt, tt, tt)), tt)))),
+    method _ (λ c meta s leaves. (tt, tt, tt)),
+    (method _ (λ c meta s leaves. (tt, tt, tt)), (method _ (λ c meta s leaves. (tt, tt, tt)), (parameter _ (λ s k t leaves. (tt, tt, tt)), (local_to _ (λ c meta s x y leaves. (tt, tt, tt)), tt)))),
   ),
 )
 
-others-fit : Fits (drop 22 table)
-others-fit = (two _ (λ c x. record { selector = refl; parameter_is = refl }), (classes _ (λ d p under. tt), (two _ (λ c x. tt), (none _ tt, (none _ tt, tt)))))
+code-fit : Fits (take 5 (drop 22 table))
+code-fit = (
+  two _ (λ c x leaves. absurd leaves),
+  (
+    part_to _ (λ c meta s from to t leaves. absurd leaves),
+    (part _ (λ c meta s from to leaves. absurd leaves), (part_to _ (λ c meta s from to x leaves. absurd leaves), (local _ (λ c meta s x leaves. absurd leaves), tt))),
+  ),
+)
+
+others-fit : Fits (drop 27 table)
+others-fit = (two _ (λ c x leaves. record { selector = refl; parameter_is = refl }), (classes _ (λ d p under leaves. tt), (two _ (λ c x leaves. tt), (none _ (λ leaves. tt), (none _ (λ leaves. tt), tt)))))
 
 -- all commands that are performed
 all-fit : Fits table
 all-fit =
     joined 3 table classes-fit
-    (joined 5 (drop 3 table) instance-fit (joined 5 (drop 8 table) shared-fit (joined 3 (drop 13 table) class_side-fit (joined 6 (drop 16 table) methods-fit others-fit))))
+    (joined 5 (drop 3 table) instance-fit (joined 5 (drop 8 table) shared-fit (joined 3 (drop 13 table) class_side-fit (joined 6 (drop 16 table) methods-fit (joined 5 (drop 22 table) code-fit others-fit)))))
 
 -- what the arguments of a row make
 abbrev as-said : Option Request → Result Request Cause
@@ -173,14 +194,14 @@ parameter-fit : (p : Parameter) (tree : SpannedSequence) (r : Request) → Spell
 parameter-fit p tree r spells None is e = absurd (cc)
 parameter-fit p tree r spells (Some l) is e =
     let same : single (AddParameter p.selector p.to p.name l) ≡ r = cc in
-    subst IsFit same (tt, literal-spelled p.passed tree l spells is, tt)
+    subst IsFit same (λ leaves. (tt, literal-spelled p.passed tree l spells is, tt))
 
 -- what a line asks for
 line-fit : (line : Text) (r : Request) → LineSays line (Ok r) → IsFit r
 line-fit line r (InWords plain too answer) = words-fit (words_of line) r (sym answer)
 line-fit line r (InText adds (Spelled a tree is spells answer)) =
     let same : single (AddMethod a.class a.meta a.protocol a.text tree) ≡ r = cc in
-    subst IsFit same (tt, spells, may-stand (behind_word line) a is)
+    subst IsFit same (λ leaves. (tt, spells, may-stand (behind_word line) a is))
 line-fit line r (InText adds (Incomplete none answer)) = absurd (cc)
 line-fit line r (InText adds (Faulty a fault is wrong answer)) = absurd (cc)
 line-fit line r (InLiteral adds (Read p tree is spells answer)) = parameter-fit p tree r spells (literal_in p.passed tree) refl (sym answer)
@@ -188,12 +209,12 @@ line-fit line r (InLiteral adds (Wordless none answer)) = absurd (cc)
 line-fit line r (InLiteral adds (Unreadable p fault is wrong answer)) = absurd (cc)
 
 -- what lines ask for
-lines-fit : (lines : List Text) (requests : List Request) → EachSays lines requests → AllByRecursion (Asks IsLawfulAction) requests
-lines-fit [] [] each = tt
-lines-fit [] (r ∷ rs) each = absurd each
-lines-fit (l ∷ ls) [] each = absurd each
-lines-fit (l ∷ ls) (r ∷ rs) each = (line-fit l r each.0, lines-fit ls rs each.1)
+lines-fit : (lines : List Text) (requests : List Request) → EachSays lines requests → AllByRecursion (Asks LeavesCode) requests → AllByRecursion (Asks IsLawfulAction) requests
+lines-fit [] [] each leaves = tt
+lines-fit [] (r ∷ rs) each leaves = absurd each
+lines-fit (l ∷ ls) [] each leaves = absurd each
+lines-fit (l ∷ ls) (r ∷ rs) each leaves = (line-fit l r each.0 leaves.0, lines-fit ls rs each.1 leaves.1)
 
--- what a script asks for
-pub requests-lawful : (script : Text) (requests : List Request) → Says script requests → AllByRecursion (Asks IsLawfulAction) requests
-requests-lawful script requests says = lines-fit (spoken (lines_of script)) requests says.each
+-- what a script asks for that moves no code
+pub requests-lawful : (script : Text) (requests : List Request) → Says script requests → AllByRecursion (Asks LeavesCode) requests → AllByRecursion (Asks IsLawfulAction) requests
+requests-lawful script requests says leaves = lines-fit (spoken (lines_of script)) requests says.each leaves

@@ -20,9 +20,10 @@ pub fn has_some_answer()
     has_one_reading();
 }
 
-/// Where `apply` is done, what it sends is the file of the image that the script makes, which keeps the runs of the image, with
-/// each start expression that the script admits, up to what is renamed, and is read again from that file; and where it ends by
-/// a condition, what it sends names the first command that is refused, and its first condition that is false.
+/// Where `apply` is done, what it sends is the file of the image that the script makes. Where no command of the script moves
+/// code, that image keeps the runs of the image before, with each start expression that the script admits, up to what is renamed,
+/// and is read again from that file. Where `apply` ends by a condition, what it sends names the first command that is refused,
+/// and its first condition that is false.
 pub fn law_applied()
     ensures done { (image_line : Refusal → Text) (text script : Text) (s : Status) (sent : Text) →
         Applies image_line text script s sent → s ≡ status.Done → IsChangedFile text script sent }

@@ -48,7 +48,7 @@ help = line (codes "usage: browse COMMAND ARGUMENTS\napply IMAGE SCRIPT: prints 
 
 -- the version of the program, of the kit that builds it and of the logic that proves it
 abbrev pub version : List ℕ
-version = line (codes "browse 1.0 rattle-kit-13b logic dac8208d650f15bf")
+version = line (codes "browse 1.0 rattle-kit-13f logic dac8208d650f15bf")
 
 -- how a call ends whose files `apply` answers so
 abbrev pub status_applied : applied.Status → Status

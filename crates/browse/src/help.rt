@@ -33,6 +33,6 @@ pub fn version(out: &mut Text) -> Result<Status, Memory>
     ensures status { IfOk result (λ status. status ≡ Status.Done) }
     ensures text { OnOk result (out.new ≡ version) }
 {
-    push_line(out, "browse 1.0 rattle-kit-13b logic dac8208d650f15bf", b"")?;
+    push_line(out, "browse 1.0 rattle-kit-13f logic dac8208d650f15bf", b"")?;
     Ok(Status::Done)
 }

@@ -27,7 +27,7 @@ pub enum Status {
     RunError,
     /// 10: a run wanted a tick when none was left; the last line says how many it had.
     Spent,
-    /// 11: the words are in a form that is not built yet, or the texts of the files are in none that `apply` reads yet.
+    /// 11: the words are in a form that is not built yet.
     Unbuilt,
 }
 

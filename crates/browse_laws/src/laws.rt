@@ -11,9 +11,10 @@ ghost use Rattle.browse.specs.Answers.{Applies, Answers};
 ghost use Rattle.browse_laws.specs.Given.{apply_words, AreGiven};
 
 /// Where `apply IMAGE SCRIPT` is answered with the status `Done`, what is sent is the changed file: that of the image that the
-/// script makes of the image of the first file. Its runs are those of the image before, up to what the script renames, and
-/// within the limits of a file it is read again as that image. Where the status is `Condition`, what is sent names the first
-/// command of the script that is refused, and its first condition that is false; the commands before it are accepted.
+/// script makes of the image of the first file. Where no command of the script moves code, its runs are those of the image
+/// before, up to what the script renames, and within the limits of a file it is read again as that image. Where the status is
+/// `Condition`, what is sent names the first command of the script that is refused, and its first condition that is false; the
+/// commands before it are accepted.
 pub fn law_applied()
     ensures done { (w : World) (image script sent : List ℕ) → Answers w (apply_words image script) status.Done sent →
         AreGiven w image script (λ text commands. IsChangedFile text commands sent) }

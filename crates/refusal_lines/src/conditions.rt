@@ -6,12 +6,14 @@ ghost use Rattle.command_numbers.specs.MappedCommands.{map_condition};
 ghost use Rattle.commands.specs.Views.{condition_of};
 ghost use Rattle.apply_model.specs.Lines.{code_words, condition_words};
 
-use crate::words::{push_counted, push_method, push_name, push_named, push_pair, push_title};
+use crate::words::{
+    push_counted, push_local, push_method, push_named, push_pair, push_part, push_spot, push_title,
+};
 use commands::Condition;
 use rb_base::{Memory, Names, Text};
 
-/// Appends the number of a condition on parameters, on one of the names in a method or on heights, its name and its
-/// arguments, each behind a blank; of any other condition nothing.
+/// Appends the number of a condition that only commands have which change code, its name and its arguments, each behind a
+/// blank; of any other condition nothing.
 fn push_code_condition(condition: &Condition, names: &Names, out: &mut Text) -> Result<(), Memory>
     ensures { OnOk result (out.new ≡ out.old ++ pieces_behind (codes " ") (code_words (map_condition (name_at names.now) (condition_of condition.now)))) }
 {
@@ -23,14 +25,31 @@ fn push_code_condition(condition: &Condition, names: &Names, out: &mut Text) -> 
             push_counted(b"C21", b"PlainArguments", selector, argument, names, out)
         }
         Condition::AtomLiteral => push_title(b"C22", b"AtomLiteral", out),
+        Condition::PartIs(part) => push_part(b"C23", b"PartIs", part, names, out),
+        Condition::NoReturn(part) => push_part(b"C24", b"NoReturn", part, names, out),
+        Condition::AssignsNoOuter(part) => push_part(b"C25", b"AssignsNoOuter", part, names, out),
+        Condition::TempsSteady(part) => push_part(b"C26", b"TempsSteady", part, names, out),
+        Condition::ValueUnused(part) => push_part(b"C27", b"ValueUnused", part, names, out),
+        Condition::SelfSend(part) => push_part(b"C28", b"SelfSend", part, names, out),
+        Condition::OneTarget(method) => push_method(b"C29", b"OneTarget", method, names, out),
+        Condition::Inlinable(method) => push_method(b"C30", b"Inlinable", method, names, out),
+        Condition::PlainActuals(part) => push_part(b"C31", b"PlainActuals", part, names, out),
+        Condition::NoCapture { method, spot } => {
+            push_spot(b"C32", b"NoCapture", method, spot, names, out)
+        }
+        Condition::NoNewControl { method, spot } => {
+            push_spot(b"C33", b"NoNewControl", method, spot, names, out)
+        }
         Condition::Declared { method, variable } => {
-            push_method(b"C34", b"Declared", method, names, out)?;
-            push_name(variable, names, out)
+            push_local(b"C34", b"Declared", method, variable, names, out)
         }
         Condition::NotIn { method, variable } => {
-            push_method(b"C35", b"NotIn", method, names, out)?;
-            push_name(variable, names, out)
+            push_local(b"C35", b"NotIn", method, variable, names, out)
         }
+        Condition::LetForm { method, variable } => {
+            push_local(b"C36", b"LetForm", method, variable, names, out)
+        }
+        Condition::FirstEvaluated(part) => push_part(b"C37", b"FirstEvaluated", part, names, out),
         Condition::Shallow => push_title(b"C38", b"Shallow", out),
         _ => Ok(()),
     }
@@ -83,18 +102,10 @@ pub(crate) fn push_condition(
         }
         Condition::NoSuper(method) => push_method(b"C17", b"NoSuper", method, names, out),
         Condition::MeansSame { method, to } => {
-            push_method(b"C18", b"MeansSame", method, names, out)?;
-            push_name(to, names, out)
+            push_local(b"C18", b"MeansSame", method, to, names, out)
         }
         Condition::Unreached { selector } => {
             push_named(b"C19", b"Unreached", selector, names, out)
-        }
-        Condition::ParameterUnused { .. } | Condition::PlainArguments { .. } => {
-            push_code_condition(condition, names, out)
-        }
-        Condition::AtomLiteral | Condition::Shallow => push_code_condition(condition, names, out),
-        Condition::Declared { .. } | Condition::NotIn { .. } => {
-            push_code_condition(condition, names, out)
         }
         Condition::IsClass { class } => push_named(b"C39", b"IsClass", class, names, out),
         Condition::ChildOf { class, superclass } => {
@@ -108,5 +119,6 @@ pub(crate) fn push_condition(
         }
         Condition::UndoLeft => push_title(b"C43", b"UndoLeft", out),
         Condition::RedoLeft => push_title(b"C44", b"RedoLeft", out),
+        _ => push_code_condition(condition, names, out),
     }
 }

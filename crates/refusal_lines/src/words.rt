@@ -4,9 +4,11 @@ ghost use Rattle.std.specs.Borrow.{Bor};
 ghost use Rattle.std.specs.Fmt.{decimal};
 ghost use Rattle.rb_base.specs.Names.{name_at};
 ghost use Rattle.text_model.specs.Pieces.{pieces_behind};
-ghost use Rattle.apply_model.specs.Lines.{method_words};
+ghost use Rattle.command_numbers.specs.MappedCommands.{map_spot};
+ghost use Rattle.commands.specs.Views.{spot_of};
+ghost use Rattle.apply_model.specs.Lines.{method_words, part_words, spot_words};
 
-use commands::MethodName;
+use commands::{MethodName, MethodPart, Spot};
 use itoa::Buffer;
 use rb_base::{Memory, NameId, Names, Text};
 
@@ -108,11 +110,55 @@ pub(crate) fn push_method(
     )
 }
 
-/// Appends a name behind a blank.
-pub(crate) fn push_name(name: NameId, names: &Names, out: &mut Text) -> Result<(), Memory>
-    ensures { OnOk result (out.new ≡ out.old ++ pieces_behind (codes " ") (name_at names.now name ∷ [])) }
+/// The same of a condition on a method and a name.
+pub(crate) fn push_local(
+    number: &[u8],
+    title: &[u8],
+    method: MethodName,
+    name: NameId,
+    names: &Names,
+    out: &mut Text,
+) -> Result<(), Memory>
+    ensures { OnOk result (out.new ≡ out.old ++ pieces_behind (codes " ") (number.now ∷ title.now ∷ method_words (name_at names.now method.class) method.meta (name_at names.now method.selector) ++ name_at names.now name ∷ [])) }
 {
+    push_method(number, title, method, names, out)?;
     push_words(&[text_of(names, name)], out)
+}
+
+/// The same of a condition on a part of a method.
+pub(crate) fn push_part(
+    number: &[u8],
+    title: &[u8],
+    part: MethodPart,
+    names: &Names,
+    out: &mut Text,
+) -> Result<(), Memory>
+    ensures { OnOk result (out.new ≡ out.old ++ pieces_behind (codes " ") (number.now ∷ title.now ∷ part_words (name_at names.now part.method.class) part.method.meta (name_at names.now part.method.selector) part.from part.to)) }
+{
+    push_method(number, title, part.method, names, out)?;
+    out.push_slice(b" ")?;
+    push_number(part.from, out)?;
+    out.push_slice(b" ")?;
+    push_number(part.to, out)
+}
+
+/// The same of a condition on a place in a method.
+pub(crate) fn push_spot(
+    number: &[u8],
+    title: &[u8],
+    method: MethodName,
+    spot: Spot,
+    names: &Names,
+    out: &mut Text,
+) -> Result<(), Memory>
+    ensures { OnOk result (out.new ≡ out.old ++ pieces_behind (codes " ") (number.now ∷ title.now ∷ spot_words (name_at names.now method.class) method.meta (name_at names.now method.selector) (map_spot (name_at names.now) (spot_of spot)))) }
+{
+    match spot {
+        Spot::Part { from, to } => {
+            push_part(number, title, MethodPart { method, from, to }, names, out)
+        }
+        Spot::Name(name) => push_local(number, title, method, name, names, out),
+    }
 }
 
 /// Appends a number in decimal.

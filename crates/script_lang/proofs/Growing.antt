@@ -14,12 +14,13 @@ use Rattle.tree_model.proofs.AllNamesLemmas.{map_names-same, map_method-same, Al
 use Rattle.st_tree.specs.View.{method_of}
 use Rattle.history_model.specs.Rules.{Perform}
 use Rattle.session_model.specs.Actions.{Single, CreateAccessors, ExtractSuperclass, PushUpWithMethods}
-use Rattle.command_model.specs.Commands.{RenameClass, AddClass, RemoveClass, AddInstVar, RenameInstVar, RemoveInstVar, PushUpInstVar, PushDownInstVar, AddClassVar, RenameClassVar, RemoveClassVar, PushUpClassVar, PushDownClassVar, AddClassSideVar, RenameClassSideVar, RemoveClassSideVar, RenameSelector, AddMethod, RemoveMethod, PushUpMethod, PushDownMethod, AddParameter, RemoveParameter, RenameTemp}
+use Rattle.command_model.specs.Commands.{RenameClass, AddClass, RemoveClass, AddInstVar, RenameInstVar, RemoveInstVar, PushUpInstVar, PushDownInstVar, AddClassVar, RenameClassVar, RemoveClassVar, PushUpClassVar, PushDownClassVar, AddClassSideVar, RenameClassSideVar, RemoveClassSideVar, RenameSelector, AddMethod, RemoveMethod, PushUpMethod, PushDownMethod, AddParameter, RemoveParameter, AbstractInstVar, ExtractMethod, InlineMethod, ExtractTemp, InlineTemp, RenameTemp}
 use Rattle.command_numbers.specs.CommandNames.{CommandNames}
 use Rattle.command_numbers.specs.MappedCommands.{map_command}
 use Rattle.name_meanings.specs.declared.meaning.VariableKind.TheVariants as kind
 use Rattle.commands.specs.declared.command.Renaming.TheVariants as renaming
 use Rattle.commands.specs.declared.command.VariableMove.TheVariants as move
+use Rattle.commands.specs.declared.command.CodeMove.TheVariants as code
 use Rattle.commands.specs.declared.command.Command.{Command}
 use Rattle.commands.specs.declared.command.Command.TheVariants as command
 use Rattle.commands.specs.declared.command.Action.TheVariants as action
@@ -87,6 +88,16 @@ module _ {names later : List Text} (g : Grows names later) where
   command-grown (command.RemoveParameter s k t) h = λ i. RemoveParameter (name_at-grown s h.0 i) k (name_at-grown t h.1 i)
   command-grown (command.RenameTemporary m x y) h =
       λ i. RenameTemp (name_at-grown m.class h.0 i) m.meta (name_at-grown m.selector h.1 i) (name_at-grown x h.2 i) (name_at-grown y h.3 i)
+  command-grown (command.MoveCode (code.AbstractVariable c x setter parameter)) h =
+      λ i. AbstractInstVar (name_at-grown c h.0 i) (name_at-grown x h.1 i) (name_at-grown setter h.2 i) (name_at-grown parameter h.3 i)
+  command-grown (command.MoveCode (code.ExtractMethod p t)) h =
+      λ i. ExtractMethod (name_at-grown p.method.class h.0 i) p.method.meta (name_at-grown p.method.selector h.1 i) p.from p.to (name_at-grown t h.2 i)
+  command-grown (command.MoveCode (code.InlineMethod p)) h =
+      λ i. InlineMethod (name_at-grown p.method.class h.0 i) p.method.meta (name_at-grown p.method.selector h.1 i) p.from p.to
+  command-grown (command.MoveCode (code.ExtractTemporary p x)) h =
+      λ i. ExtractTemp (name_at-grown p.method.class h.0 i) p.method.meta (name_at-grown p.method.selector h.1 i) p.from p.to (name_at-grown x h.2 i)
+  command-grown (command.MoveCode (code.InlineTemporary m x)) h =
+      λ i. InlineTemp (name_at-grown m.class h.0 i) m.meta (name_at-grown m.selector h.1 i) (name_at-grown x h.2 i)
 
   command_known-grown : (c : Command) → CommandNames (λ n. n < length names) (command_of c) → CommandNames (λ n. n < length later) (command_of c)
   command_known-grown (command.Rename (renaming.Class c d)) h = (number-grown c h.0, number-grown d h.1)
@@ -114,6 +125,12 @@ module _ {names later : List Text} (g : Grows names later) where
       (number-grown n.selector h.0, number-grown n.to h.1, number-grown n.parameter h.2, AllNames-implies (λ k. k < length names) (λ k. k < length later) number-grown (literal n.passed) h.3)
   command_known-grown (command.RemoveParameter s k t) h = (number-grown s h.0, number-grown t h.1)
   command_known-grown (command.RenameTemporary m x y) h = (number-grown m.class h.0, number-grown m.selector h.1, number-grown x h.2, number-grown y h.3)
+  command_known-grown (command.MoveCode (code.AbstractVariable c x setter parameter)) h =
+      (number-grown c h.0, number-grown x h.1, number-grown setter h.2, number-grown parameter h.3)
+  command_known-grown (command.MoveCode (code.ExtractMethod p t)) h = (number-grown p.method.class h.0, number-grown p.method.selector h.1, number-grown t h.2)
+  command_known-grown (command.MoveCode (code.InlineMethod p)) h = (number-grown p.method.class h.0, number-grown p.method.selector h.1)
+  command_known-grown (command.MoveCode (code.ExtractTemporary p x)) h = (number-grown p.method.class h.0, number-grown p.method.selector h.1, number-grown x h.2)
+  command_known-grown (command.MoveCode (code.InlineTemporary m x)) h = (number-grown m.class h.0, number-grown m.selector h.1, number-grown x h.2)
 
   -- a request
   request-grown : (r : Request) → IsKnownRequest names r → request_in later r ≡ request_in names r

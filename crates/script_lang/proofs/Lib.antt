@@ -1,8 +1,9 @@
 mod AddedMethods
-mod Growing
+pub mod Growing
 mod Identifiers
 mod MethodWords
 mod Named
+mod PartWords
 mod Parts
 mod PassedLiterals
 mod Reading

@@ -6,11 +6,11 @@ use Rattle.grammar_model.specs.Terminal.{Text}
 use Rattle.rb_base.specs.Names.{name_at}
 use Rattle.event_trees.specs.Naming.{Grows}
 use Rattle.event_trees.proofs.Known.{Grows-twice}
-use Rattle.command_model.specs.Commands.{RenameTemp}
+use Rattle.command_model.specs.Commands.{InlineTemp, RenameTemp}
 use Rattle.session_model.specs.Scripts.{Request}
 use Rattle.commands.specs.declared.command.MethodName.{MethodName}
 use Rattle.script_model.specs.Arguments.{Place, a_class, a_variable, a_side, a_selector, Argument, name, side, argument, in_front, takes, method_and, arguments_of}
-use Rattle.script_model.specs.Makers.{Maker, single, of_method, of_local_to}
+use Rattle.script_model.specs.Makers.{Maker, single, of_method, of_local, of_local_to}
 use Rattle.script_model.specs.Commands.{Cause, BadArgument}
 use Rattle.command_numbers.specs.MappedCommands.{map_command}
 use Rattle.script_lang.specs.declared.verb.Verb.TheVariants as verb
@@ -22,7 +22,7 @@ use Rattle.script_lang.proofs.Named.{made}
 use Rattle.script_lang.proofs.Selectors.{other-count, texts-three, still}
 
 -- what three words say in front of others
-abbrev in_method : Text → Text → Text → Option (List Argument) → Option (List Argument)
+abbrev pub in_method : Text → Text → Text → Option (List Argument) → Option (List Argument)
 in_method c m s o = in_front (argument a_class c) (in_front (argument a_side m) (in_front (argument a_selector s) o))
 
 -- a table that grows
@@ -74,7 +74,7 @@ its_places = method_and (a_variable ∷ a_variable ∷ [])
 pub temporary-count : (ws : List (Bor Text)) → (length ws ≡ 5 → ⊥) → asked verb.RenameTemporary (texts ws) ≡ Err BadArgument
 temporary-count ws h = other-count verb.RenameTemporary {m = temporaries} its_places (λ us. refl) ws h
 
-texts-five : (ws : List (Bor Text)) (a b c d e : Bor Text) → length ws ≡ 5 →
+pub texts-five : (ws : List (Bor Text)) (a b c d e : Bor Text) → length ws ≡ 5 →
     texts ws ≡ (get_or ws 0 a).now ∷ (get_or ws 1 b).now ∷ (get_or ws 2 c).now ∷ (get_or ws 3 d).now ∷ (get_or ws 4 e).now ∷ []
 texts-five [] a b c d e h = absurd (omega (arith, h))
 texts-five (p ∷ []) a b c d e h = absurd (omega (arith, h))
@@ -105,3 +105,30 @@ module _ (ws : List (Bor Text)) (a b c d e : Bor Text) (h : length ws ≡ 5) whe
       temporary-words
       ∙ (λ i. made temporaries (before (in_front ((p ∙ still two later x there j) i) (in_front (q i) (Some [])))))
       ∙ ap (made temporaries) (in-method (named-grown (Grows-twice g j) known n) (Some (name (name_at later x) ∷ name (name_at later y) ∷ [])))
+
+-- a variable in a method that becomes what is assigned to it
+abbrev inlined : Maker
+inlined = of_local (λ c meta s x. single (InlineTemp c meta s x))
+
+abbrev its_place : List Place
+its_place = method_and (a_variable ∷ [])
+
+pub inlined-count : (ws : List (Bor Text)) → (length ws ≡ 4 → ⊥) → asked verb.InlineTemporary (texts ws) ≡ Err BadArgument
+inlined-count ws h = other-count verb.InlineTemporary {m = inlined} its_place (λ us. refl) ws h
+
+texts-four : (ws : List (Bor Text)) (a b c d : Bor Text) → length ws ≡ 4 → texts ws ≡ (get_or ws 0 a).now ∷ (get_or ws 1 b).now ∷ (get_or ws 2 c).now ∷ (get_or ws 3 d).now ∷ []
+texts-four [] a b c d h = absurd (omega (arith, h))
+texts-four (p ∷ []) a b c d h = absurd (omega (arith, h))
+texts-four (p ∷ q ∷ []) a b c d h = absurd (omega (arith, h))
+texts-four (p ∷ q ∷ r ∷ []) a b c d h = absurd (omega (arith, h))
+texts-four (p ∷ q ∷ r ∷ s ∷ []) a b c d h = refl
+texts-four (p ∷ q ∷ r ∷ s ∷ t ∷ ts) a b c d h = absurd (omega (arith, h))
+
+module _ (ws : List (Bor Text)) (a b c d : Bor Text) (h : length ws ≡ 4) where
+  pub inlined-said : (one later : List Text) (m : MethodName) (x : ℕ) → Grows one later → (m.class < length one) × (m.selector < length one) →
+      IsMethodNamed one m (get_or ws 0 a).now (get_or ws 1 b).now (get_or ws 2 c).now → argument a_class (get_or ws 3 d).now ≡ Some (name (name_at later x)) →
+      asked verb.InlineTemporary (texts ws) ≡ Ok (single (InlineTemp (name_at later m.class) m.meta (name_at later m.selector) (name_at later x)))
+  inlined-said one later m x g known n p =
+      ap (λ (ts : List Text). made inlined (arguments_of (takes its_place) ts)) (texts-four ws a b c d h)
+      ∙ (λ i. made inlined (in_method (get_or ws 0 a).now (get_or ws 1 b).now (get_or ws 2 c).now (in_front (p i) (Some []))))
+      ∙ ap (made inlined) (in-method (named-grown g known n) (Some (name (name_at later x) ∷ [])))

@@ -9,7 +9,7 @@ use Rattle.text_model.specs.Literals.{is_identifier}
 use Rattle.command_model.specs.Commands.{CommandOf}
 use Rattle.command_model.specs.Accessors.{setter_selector, setter_argument}
 use Rattle.history_model.specs.Rules.{Perform}
-use Rattle.session_model.specs.Actions.{ActionOf, Single, CreateAccessors, ExtractSuperclass}
+use Rattle.session_model.specs.Actions.{ActionOf, Single, ExtractSuperclass}
 use Rattle.session_model.specs.Scripts.{Request}
 use Rattle.command_model.specs.Commands.{AddClass, RemoveClass}
 use Rattle.commands.specs.Actions.{map_action, ActionNames}
@@ -26,11 +26,13 @@ use Rattle.script_lang.specs.declared.verb.TripleVerb.{TripleVerb}
 use Rattle.script_lang.specs.declared.verb.TripleVerb.TheVariants as triple
 use Rattle.script_lang.specs.declared.verb.NewClassVerb.{NewClassVerb}
 use Rattle.script_lang.specs.declared.verb.NewClassVerb.TheVariants as new_class
+use Rattle.script_lang.specs.declared.verb.AccessorVerb.{AccessorVerb}
+use Rattle.script_lang.specs.declared.verb.AccessorVerb.TheVariants as accessor
 use Rattle.script_lang.specs.Shown.{asked, AreNames}
-use Rattle.script_lang.specs.Asking.{pair_action, triple_command}
+use Rattle.script_lang.specs.Asking.{accessor_action, pair_action, triple_command}
 use Rattle.event_trees.specs.Naming.{Grows}
 use Rattle.event_trees.proofs.Known.{Grows-twice}
-use Rattle.script_lang.proofs.Growing.{name_at-grown}
+use Rattle.script_lang.proofs.Growing.{name_at-grown, number-grown}
 
 -- what so many names say, and any number of them behind
 abbrev pub fitting : ℕ → Bool → List Text → Option (List Argument)
@@ -109,11 +111,12 @@ pair-asked pair.InstanceDown ws = ap (made (of_two (λ c x. Perform (pair_action
 pair-asked pair.SharedUp ws = ap (made (of_two (λ c x. Perform (pair_action pair.SharedUp c x)))) (names-args (a_class ∷ a_variable ∷ []) false (tt, (tt, tt)) ws)
 pair-asked pair.UpWithMethods ws = ap (made (of_two (λ c x. Perform (pair_action pair.UpWithMethods c x)))) (names-args (a_class ∷ a_variable ∷ []) false (tt, (tt, tt)) ws)
 
-abbrev pub accessing : Text → Text → Request
-accessing c x = Perform (CreateAccessors c x (setter_selector x) (setter_argument x))
+abbrev pub accessing : AccessorVerb → Text → Text → Request
+accessing v c x = Perform (accessor_action v c x (setter_selector x) (setter_argument x))
 
-pub accessors-asked : (ws : List Text) → asked verb.CreateAccessors ws ≡ made (of_two accessing) (told 2 false ws)
-accessors-asked ws = ap (made (of_two accessing)) (names-args (a_class ∷ a_variable ∷ []) false (tt, (tt, tt)) ws)
+pub accessors-asked : (v : AccessorVerb) (ws : List Text) → asked (verb.Accessors v) ws ≡ made (of_two (accessing v)) (told 2 false ws)
+accessors-asked accessor.Create ws = ap (made (of_two (accessing accessor.Create))) (names-args (a_class ∷ a_variable ∷ []) false (tt, (tt, tt)) ws)
+accessors-asked accessor.Abstract ws = ap (made (of_two (accessing accessor.Abstract))) (names-args (a_class ∷ a_variable ∷ []) false (tt, (tt, tt)) ws)
 
 pub removal-asked : (ws : List Text) → asked verb.RemoveClass ws ≡ made (of_one (λ c. Perform (Single (RemoveClass c)))) (told 1 false ws)
 removal-asked ws = ap (made (of_one (λ c. Perform (Single (RemoveClass c))))) (names-args (a_class ∷ []) false (tt, tt) ws)
@@ -168,6 +171,10 @@ pair-mapped f pair.InstanceDown c x = refl
 pair-mapped f pair.SharedUp c x = refl
 pair-mapped f pair.UpWithMethods c x = refl
 
+accessor-mapped : {M N : Type 0} (f : M → N) (v : AccessorVerb) (c x setter parameter : M) → accessor_action v (f c) (f x) (f setter) (f parameter) ≡ map_action f (accessor_action v c x setter parameter)
+accessor-mapped f accessor.Create c x setter parameter = refl
+accessor-mapped f accessor.Abstract c x setter parameter = refl
+
 triple-mapped : {M N : Type 0} (f : M → N) (v : TripleVerb) (c x y : M) → triple_command v (f c) (f x) (f y) ≡ map_command f (triple_command v c x y)
 triple-mapped f (triple.RenameVariable kind.Instance) c x y = refl
 triple-mapped f (triple.RenameVariable kind.ClassSide) c x y = refl
@@ -186,6 +193,10 @@ pair-known P pair.InstanceUp c x p q = (p, q)
 pair-known P pair.InstanceDown c x p q = (p, q)
 pair-known P pair.SharedUp c x p q = (p, q)
 pair-known P pair.UpWithMethods c x p q = (p, q)
+
+accessor-known : (P : ℕ → Type 0) (v : AccessorVerb) (c x setter parameter : ℕ) → P c → P x → P setter → P parameter → ActionNames P (accessor_action v c x setter parameter)
+accessor-known P accessor.Create c x setter parameter p q r s = (p, q, r, s)
+accessor-known P accessor.Abstract c x setter parameter p q r s = (p, q, r, s)
 
 -- two items, three, and two in front of others
 pub two-items : {X : Type 0} (xs : List X) (a b : X) → length xs ≡ 2 → a ≡ get_or xs 0 a → b ≡ get_or xs 1 b → xs ≡ a ∷ b ∷ []
@@ -229,18 +240,27 @@ module _ {names : List Text} {ids : List ℕ} {ws : List Text} (a : AreNames nam
       subst (ActionNames known) (sym is) (pair-known known v c x all.0 all.1.0)
 
   -- a class and a variable, of whose getter and setter names come into the table
-  pub accessors-said : {two later : List Text} (c x setter parameter : ℕ) → ids ≡ c ∷ x ∷ [] → Grows names two → Grows two later →
-      name_at two setter ≡ setter_selector (name_at names x) → setter < length two → name_at later parameter ≡ setter_argument (name_at two x) →
-      asked verb.CreateAccessors ws ≡ Ok (Perform (CreateAccessors (name_at later c) (name_at later x) (name_at later setter) (name_at later parameter)))
-  accessors-said {two} {later} c x setter parameter e g j p k q =
+  pub accessors-said : {two later : List Text} (v : AccessorVerb) (c x setter parameter : ℕ) → ids ≡ c ∷ x ∷ [] → Grows names two → Grows two later →
+      name_at two setter ≡ setter_selector (name_at names x) → setter < length two → name_at later parameter ≡ setter_argument (name_at two x) → (r : ActionOf ℕ) → r ≡ accessor_action v c x setter parameter →
+      asked (verb.Accessors v) ws ≡ Ok (Perform (map_action (name_at later) r))
+  accessors-said {two} {later} v c x setter parameter e g j p k q r is =
       let all = subst (AllByRecursion known) e a.known in
       let class_stays : name_at later c ≡ name_at names c = name_at-grown (Grows-twice g j) c all.0 in
       let stays : name_at later x ≡ name_at names x = name_at-grown (Grows-twice g j) x all.1.0 in
       let setter_is : name_at later setter ≡ setter_selector (name_at names x) = name_at-grown j setter k ∙ p in
       let parameter_is : name_at later parameter ≡ setter_argument (name_at names x) = q ∙ ap setter_argument (name_at-grown g x all.1.0) in
-      named verb.CreateAccessors 2 false accessors-asked a
-      ∙ ap (λ (ns : List ℕ). made (of_two accessing) (fitting 2 false (map (name_at names) ns))) e
-      ∙ (λ i. let t : Result Request Cause = Ok (Perform (CreateAccessors (sym class_stays i) (sym stays i) (sym setter_is i) (sym parameter_is i))) in t)
+      named (verb.Accessors v) 2 false (accessors-asked v) a
+      ∙ ap (λ (ns : List ℕ). made (of_two (accessing v)) (fitting 2 false (map (name_at names) ns))) e
+      ∙ (λ i. let t : Result Request Cause = Ok (Perform (accessor_action v (sym class_stays i) (sym stays i) (sym setter_is i) (sym parameter_is i))) in t)
+      ∙ ap (λ (s : ActionOf Text). let t : Result Request Cause = Ok (Perform s) in t) (accessor-mapped (name_at later) v c x setter parameter ∙ ap (map_action (name_at later)) (sym is))
+
+  pub accessors-known : {two later : List Text} (v : AccessorVerb) (c x setter parameter : ℕ) → ids ≡ c ∷ x ∷ [] → Grows names two → Grows two later → setter < length two → parameter < length later →
+      (r : ActionOf ℕ) → r ≡ accessor_action v c x setter parameter → ActionNames (λ n. n < length later) r
+  accessors-known {two} {later} v c x setter parameter e g j k l r is =
+      let all = subst (AllByRecursion known) e a.known in
+      let twice = Grows-twice g j in
+      subst (ActionNames (λ n. n < length later)) (sym is)
+      (accessor-known (λ n. n < length later) v c x setter parameter (number-grown twice c all.0) (number-grown twice x all.1.0) (number-grown j setter k) l)
 
   -- three names
   pub triple-said : (v : TripleVerb) (c x y : ℕ) → ids ≡ c ∷ x ∷ y ∷ [] → (r : CommandOf ℕ) → r ≡ triple_command v c x y → asked (verb.Triple v) ws ≡ Ok (Perform (Single (map_command (name_at names) r)))

@@ -1,7 +1,7 @@
 -- What commands do with the names behind their words.
 use Rattle.std.specs.Prelude.{Bool}
-use Rattle.command_model.specs.Commands.{CommandOf, RenameClass, AddInstVar, RenameInstVar, RemoveInstVar, PushUpInstVar, PushDownInstVar, AddClassVar, RenameClassVar, RemoveClassVar, PushUpClassVar, PushDownClassVar, AddClassSideVar, RenameClassSideVar, RemoveClassSideVar, RemoveMethod, PushUpMethod, PushDownMethod}
-use Rattle.session_model.specs.Actions.{ActionOf, Single, PushUpWithMethods}
+use Rattle.command_model.specs.Commands.{CommandOf, RenameClass, AddInstVar, RenameInstVar, RemoveInstVar, PushUpInstVar, PushDownInstVar, AddClassVar, RenameClassVar, RemoveClassVar, PushUpClassVar, PushDownClassVar, AddClassSideVar, RenameClassSideVar, RemoveClassSideVar, RemoveMethod, PushUpMethod, PushDownMethod, AbstractInstVar}
+use Rattle.session_model.specs.Actions.{ActionOf, Single, CreateAccessors, PushUpWithMethods}
 use Rattle.name_meanings.specs.declared.meaning.VariableKind.{VariableKind}
 use Rattle.name_meanings.specs.declared.meaning.VariableKind.TheVariants as kind
 use Rattle.script_lang.specs.declared.verb.PairVerb.{PairVerb}
@@ -10,6 +10,8 @@ use Rattle.script_lang.specs.declared.verb.TripleVerb.{TripleVerb}
 use Rattle.script_lang.specs.declared.verb.TripleVerb.TheVariants as triple
 use Rattle.script_lang.specs.declared.verb.MethodVerb.{MethodVerb}
 use Rattle.script_lang.specs.declared.verb.MethodVerb.TheVariants as method
+use Rattle.script_lang.specs.declared.verb.AccessorVerb.{AccessorVerb}
+use Rattle.script_lang.specs.declared.verb.AccessorVerb.TheVariants as accessor
 
 -- a variable of a kind comes, gets another name or goes
 abbrev pub adds : {N : Type 0} → VariableKind → N → N → CommandOf N
@@ -47,3 +49,8 @@ abbrev pub method_command : {N : Type 0} → MethodVerb → N → Bool → N →
 method_command method.Remove c meta s = RemoveMethod c meta s
 method_command method.PushUp c meta s = PushUpMethod c meta s
 method_command method.PushDown c meta s = PushDownMethod c meta s
+
+-- what it does with a class, a variable, the selector of its setter and what that one's argument is called
+abbrev pub accessor_action : {N : Type 0} → AccessorVerb → (c x setter parameter : N) → ActionOf N
+accessor_action accessor.Create c x setter parameter = CreateAccessors c x setter parameter
+accessor_action accessor.Abstract c x setter parameter = Single (AbstractInstVar c x setter parameter)

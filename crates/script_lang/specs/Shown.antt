@@ -9,10 +9,11 @@ use Rattle.session_model.specs.Scripts.{Request as Asked}
 use Rattle.name_meanings.specs.declared.meaning.VariableKind.{VariableKind}
 use Rattle.name_meanings.specs.declared.meaning.VariableKind.TheVariants as kind
 use Rattle.commands.specs.declared.command.MethodName.{MethodName}
+use Rattle.commands.specs.declared.command.MethodPart.{MethodPart}
 use Rattle.commands.specs.declared.command.Request.{Request}
 use Rattle.commands.specs.Views.{request_in, IsKnownRequest}
-use Rattle.script_model.specs.Words.{add_class, rename_class, remove_class, add_inst_var, rename_inst_var, remove_inst_var, push_up_inst_var, push_down_inst_var, add_class_var, rename_class_var, remove_class_var, push_up_class_var, push_down_class_var, add_class_side_var, rename_class_side_var, remove_class_side_var, rename_selector, remove_method, push_up_method, push_down_method, remove_parameter, rename_temp, create_accessors, extract_superclass, push_up_with_methods, undo, redo}
-use Rattle.script_model.specs.Arguments.{a_class, a_selector, argument, name, side_of, arguments_of, takes, method_and}
+use Rattle.script_model.specs.Words.{add_class, rename_class, remove_class, add_inst_var, rename_inst_var, remove_inst_var, push_up_inst_var, push_down_inst_var, add_class_var, rename_class_var, remove_class_var, push_up_class_var, push_down_class_var, add_class_side_var, rename_class_side_var, remove_class_side_var, rename_selector, remove_method, push_up_method, push_down_method, remove_parameter, rename_temp, abstract_inst_var, extract_method, inline_method, extract_temp, inline_temp, create_accessors, extract_superclass, push_up_with_methods, undo, redo}
+use Rattle.script_model.specs.Arguments.{a_class, a_selector, argument, name, side_of, number_of, arguments_of, takes, method_and, part_and}
 use Rattle.script_model.specs.Commands as script
 use Rattle.script_model.specs.Additions as added
 use Rattle.script_lang.specs.declared.verb.Verb.{Verb}
@@ -25,6 +26,10 @@ use Rattle.script_lang.specs.declared.verb.NewClassVerb.{NewClassVerb}
 use Rattle.script_lang.specs.declared.verb.NewClassVerb.TheVariants as new_class
 use Rattle.script_lang.specs.declared.verb.MethodVerb.{MethodVerb}
 use Rattle.script_lang.specs.declared.verb.MethodVerb.TheVariants as method
+use Rattle.script_lang.specs.declared.verb.AccessorVerb.{AccessorVerb}
+use Rattle.script_lang.specs.declared.verb.AccessorVerb.TheVariants as accessor
+use Rattle.script_lang.specs.declared.verb.ExtractVerb.{ExtractVerb}
+use Rattle.script_lang.specs.declared.verb.ExtractVerb.TheVariants as extract
 use Rattle.script_lang.specs.declared.additions.Addition.{Addition}
 use Rattle.script_lang.specs.declared.fault.ScriptFault.{ScriptFault}
 use Rattle.script_lang.specs.declared.fault.ScriptFault.TheVariants as fault
@@ -68,17 +73,29 @@ method_word method.Remove = remove_method
 method_word method.PushUp = push_up_method
 method_word method.PushDown = push_down_method
 
+-- the word of a command of a getter and a setter, and of one that puts a part of a method elsewhere
+abbrev pub accessor_word : AccessorVerb → List ℕ
+accessor_word accessor.Create = create_accessors
+accessor_word accessor.Abstract = abstract_inst_var
+
+abbrev pub extract_word : ExtractVerb → List ℕ
+extract_word extract.Method = extract_method
+extract_word extract.Temporary = extract_temp
+
 -- the word of a command
 abbrev pub word_of : Verb → List ℕ
 word_of verb.RemoveClass = remove_class
 word_of (verb.Pair v) = pair_word v
 word_of (verb.Triple v) = triple_word v
 word_of (verb.NewClass v) = new_class_word v
-word_of verb.CreateAccessors = create_accessors
+word_of (verb.Accessors v) = accessor_word v
 word_of verb.RenameSelector = rename_selector
 word_of (verb.Method v) = method_word v
 word_of verb.RemoveParameter = remove_parameter
 word_of verb.RenameTemporary = rename_temp
+word_of (verb.Extract v) = extract_word v
+word_of verb.InlineMethod = inline_method
+word_of verb.InlineTemporary = inline_temp
 word_of verb.Undo = undo
 word_of verb.Redo = redo
 
@@ -121,6 +138,16 @@ pub record IsMethodNamed (names : List (List ℕ)) (m : MethodName) (class side 
 -- they name none
 abbrev pub NamesNoMethod : (class side selector : List ℕ) → Type 0
 NamesNoMethod class side selector = arguments_of (takes (method_and [])) (class ∷ side ∷ selector ∷ []) ≡ None
+
+-- five words name a part of a method
+pub record IsPartNamed (names : List (List ℕ)) (p : MethodPart) (class side selector from to : List ℕ) : Type 0 where
+  pub method_is : IsMethodNamed names p.method class side selector
+  pub from_is : number_of from ≡ Some p.from
+  pub to_is : number_of to ≡ Some p.to
+
+-- they name none
+abbrev pub NamesNoPart : (class side selector from to : List ℕ) → Type 0
+NamesNoPart class side selector from to = arguments_of (takes (part_and [])) (class ∷ side ∷ selector ∷ from ∷ to ∷ []) ≡ None
 
 -- the parts of a method that is to be added
 abbrev pub addition_shown : Option Addition → Option added.Addition

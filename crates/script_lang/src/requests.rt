@@ -7,13 +7,15 @@ ghost use Rattle.commands.specs.Views.{action_of, command_of, request_in, IsKnow
 ghost use Rattle.script_lang.specs.declared.words.Wrong.TheVariants as wrong;
 ghost use Rattle.script_lang.specs.declared.verb.Verb.TheVariants as verbs;
 ghost use Rattle.script_lang.specs.Shown.{asked, texts};
-ghost use Rattle.script_lang.specs.Asking.{pair_action, triple_command, method_command};
+ghost use Rattle.script_lang.specs.Asking.{accessor_action, pair_action, triple_command, method_command};
 
-use crate::verb::{MethodVerb, NewClassVerb, PairVerb, TripleVerb, Verb};
-use crate::words::{
-    Wrong, identifier, identifiers, method_name, number, parameter, selector, setter,
+use crate::verb::{
+    AccessorVerb, ExtractVerb, MethodVerb, NewClassVerb, PairVerb, TripleVerb, Verb,
 };
-use commands::{Action, Command, MethodName, NewClass, Renaming, Request, VariableMove};
+use crate::words::{
+    Wrong, identifier, identifiers, method_name, method_part, number, parameter, selector, setter,
+};
+use commands::{Action, CodeMove, Command, MethodName, NewClass, Renaming, Request, VariableMove};
 use rb_base::{Ids, NameId, Names};
 use std::alloc::Global;
 
@@ -77,11 +79,42 @@ fn pair_request(
     Ok(Request::Perform(pair_action(verb, *class, *name)))
 }
 
-/// What `createAccessors` asks for with these words: a class and a variable.
-fn accessors(alloc: Global, words: &[&[u8]], names: &mut Names) -> Result<Request, Wrong>
-    ensures said { IfOk result (λ r. asked verbs.CreateAccessors (texts words.now) ≡ Ok (request_in names.new r)) }
+/// What a command does with a class, a variable, the selector of its setter and what that one's argument is called.
+fn accessor_action(
+    verb: AccessorVerb,
+    class: NameId,
+    variable: NameId,
+    setter: NameId,
+    parameter: NameId,
+) -> Action
+    ensures { action_of result ≡ accessor_action verb class variable setter parameter }
+{
+    match verb {
+        AccessorVerb::Create => Action::CreateAccessors {
+            class,
+            variable,
+            setter,
+            parameter,
+        },
+        AccessorVerb::Abstract => Action::Single(Command::MoveCode(CodeMove::AbstractVariable {
+            class,
+            variable,
+            setter,
+            parameter,
+        })),
+    }
+}
+
+/// What a command of the getter and the setter of a variable asks for with these words: a class and the variable.
+fn accessors(
+    alloc: Global,
+    verb: AccessorVerb,
+    words: &[&[u8]],
+    names: &mut Names,
+) -> Result<Request, Wrong>
+    ensures said { IfOk result (λ r. asked (verbs.Accessors verb) (texts words.now) ≡ Ok (request_in names.new r)) }
     ensures known { IfOk result (λ r. IsKnownRequest names.new r) }
-    ensures wrong { IfErr result (λ e. e ≡ wrong.Argument → asked verbs.CreateAccessors (texts words.now) ≡ Err BadArgument) }
+    ensures wrong { IfErr result (λ e. e ≡ wrong.Argument → asked (verbs.Accessors verb) (texts words.now) ≡ Err BadArgument) }
     ensures grows { Grows names.old names.new }
 {
     let ids = identifiers(alloc, words, names)?;
@@ -90,12 +123,8 @@ fn accessors(alloc: Global, words: &[&[u8]], names: &mut Names) -> Result<Reques
     };
     let setter = setter(alloc, *variable, names)?;
     let parameter = parameter(*variable, names)?;
-    Ok(Request::Perform(Action::CreateAccessors {
-        class: *class,
-        variable: *variable,
-        setter,
-        parameter,
-    }))
+    let action = accessor_action(verb, *class, *variable, setter, parameter);
+    Ok(Request::Perform(action))
 }
 
 /// What a command does with a class, a variable and another name.
@@ -251,6 +280,61 @@ fn rename_temporary(words: &[&[u8]], names: &mut Names) -> Result<Request, Wrong
     })))
 }
 
+/// What a command that puts a part of a method elsewhere asks for with these words: the part and a name.
+fn extract(verb: ExtractVerb, words: &[&[u8]], names: &mut Names) -> Result<Request, Wrong>
+    ensures said { IfOk result (λ r. asked (verbs.Extract verb) (texts words.now) ≡ Ok (request_in names.new r)) }
+    ensures known { IfOk result (λ r. IsKnownRequest names.new r) }
+    ensures wrong { IfErr result (λ e. e ≡ wrong.Argument → asked (verbs.Extract verb) (texts words.now) ≡ Err BadArgument) }
+    ensures grows { Grows names.old names.new }
+{
+    let [class, of_side, of_selector, from, to, name] = words else {
+        return Err(Wrong::Argument);
+    };
+    let part = method_part(class, of_side, of_selector, from, to, names)?;
+    match verb {
+        ExtractVerb::Method => {
+            let to = selector(name, names)?;
+            let moved = CodeMove::ExtractMethod { part, to };
+            Ok(Request::Perform(Action::Single(Command::MoveCode(moved))))
+        }
+        ExtractVerb::Temporary => {
+            let variable = identifier(name, names)?;
+            let moved = CodeMove::ExtractTemporary { part, variable };
+            Ok(Request::Perform(Action::Single(Command::MoveCode(moved))))
+        }
+    }
+}
+
+/// What `inlineMethod` asks for with these words: a part of a method.
+fn inline_method(words: &[&[u8]], names: &mut Names) -> Result<Request, Wrong>
+    ensures said { IfOk result (λ r. asked verbs.InlineMethod (texts words.now) ≡ Ok (request_in names.new r)) }
+    ensures known { IfOk result (λ r. IsKnownRequest names.new r) }
+    ensures wrong { IfErr result (λ e. e ≡ wrong.Argument → asked verbs.InlineMethod (texts words.now) ≡ Err BadArgument) }
+    ensures grows { Grows names.old names.new }
+{
+    let [class, of_side, of_selector, from, to] = words else {
+        return Err(Wrong::Argument);
+    };
+    let part = method_part(class, of_side, of_selector, from, to, names)?;
+    Ok(Request::Perform(Action::Single(Command::MoveCode(CodeMove::InlineMethod(part)))))
+}
+
+/// What `inlineTemp` asks for with these words: a method and a variable in it.
+fn inline_temporary(words: &[&[u8]], names: &mut Names) -> Result<Request, Wrong>
+    ensures said { IfOk result (λ r. asked verbs.InlineTemporary (texts words.now) ≡ Ok (request_in names.new r)) }
+    ensures known { IfOk result (λ r. IsKnownRequest names.new r) }
+    ensures wrong { IfErr result (λ e. e ≡ wrong.Argument → asked verbs.InlineTemporary (texts words.now) ≡ Err BadArgument) }
+    ensures grows { Grows names.old names.new }
+{
+    let [class, of_side, of_selector, variable] = words else {
+        return Err(Wrong::Argument);
+    };
+    let method = method_name(class, of_side, of_selector, names)?;
+    let variable = identifier(variable, names)?;
+    let moved = CodeMove::InlineTemporary { method, variable };
+    Ok(Request::Perform(Action::Single(Command::MoveCode(moved))))
+}
+
 /// A request that takes no words.
 fn without_words(words: &[&[u8]], request: Request) -> Result<Request, Wrong>
     ensures said { IfOk result (λ r. (r ≡ request) × (script.arguments_of (script.takes []) (texts words.now) ≡ Some [])) }
@@ -280,11 +364,14 @@ pub(crate) fn request_of(
         Verb::Pair(verb) => pair_request(alloc, verb, words, names),
         Verb::Triple(verb) => triple_request(alloc, verb, words, names),
         Verb::NewClass(verb) => new_class(alloc, verb, words, names),
-        Verb::CreateAccessors => accessors(alloc, words, names),
+        Verb::Accessors(verb) => accessors(alloc, verb, words, names),
         Verb::RenameSelector => rename_selector(words, names),
         Verb::Method(verb) => method_request(verb, words, names),
         Verb::RemoveParameter => remove_parameter(words, names),
         Verb::RenameTemporary => rename_temporary(words, names),
+        Verb::Extract(verb) => extract(verb, words, names),
+        Verb::InlineMethod => inline_method(words, names),
+        Verb::InlineTemporary => inline_temporary(words, names),
         Verb::Undo => without_words(words, Request::Undo),
         Verb::Redo => without_words(words, Request::Redo),
     }

@@ -1,6 +1,5 @@
 // The words of commands.
 ghost use Rattle.std.specs.Prelude.{◌≡◌, ℕ, List, ◌∷◌, Err, IfSome, IfNone};
-ghost use Rattle.std.specs.Borrow.{Bor};
 ghost use Rattle.std.specs.List.{list_any};
 ghost use Rattle.rb_base.specs.Names.{text_eq};
 ghost use Rattle.script_model.specs.Commands.{words_to_come, no_command, said_by};
@@ -21,8 +20,8 @@ pub(crate) enum Verb {
     Triple(TripleVerb),
     /// A new class, its superclass, and the classes that come under it.
     NewClass(NewClassVerb),
-    /// A class and a variable, which gets a getter and a setter.
-    CreateAccessors,
+    /// A class and an instance variable, which gets a setter.
+    Accessors(AccessorVerb),
     /// A selector and its new one.
     RenameSelector,
     /// A class, a side and a selector.
@@ -31,6 +30,12 @@ pub(crate) enum Verb {
     RemoveParameter,
     /// A method, a variable in it and its new name.
     RenameTemporary,
+    /// A part of a method, and the name of what it becomes.
+    Extract(ExtractVerb),
+    /// A part of a method.
+    InlineMethod,
+    /// A method and a variable in it.
+    InlineTemporary,
     /// Nothing.
     Undo,
     Redo,
@@ -73,8 +78,25 @@ pub(crate) enum MethodVerb {
     PushDown,
 }
 
+/// A command of the getter and the setter of an instance variable.
+#[derive(Clone, Copy)]
+pub(crate) enum AccessorVerb {
+    Create,
+    /// The variable is read and assigned by them.
+    Abstract,
+}
+
+/// A command that puts a part of a method elsewhere.
+#[derive(Clone, Copy)]
+pub(crate) enum ExtractVerb {
+    /// With the selector of the new method.
+    Method,
+    /// With the new temporary.
+    Temporary,
+}
+
 /// The words of the commands that are performed.
-const VERBS: [(&[u8], Verb); 27] = [
+const VERBS: [(&[u8], Verb); 32] = [
     (b"addClass", Verb::NewClass(NewClassVerb::Add)),
     (b"renameClass", Verb::Pair(PairVerb::RenameClass)),
     (b"removeClass", Verb::RemoveClass),
@@ -124,21 +146,16 @@ const VERBS: [(&[u8], Verb); 27] = [
     (b"pushDownMethod", Verb::Method(MethodVerb::PushDown)),
     (b"removeParameter", Verb::RemoveParameter),
     (b"renameTemp", Verb::RenameTemporary),
-    (b"createAccessors", Verb::CreateAccessors),
+    (b"abstractInstVar", Verb::Accessors(AccessorVerb::Abstract)),
+    (b"extractMethod", Verb::Extract(ExtractVerb::Method)),
+    (b"inlineMethod", Verb::InlineMethod),
+    (b"extractTemp", Verb::Extract(ExtractVerb::Temporary)),
+    (b"inlineTemp", Verb::InlineTemporary),
+    (b"createAccessors", Verb::Accessors(AccessorVerb::Create)),
     (b"extractSuperclass", Verb::NewClass(NewClassVerb::Extract)),
     (b"pushUpWithMethods", Verb::Pair(PairVerb::UpWithMethods)),
     (b"undo", Verb::Undo),
     (b"redo", Verb::Redo),
-];
-
-/// The words of commands that are still to come.
-const WORDS_TO_COME: [&[u8]; 6] = [
-    b"abstractInstVar",
-    b"extractMethod",
-    b"inlineMethod",
-    b"extractTemp",
-    b"inlineTemp",
-    b"applyRule",
 ];
 
 /// The command of the first row that has the word.
@@ -161,16 +178,9 @@ pub(crate) fn verb_of(word: &[u8]) -> Option<Verb>
     find_verb(word, &VERBS)
 }
 
-/// Whether the word is one of these.
-fn is_among(word: &[u8], words: &[&[u8]]) -> bool
-    ensures { result ≡ list_any (λ (other : Bor (List ℕ)). text_eq word.now other.now) words.now }
-{
-    words.iter().any(|other| same_text(word, other))
-}
-
 /// Whether the word is that of a command which is still to come.
 pub(crate) fn is_to_come(word: &[u8]) -> bool
     ensures { result ≡ list_any (text_eq word.now) words_to_come }
 {
-    is_among(word, &WORDS_TO_COME)
+    same_text(word, b"applyRule")
 }

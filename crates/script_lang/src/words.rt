@@ -7,11 +7,11 @@ ghost use Rattle.command_model.specs.Accessors as accessor;
 ghost use Rattle.event_trees.specs.Naming.{Grows};
 ghost use Rattle.script_model.specs.Arguments as script;
 ghost use Rattle.script_lang.specs.declared.words.Wrong.TheVariants as wrong;
-ghost use Rattle.script_lang.specs.Shown.{AreNames, IsMethodNamed, NamesNoMethod, texts};
+ghost use Rattle.script_lang.specs.Shown.{AreNames, IsMethodNamed, NamesNoMethod, IsPartNamed, NamesNoPart, texts};
 
 use crate::bytes::same_text;
 use command_words::number_of;
-use commands::MethodName;
+use commands::{MethodName, MethodPart};
 use rb_base::{Ids, Memory, NameId, Names, Text};
 use spelled_words::{is_identifier, is_selector};
 use std::alloc::{AllocError, Global};
@@ -144,6 +144,27 @@ pub(crate) fn method_name(
         meta,
         selector,
     })
+}
+
+/// The part of a method that five words name: its method, where it begins and where it ends.
+pub(crate) fn method_part(
+    class: &[u8],
+    of_side: &[u8],
+    of_selector: &[u8],
+    of_from: &[u8],
+    of_to: &[u8],
+    names: &mut Names,
+) -> Result<MethodPart, Wrong>
+    ensures said { IfOk result (λ p. IsPartNamed names.new p class.now of_side.now of_selector.now of_from.now of_to.now) }
+    ensures known { IfOk result (λ p. (p.method.class < length names.new) × (p.method.selector < length names.new)) }
+    ensures wrong { IfErr result (λ e. e ≡ wrong.Argument → NamesNoPart class.now of_side.now of_selector.now of_from.now of_to.now) }
+    ensures grows { Grows names.old names.new }
+{
+    let (Some(from), Some(to)) = (number(of_from), number(of_to)) else {
+        return Err(Wrong::Argument);
+    };
+    let method = method_name(class, of_side, of_selector, names)?;
+    Ok(MethodPart { method, from, to })
 }
 
 /// The name of the setter of a variable.

@@ -10,11 +10,10 @@ use Rattle.script_model.specs.Makers.{Text}
 use Rattle.script_model.specs.Parameters.{Parameter, parameter_of, literal_in, passing, Read, Wordless}
 use Rattle.history_model.specs.Rules.{Undo}
 use Rattle.session_model.specs.Scripts.{Request}
-use Rattle.script_model.specs.Lines.{words_of}
-use Rattle.script_model.specs.Commands.{Cause, Unbuilt, BadArgument, rows_to_come, said_among}
+use Rattle.script_model.specs.Commands.{Cause, Unbuilt, BadArgument}
 use Rattle.script_model.specs.Additions.{behind_word, Spelled, Incomplete}
 use Rattle.script_model.specs.Scripts.{said, adds_method, adds_parameter, LineSays, InWords, InText, InLiteral}
-use Rattle.script_model.specs.Examples.{Row, AllSaid, AllToCome, commands, lines_to_come, wrong_lines, wrong_additions, IsAddition, ParameterRow, AllPassed, wrong_parameters, parameters, IsExample, AllRefused, refused_scripts, HasLimit}
+use Rattle.script_model.specs.Examples.{Row, AllSaid, commands, wrong_lines, wrong_additions, IsAddition, ParameterRow, AllPassed, wrong_parameters, parameters, IsExample, AllRefused, refused_scripts, HasLimit}
 
 -- whether a line has nothing but words
 abbrev is_plain : Text → Bool
@@ -44,25 +43,9 @@ all_said (r ∷ rs) plain e =
     let p = and_both (is_plain r.line) (all_plain rs) plain in
     (in-words r.line r.says p.0 (sym first), all_said rs p.1 others)
 
--- rows that are still to come are right, likewise
-all_to_come : (rs : List Row) → all_plain rs ≡ true → map (λ (r : Row). said r.line) rs ≡ map (λ (r : Row). let s : Result Request Cause = Err Unbuilt in s) rs
-    → map (λ (r : Row). said_among rows_to_come (words_of r.line)) rs ≡ map (λ (r : Row). r.says) rs → AllToCome rs
-all_to_come [] plain now then = tt
-all_to_come (r ∷ rs) plain now then =
-    let p = and_both (is_plain r.line) (all_plain rs) plain in
-    let first : said r.line ≡ Err Unbuilt = cc in
-    let second : said_among rows_to_come (words_of r.line) ≡ r.says = cc in
-    let others : map (λ (s : Row). said s.line) rs ≡ map (λ (s : Row). let t : Result Request Cause = Err Unbuilt in t) rs = cc in
-    let more : map (λ (s : Row). said_among rows_to_come (words_of s.line)) rs ≡ map (λ (s : Row). s.says) rs = cc in
-    (in-words r.line (Err Unbuilt) p.0 (sym first), second, all_to_come rs p.1 others more)
-
 -- lines that ask for something
 pub says_commands : AllSaid commands
 says_commands = all_said commands refl refl
-
--- lines that are still to come
-pub will_say : AllToCome lines_to_come
-will_say = all_to_come lines_to_come refl refl refl
 
 -- lines that are wrong
 pub finds_wrong_lines : AllSaid wrong_lines
@@ -112,7 +95,7 @@ refuses_scripts = (
   record {
     before = [];
     line = codes "renameClass C 1";
-    after = codes "inlineTemp C" ∷ [];
+    after = codes "applyRule C" ∷ [];
     requests = [];
     parts = refl;
     numbered = refl;
@@ -123,7 +106,7 @@ refuses_scripts = (
   (
     record {
       before = [];
-      line = codes "inlineTemp C";
+      line = codes "applyRule C";
       after = codes "renameClass C 1" ∷ [];
       requests = [];
       parts = refl;
@@ -135,7 +118,7 @@ refuses_scripts = (
     (
       record {
         before = codes "undo" ∷ codes "--" ∷ [];
-        line = codes "inlineTemp C";
+        line = codes "applyRule C";
         after = codes "rename" ∷ [];
         requests = Undo ∷ [];
         parts = refl;

@@ -1,5 +1,5 @@
 -- The commands of scripts (Roberts 1999): by which word each begins, what stands behind it, and what they ask for together.
-use Rattle.std.specs.Prelude.{if◌then◌else◌, List, [], ◌∷◌, ◌++◌, map, Result, Ok, Err, find}
+use Rattle.std.specs.Prelude.{if◌then◌else◌, List, [], ◌∷◌, Result, Ok, Err, find}
 use Rattle.std.specs.List.{list_any}
 use Rattle.std.specs.Option.{option_map_or, option_and_then}
 use Rattle.rb_base.specs.Names.{text_eq}
@@ -46,6 +46,11 @@ table =
     ∷ row push_down_method (takes (method_and [])) (of_method (λ c meta s. single (PushDownMethod c meta s)))
     ∷ row remove_parameter (takes (a_selector ∷ a_number ∷ a_selector ∷ [])) (of_parameter (λ s k t. single (RemoveParameter s k t)))
     ∷ row rename_temp (takes (method_and (a_variable ∷ a_variable ∷ []))) (of_local_to (λ c meta s x y. single (RenameTemp c meta s x y)))
+    ∷ row abstract_inst_var (takes (a_class ∷ a_variable ∷ [])) (of_two (λ c x. single (AbstractInstVar c x (setter_selector x) (setter_argument x))))
+    ∷ row extract_method (takes (part_and (a_selector ∷ []))) (of_part_to (λ c meta s from to t. single (ExtractMethod c meta s from to t)))
+    ∷ row inline_method (takes (part_and [])) (of_part (λ c meta s from to. single (InlineMethod c meta s from to)))
+    ∷ row extract_temp (takes (part_and (a_variable ∷ []))) (of_part_to (λ c meta s from to x. single (ExtractTemp c meta s from to x)))
+    ∷ row inline_temp (takes (method_and (a_variable ∷ []))) (of_local (λ c meta s x. single (InlineTemp c meta s x)))
     ∷ row create_accessors (takes (a_class ∷ a_variable ∷ [])) (of_two (λ c x. Perform (CreateAccessors c x (setter_selector x) (setter_argument x))))
     ∷ row extract_superclass (takes_classes_behind (a_class ∷ a_class ∷ a_class ∷ [])) (of_classes (λ d p under. Perform (ExtractSuperclass d p under)))
     ∷ row push_up_with_methods (takes (a_class ∷ a_variable ∷ [])) (of_two (λ c x. Perform (PushUpWithMethods c x)))
@@ -53,19 +58,9 @@ table =
     ∷ row redo (takes []) (of_none Redo)
     ∷ []
 
--- the commands that are still to come, as they will stand in the table
-abbrev pub rows_to_come : List Row
-rows_to_come =
-    row abstract_inst_var (takes (a_class ∷ a_variable ∷ [])) (of_two (λ c x. single (AbstractInstVar c x (setter_selector x) (setter_argument x))))
-    ∷ row extract_method (takes (part_and (a_selector ∷ []))) (of_part_to (λ c meta s from to t. single (ExtractMethod c meta s from to t)))
-    ∷ row inline_method (takes (part_and [])) (of_part (λ c meta s from to. single (InlineMethod c meta s from to)))
-    ∷ row extract_temp (takes (part_and (a_variable ∷ []))) (of_part_to (λ c meta s from to x. single (ExtractTemp c meta s from to x)))
-    ∷ row inline_temp (takes (method_and (a_variable ∷ []))) (of_local (λ c meta s x. single (InlineTemp c meta s x)))
-    ∷ []
-
--- the words of commands that are still to come; one of them takes more than words behind its own
+-- the words of commands that are still to come
 abbrev pub words_to_come : List Text
-words_to_come = map (λ (r : Row). r.word) rows_to_come ++ apply_rule ∷ []
+words_to_come = apply_rule ∷ []
 
 -- Why a line is wrong: its first word is no command's; it is that of a command which is still to come; the command takes other words; or there are as many commands before it as there may be.
 pub data Cause : Type 0 where

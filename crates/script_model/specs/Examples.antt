@@ -8,9 +8,8 @@ use Rattle.command_model.specs.Commands.{CommandOf, RenameClass, AddClass, Remov
 use Rattle.history_model.specs.Rules.{Perform, Undo, Redo}
 use Rattle.session_model.specs.Actions.{ActionOf, CreateAccessors, ExtractSuperclass, PushUpWithMethods}
 use Rattle.session_model.specs.Scripts.{Request}
-use Rattle.script_model.specs.Lines.{words_of}
 use Rattle.script_model.specs.Makers.{Text, single}
-use Rattle.script_model.specs.Commands.{Cause, UnknownCommand, Unbuilt, BadArgument, TooMany, rows_to_come, said_among}
+use Rattle.script_model.specs.Commands.{Cause, UnknownCommand, Unbuilt, BadArgument, TooMany}
 use Rattle.script_model.specs.Scripts.{said, LineSays, Says, cause_of, IsRefused}
 
 -- a line, and what it asks for
@@ -22,11 +21,6 @@ pub record Row : Type 0 where
 abbrev pub AllSaid : List Row → Type 0
 AllSaid [] = Unit {0}
 AllSaid (r ∷ rs) = LineSays r.line r.says × AllSaid rs
-
--- each row is one that is still to come, and is as the definition will have it
-abbrev pub AllToCome : List Row → Type 0
-AllToCome [] = Unit {0}
-AllToCome (r ∷ rs) = LineSays r.line (Err Unbuilt) × (said_among rows_to_come (words_of r.line) ≡ r.says) × AllToCome rs
 
 -- a line that asks for something, for a command, and for a composite; and one that asks for nothing
 abbrev pub asks : Text → Request → Row
@@ -85,6 +79,11 @@ commands =
     ∷ performs (codes "removeParameter  x: 0 x") (RemoveParameter (codes "x:") 0 x)
     ∷ performs (codes "removeParameter + 999999999 x") (RemoveParameter (codes "+") 999999999 x)
     ∷ performs (codes "renameTemp C instance at:put: x y") (RenameTemp c false put x y)
+    ∷ performs (codes "abstractInstVar C x") (AbstractInstVar c x (codes "x:") (codes "anObject"))
+    ∷ performs (codes "extractMethod C instance x 0 12 at:put:") (ExtractMethod c false x 0 12 put)
+    ∷ performs (codes "inlineMethod C instance x 8 999999999") (InlineMethod c false x 8 999999999)
+    ∷ performs (codes "extractTemp C instance x 8 13 y") (ExtractTemp c false x 8 13 y)
+    ∷ performs (codes "inlineTemp C class x y") (InlineTemp c true x y)
     ∷ composes (codes "createAccessors C x") (CreateAccessors c x (codes "x:") (codes "anObject"))
     ∷ composes (codes "createAccessors C anObject") (CreateAccessors c (codes "anObject") (codes "anObject:") (codes "aValue"))
     ∷ composes (codes "extractSuperclass C D C") (ExtractSuperclass c d (c ∷ []))
@@ -93,23 +92,16 @@ commands =
     ∷ asks (codes "redo") Redo
     ∷ []
 
--- lines of commands that are still to come
-abbrev pub lines_to_come : List Row
-lines_to_come =
-    performs (codes "abstractInstVar C x") (AbstractInstVar c x (codes "x:") (codes "anObject"))
-    ∷ performs (codes "extractMethod C instance x 0 12 at:put:") (ExtractMethod c false x 0 12 put)
-    ∷ performs (codes "inlineMethod C instance x 8 999999999") (InlineMethod c false x 8 999999999)
-    ∷ performs (codes "extractTemp C instance x 8 13 y") (ExtractTemp c false x 8 13 y)
-    ∷ performs (codes "inlineTemp C class x y") (InlineTemp c true x y)
-    ∷ []
-
 abbrev pub wrong_lines : List Row
 wrong_lines =
     wrong (codes "rename C D") UnknownCommand
     ∷ wrong (codes "RenameClass C D") UnknownCommand
     ∷ wrong (codes " -- C") UnknownCommand
     ∷ wrong (codes "applyRule") Unbuilt
-    ∷ wrong (codes "inlineTemp A") Unbuilt
+    ∷ wrong (codes "inlineTemp A") BadArgument
+    ∷ wrong (codes "extractMethod C instance x 0 12") BadArgument
+    ∷ wrong (codes "inlineMethod C instance x 08 12") BadArgument
+    ∷ wrong (codes "extractTemp C instance x 8 13 y:") BadArgument
     ∷ wrong (codes "renameClass C") BadArgument
     ∷ wrong (codes "renameClass C D C") BadArgument
     ∷ wrong (codes "renameClass C 1") BadArgument
@@ -215,9 +207,9 @@ refused text at cause = record { text = text; number = at; cause = cause }
 -- of several wrong lines the first is told, whatever its cause
 abbrev pub refused_scripts : List RefusedRow
 refused_scripts =
-    refused (codes "renameClass C 1" ++ 10 ∷ codes "inlineTemp C") 1 BadArgument
-    ∷ refused (codes "inlineTemp C" ++ 10 ∷ codes "renameClass C 1") 1 Unbuilt
-    ∷ refused (codes "undo" ++ 10 ∷ codes "--" ++ 10 ∷ codes "inlineTemp C" ++ 10 ∷ codes "rename") 3 Unbuilt
+    refused (codes "renameClass C 1" ++ 10 ∷ codes "applyRule C") 1 BadArgument
+    ∷ refused (codes "applyRule C" ++ 10 ∷ codes "renameClass C 1") 1 Unbuilt
+    ∷ refused (codes "undo" ++ 10 ∷ codes "--" ++ 10 ∷ codes "applyRule C" ++ 10 ∷ codes "rename") 3 Unbuilt
     ∷ []
 
 -- behind 9,999 commands there is room for one; behind 10,000 a line that asks for something is one too many, and one that is wrong in another way is told so
@@ -226,4 +218,4 @@ HasLimit =
     (cause_of 9999 (said (codes "undo")) ≡ None)
     × (cause_of 10000 (said (codes "undo")) ≡ Some TooMany)
     × (cause_of 10000 (said (codes "undo x")) ≡ Some BadArgument)
-    × (cause_of 10000 (said (codes "inlineTemp C")) ≡ Some Unbuilt)
+    × (cause_of 10000 (said (codes "applyRule C")) ≡ Some Unbuilt)

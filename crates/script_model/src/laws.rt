@@ -3,18 +3,16 @@ ghost use Rattle.std.specs.Prelude.{◌≡◌, ◌⊎◌, ℕ, List};
 ghost use Rattle.session_model.specs.Scripts.{Request};
 ghost use Rattle.script_model.specs.Commands.{Cause};
 ghost use Rattle.script_model.specs.Scripts.{Says, IsRefused};
-ghost use Rattle.script_model.specs.Examples.{AllSaid, AllToCome, AllRefused, commands, lines_to_come, wrong_lines, wrong_additions, IsAddition, AllPassed, wrong_parameters, parameters, IsExample, refused_scripts, HasLimit};
+ghost use Rattle.script_model.specs.Examples.{AllSaid, AllRefused, commands, wrong_lines, wrong_additions, IsAddition, AllPassed, wrong_parameters, parameters, IsExample, refused_scripts, HasLimit};
 
 use grammar_model::spells_method_or_has_fault;
 
 /// Lines ask for what stands beside them, those of each command that is performed once, or are wrong with the cause that
 /// stands beside them; a line of `addMethod` asks for the method that its text spells, and one of `addParameter` for the
-/// literal that its text is; those of commands that are still to come are told as such, and will ask for what stands beside
-/// them. A script with lines of all sorts asks for what stands beside it. Of scripts with several wrong lines the first is
+/// literal that its text is; that of a command which is still to come is told as such. A script with lines of all sorts asks for what stands beside it. Of scripts with several wrong lines the first is
 /// told; and there are at most 10,000 commands.
 pub fn judges_examples()
     ensures commands { AllSaid commands }
-    ensures to_come { AllToCome lines_to_come }
     ensures wrong_lines { AllSaid wrong_lines }
     ensures wrong_additions { AllSaid wrong_additions }
     ensures addition { IsAddition }

@@ -1,8 +1,13 @@
-use Rattle.std.proofs.Common.{ℕ, List, ◌++◌, ap, ◌∙◌}
+use Rattle.std.proofs.Common.{ℕ, List, ◌++◌, sym, ap, subst, ◌∙◌}
+use Rattle.class_table.specs.Slots.{Slots}
 use Rattle.class_table.specs.View.{image_of}
+use Rattle.commands.specs.Views.{HasSelf}
 use Rattle.file_model.specs.Written.{file_of}
 use Rattle.applied_scripts.proofs.Answering.{performed, refused}
 use Rattle.applied_scripts.proofs.apply.perform_counted.Goals as goal
+
+pub perform_all-requires-clause-self_known : goal.perform_all-requires-clause-self_known
+perform_all-requires-clause-self_known g c = subst (λ (s : Slots). HasSelf s.names) (sym c.reindex.ensures) c.requires.self_known
 
 pub returns-in-Ok : goal.returns-in-Ok
 returns-in-Ok g c =

@@ -1,11 +1,8 @@
-use Rattle.script_model.proofs.ExamplesJudged.{says_commands, will_say, finds_wrong_lines, finds_wrong_additions, adds, finds_wrong_parameters, passes_parameters, says_script, refuses_scripts, has_limit}
+use Rattle.script_model.proofs.ExamplesJudged.{says_commands, finds_wrong_lines, finds_wrong_additions, adds, finds_wrong_parameters, passes_parameters, says_script, refuses_scripts, has_limit}
 use Rattle.script_model.proofs.laws.judges_examples.Goals as goal
 
 pub returns-clause-commands : goal.returns-clause-commands
 returns-clause-commands c = says_commands
-
-pub returns-clause-to_come : goal.returns-clause-to_come
-returns-clause-to_come c = will_say
 
 pub returns-clause-wrong_lines : goal.returns-clause-wrong_lines
 returns-clause-wrong_lines c = finds_wrong_lines

@@ -1,0 +1,16 @@
+use Rattle.std.proofs.Common.{arith}
+use Rattle.script_lang.proofs.MethodWords.{inlined-count, inlined-said}
+use Rattle.script_lang.proofs.requests.inline_temporary.Goals.{in_default-via-then-words-lt4, in_default-via-else-words-lt4+else-words-lt5}
+use Rattle.script_lang.proofs.requests.inline_temporary.Goals as goal
+
+pub returns-in_default-clause-wrong : goal.returns-in_default-clause-wrong
+returns-in_default-clause-wrong c = λ _.
+    elim c.in_default.branch [
+      | in_default-via-then-words-lt4 w ↦ inlined-count c.args.words.now (λ e. grind (arith, e))
+      | in_default-via-else-words-lt4+else-words-lt5 w ↦ inlined-count c.args.words.now (λ e. grind (arith, e))
+    ]
+
+pub returns-clause-said : goal.returns-clause-said
+returns-clause-said c =
+    inlined-said c.args.words.now _ _ _ _ (omega (arith, c.in-len4.len_at_least, c.in-len4.len_below)) c.method_name.new.names c.identifier.new.names
+    c.in_ok-method.method c.in_ok-variable.variable c.in_ok-variable.ensures.grows c.in_ok-method.ensures.known c.in_ok-method.ensures.said c.in_ok-variable.ensures.said
