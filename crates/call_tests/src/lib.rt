@@ -11,6 +11,8 @@ mod outside;
 #[cfg(test)]
 mod parts;
 #[cfg(test)]
+mod patterns;
+#[cfg(test)]
 mod places;
 #[cfg(test)]
 mod rooms;
