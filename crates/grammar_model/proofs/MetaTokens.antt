@@ -13,13 +13,14 @@ use Rattle.token_model.specs.declared.kind.TokenKind.TheVariants.{Identifier, Ke
 use Rattle.token_model.specs.declared.fault.LexFault.{LexFault}
 use Rattle.token_model.proofs.RunLemmas.{IsRun-same, IsRun-inside, Has-inside}
 use Rattle.token_model.proofs.Leads.{lead, lead_of_token, same_normal}
+use Rattle.token_model.proofs.Ends.{IsName-same, IsKeyword-same, identifier_or_keyword}
 use Rattle.token_model.proofs.OneToken.{IsToken-same}
-use Rattle.token_model.proofs.Spans.{IsSpan, IsToken-cases}
+use Rattle.token_model.proofs.Spans.{IsSpan, IsName-span, IsKeyword-span, IsToken-cases}
 use Rattle.token_model.proofs.Exist.{run_ends, word_begins}
 use Rattle.token_model.proofs.Begins.{begins}
 use Rattle.token_model.proofs.Lists.{FaultsAs-same}
 use Rattle.grammar_model.specs.Terminal.{Text}
-use Rattle.grammar_model.specs.PatternTokens.{mark_at, behind_mark, MayMark, IsMeta, IsPatternToken, IsPatternNext, IsPatternNextFault, HasPatternTokens, Ended, Stopped, Further}
+use Rattle.grammar_model.specs.PatternTokens.{mark_at, behind_mark, MayMark, IsMetaWord, IsMeta, IsPatternToken, IsPatternNext, IsPatternNextFault, HasPatternTokens, Ended, Stopped, Further}
 
 -- no token of another text begins at a backquote
 pub quote_or_token : (d : Dialect) (kind : TokenKind) (t : Text) (i j : ℕ) → Has t i 96 → IsToken d kind t i j → ⊥
@@ -52,21 +53,35 @@ behind_after t m = decide (get_or t m 0 == 46) (get_or t (m + 1) 0 == 64) (get_o
     decide false b true = omega arith
     decide false b false = omega arith
 
+-- a word behind a mark is some bytes of the text
+word_span : (b : ℕ) (kind : TokenKind) (t : Text) (i j : ℕ) → MayMark b kind → IsMetaWord b kind t i j → IsSpan t i j
+word_span b Identifier t i j may h = IsName-span t i j h.0
+word_span b Keyword t i j may h = IsKeyword-span t i j h
+word_span b kind t i j may h = absurd may
+
+-- behind a mark stands one word
+word_same : (b : ℕ) (k m : TokenKind) (t : Text) (i j n : ℕ) → MayMark b k → MayMark b m → IsMetaWord b k t i j → IsMetaWord b m t i n → (k ≡ m) × (j ≡ n)
+word_same b Identifier Identifier t i j n may might h g = (refl, IsName-same t i j n h.0 g.0)
+word_same b Identifier Keyword t i j n may might h g = absurd (identifier_or_keyword t i j n (h.0, h.1 might.0 might.1) g)
+word_same b Keyword Identifier t i j n may might h g = absurd (identifier_or_keyword t i n j (g.0, g.1 may.0 may.1) h)
+word_same b Keyword Keyword t i j n may might h g = (refl, IsKeyword-same t i j n h g)
+word_same b Identifier m t i j n may might h g = absurd might
+word_same b Keyword m t i j n may might h g = absurd might
+word_same b k m t i j n may might h g = absurd may
+
 -- a metavariable is some bytes of the text
 pub meta_span : (kind : TokenKind) (t : Text) (i j : ℕ) → IsMeta kind t i j → IsSpan t i j
 meta_span kind t i j h =
     let before : i < behind_mark t (mark_at t i) = omega (arith, mark_after t i, behind_after t (mark_at t i)) in
-    elim (IsToken-cases Second kind t (behind_mark t (mark_at t i)) j h.word) [
-      | inl (e, _, _) ↦ absurd (subst (MayMark (get_or t (mark_at t i) 0)) e h.mark)
-      | inr s ↦ record { some = omega (arith, before, s.some); inside = s.inside }
-    ]
+    let word = word_span (get_or t (mark_at t i) 0) kind t (behind_mark t (mark_at t i)) j h.mark h.word in
+    record { some = omega (arith, before, word.some); inside = word.inside }
 
 -- at a place at most one token of a pattern begins
 pub IsPatternToken-same : (d : Dialect) (k m : TokenKind) (t : Text) (i j n : ℕ) → IsPatternToken d k t i j → IsPatternToken d m t i n → (k ≡ m) × (j ≡ n)
 IsPatternToken-same d k m t i j n (inl h) (inl g) = IsToken-same d k m t i j n h g
 IsPatternToken-same d k m t i j n (inl h) (inr g) = absurd (quote_or_token d k t i j g.quote h)
 IsPatternToken-same d k m t i j n (inr h) (inl g) = absurd (quote_or_token d m t i n h.quote g)
-IsPatternToken-same d k m t i j n (inr h) (inr g) = IsToken-same Second k m t (behind_mark t (mark_at t i)) j n h.word g.word
+IsPatternToken-same d k m t i j n (inr h) (inr g) = word_same (get_or t (mark_at t i) 0) k m t (behind_mark t (mark_at t i)) j n h.mark g.mark h.word g.word
 
 -- a token of a pattern is the end, or it is some bytes of the text
 pub IsPatternToken-cases : (d : Dialect) (kind : TokenKind) (t : Text) (i j : ℕ) → IsPatternToken d kind t i j → ((kind ≡ End) × (i ≡ length t) × (j ≡ i)) ⊎ IsSpan t i j
@@ -84,12 +99,12 @@ malformed d t i le q none = elim (begins d t i le) [
   | inr (fault, h) ↦ inr (fault, none, h)
 ]
 
--- a keyword behind its mark is a metavariable or none
-key_begins : (d : Dialect) (t : Text) (i j : ℕ) → i ≤ length t → Has t i 96 → IsToken Second Keyword t (behind_mark t (mark_at t i)) j → PatternBegins d t i
-key_begins d t i j le q h = elim (cases_eq (get_or t (mark_at t i) 0) 35) [
-  | inl hash ↦ malformed d t i le q (λ kind n g. let same = IsToken-same Second kind Keyword t (behind_mark t (mark_at t i)) n j g.word h in (subst (MayMark (get_or t (mark_at t i) 0)) same.0 g.mark).0 hash)
+-- the name of a keyword behind # or . is a metavariable, and so is a keyword behind another mark
+key_begins : (d : Dialect) (t : Text) (i j : ℕ) → Has t i 96 → IsToken Second Keyword t (behind_mark t (mark_at t i)) j → PatternBegins d t i
+key_begins d t i j q h = elim (cases_eq (get_or t (mark_at t i) 0) 35) [
+  | inl hash ↦ inl (Identifier, h.colon, inr (record { quote = q; mark = tt; word = (h.name, λ no_hash. absurd (no_hash hash)) }))
   | inr no_hash ↦ elim (cases_eq (get_or t (mark_at t i) 0) 46) [
-    | inl point ↦ malformed d t i le q (λ kind n g. let same = IsToken-same Second kind Keyword t (behind_mark t (mark_at t i)) n j g.word h in (subst (MayMark (get_or t (mark_at t i) 0)) same.0 g.mark).1 point)
+    | inl point ↦ inl (Identifier, h.colon, inr (record { quote = q; mark = tt; word = (h.name, λ _ no_point. absurd (no_point point)) }))
     | inr no_point ↦ inl (Keyword, j, inr (record { quote = q; mark = (no_hash, no_point); word = h }))
   ]
 ]
@@ -99,8 +114,8 @@ quote_begins : (d : Dialect) (t : Text) (i : ℕ) → i ≤ length t → Has t i
 quote_begins d t i le q = elim (cases_Bool (is_letter (get_or t (behind_mark t (mark_at t i)) 0))) [
   | inr fails ↦ malformed d t i le q (λ kind j h. false≢true (sym fails ∙ meta_letter kind t i j h))
   | inl letter ↦ elim (word_begins t (behind_mark t (mark_at t i)) letter) [
-    | inl (j, word) ↦ inl (Identifier, j, inr (record { quote = q; mark = tt; word = word }))
-    | inr (j, word) ↦ key_begins d t i j le q word
+    | inl (j, word) ↦ inl (Identifier, j, inr (record { quote = q; mark = tt; word = (word.0, λ _ _. word.1) }))
+    | inr (j, word) ↦ key_begins d t i j q word
   ]
 ]
 

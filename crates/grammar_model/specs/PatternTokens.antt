@@ -1,7 +1,7 @@
 -- Tokens of patterns: those of other texts, and metavariables, which begin with a backquote.
 use Rattle.std.specs.Prelude.{◌≡◌, ◌≢◌, ℕ, ◌+◌, ◌==◌, ◌||◌, ◌⊎◌, if◌then◌else◌, Bool, List, [], ◌∷◌, slice_index, Option, Some, None}
 use Rattle.token_model.specs.Bytes.{is_blank, Has, IsRun}
-use Rattle.token_model.specs.Tokens.{IsToken}
+use Rattle.token_model.specs.Tokens.{IsName, HasColon, IsToken}
 use Rattle.token_model.specs.Faults.{IsFault}
 use Rattle.token_model.specs.TokenLists.{Piece, IsNext, IsNextFault, HasTokens}
 use Rattle.token_model.specs.declared.kind.Dialect.{Dialect}
@@ -31,11 +31,16 @@ MayMark b token.Identifier = Unit {0}
 MayMark b token.Keyword = (b ≢ 35) × (b ≢ 46)
 MayMark b k = ⊥
 
+-- the word behind a mark with this first byte: behind # and . a name, whatever follows it, and else a token
+abbrev pub IsMetaWord : ℕ → TokenKind → Text → ℕ → ℕ → Type 0
+IsMetaWord b token.Identifier t i j = IsName t i j × (b ≢ 35 → b ≢ 46 → ¬ HasColon t j)
+IsMetaWord b kind t i j = IsToken Second kind t i j
+
 -- A metavariable, `x, `#x, `@x, `.x, `.@x, `k: or `@k:, with one backquote or two. It is of the kind of its word.
 pub record IsMeta (kind : TokenKind) (t : Text) (i j : ℕ) : Type 0 where
   pub quote : Has t i 96
   pub mark : MayMark (slice_index t (mark_at t i)) kind
-  pub word : IsToken Second kind t (behind_mark t (mark_at t i)) j
+  pub word : IsMetaWord (slice_index t (mark_at t i)) kind t (behind_mark t (mark_at t i)) j
 
 -- the bytes of the text from i up to j are a token of a pattern
 abbrev pub IsPatternToken : Dialect → TokenKind → Text → ℕ → ℕ → Type 0

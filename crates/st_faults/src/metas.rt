@@ -1,13 +1,14 @@
 // Metavariables of patterns, and the tokens of texts of any form.
-ghost use Rattle.std.specs.Prelude.{◌≡◌, ◌≤◌, ℕ, length, slice_index, option_map, IfOk, IfErr, IfSome, IfNone, IsTrue, ◌↔◌};
+ghost use Rattle.std.specs.Prelude.{◌≡◌, ◌≢◌, ◌≤◌, ℕ, length, slice_index, option_map, IfOk, IfErr, IfSome, IfNone};
 ghost use Rattle.token_model.specs.Bytes.{Has};
+ghost use Rattle.token_model.specs.Tokens.{IsToken};
 ghost use Rattle.token_model.specs.TokenLists.{IsNextFault};
 ghost use Rattle.token_model.specs.declared.kind.Dialect.TheVariants.{Second};
 ghost use Rattle.token_model.specs.declared.kind.TokenKind.{TokenKind};
 ghost use Rattle.tree_model.specs.Tree.{LiteralOf};
 ghost use Rattle.st_lexer.specs.Pieces.{piece, IsSliceOf};
 ghost use Rattle.grammar_model.specs.Terminal.{Text};
-ghost use Rattle.grammar_model.specs.PatternTokens.{mark_at, behind_mark, MayMark, IsMeta, IsPatternNext, IsPatternNextFault, IsNextOf, IsNextFaultOf, meta_name_of, meta_keyword_of, terminal_in};
+ghost use Rattle.grammar_model.specs.PatternTokens.{mark_at, behind_mark, MayMark, IsMetaWord, IsMeta, IsPatternNext, IsPatternNextFault, IsNextOf, IsNextFaultOf, meta_name_of, meta_keyword_of, terminal_in};
 ghost use Rattle.st_faults.specs.Sorts.{terminal};
 ghost use Rattle.st_faults.specs.Forms.{form_of};
 ghost use Rattle.st_faults.specs.Lexing.{literal_of};
@@ -63,14 +64,24 @@ fn word_place(text: &[u8], mark: usize) -> usize
     }
 }
 
-/// Whether a word of the kind may stand behind a mark that begins with the byte.
-fn may_mark(first: u8, kind: TokenKind) -> bool
-    ensures { IsTrue result ↔ MayMark first kind }
+/// The kind and the end of the metavariable's word that this token gives behind the mark at a place, or `None` where it
+/// gives none. Behind `#` and `.` a keyword gives its name, without the colon.
+fn marked_word(text: &[u8], mark: usize, word: &Token<'_>) -> Option<(TokenKind, usize)>
+    requires { IsToken Second word.now.kind text.now word.now.from word.now.to }
+    ensures may { IfSome result (λ found. MayMark (slice_index text.now mark) found.0) }
+    ensures some { IfSome result (λ found. IsMetaWord (slice_index text.now mark) found.0 text.now word.now.from found.1) }
+    ensures inside { IfSome result (λ found. found.1 ≤ word.now.to) }
+    ensures no_identifier { IfNone result (word.now.kind ≢ TokenKind.Identifier) }
+    ensures no_keyword { IfNone result (word.now.kind ≢ TokenKind.Keyword) }
 {
-    match kind {
-        TokenKind::Identifier => true,
-        TokenKind::Keyword => first != b'#' && first != b'.',
-        _ => false,
+    let first = byte_at(text, mark);
+    match word.kind {
+        TokenKind::Identifier => Some((TokenKind::Identifier, word.to)),
+        TokenKind::Keyword if first == b'#' || first == b'.' => {
+            Some((TokenKind::Identifier, word.to - 1))
+        }
+        TokenKind::Keyword => Some((TokenKind::Keyword, word.to)),
+        _ => None,
     }
 }
 
@@ -87,8 +98,8 @@ fn meta_at(text: &[u8], from: usize) -> Option<(TokenKind, usize)>
     let Ok(word) = next_token(text, place) else {
         return None;
     };
-    if word.from == place && may_mark(byte_at(text, mark), word.kind) {
-        Some((word.kind, word.to))
+    if word.from == place {
+        marked_word(text, mark, &word)
     } else {
         None
     }
