@@ -30,7 +30,7 @@ fn kind_number(kind: MetaKind) -> u8
 }
 
 /// Whether both are one metavariable: of one kind and name.
-pub(crate) fn same_meta(a: Meta, b: Meta) -> bool
+pub fn same_meta(a: Meta, b: Meta) -> bool
     ensures { result ≡ same_meta nat_eq (meta_of a) (meta_of b) }
 {
     kind_number(a.kind) == kind_number(b.kind) && a.name.0 == b.name.0

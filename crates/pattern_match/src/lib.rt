@@ -11,8 +11,10 @@ mod standing;
 mod walk;
 mod words;
 
+pub use agreeing::same_meta;
 pub use bindings::{Binding, Bound, match_at};
 pub use laws::law_numbers;
 pub use matching::match_places;
 pub use searching::all_matches;
 pub use standing::{Part, Place, Standing};
+pub use walk::list_meta;

@@ -464,7 +464,7 @@ fn messages_places<'n>(
 }
 
 /// The metavariable for a list of statements, where the statement is one.
-fn list_meta(statement: &PatternStatement) -> Option<Meta>
+pub fn list_meta(statement: &PatternStatement) -> Option<Meta>
     ensures { option_map meta_of result ≡ list_meta statement.now.node }
 {
     match &statement.node.kind {

@@ -1,0 +1,6 @@
+pub mod SecondLists
+pub mod MetaPlaces
+pub mod Again
+pub mod PatternsSame
+pub mod Numbers
+pub mod Said

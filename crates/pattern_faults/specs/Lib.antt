@@ -1,0 +1,4 @@
+pub mod Lists
+pub mod Metas
+pub mod Placed
+pub mod Told

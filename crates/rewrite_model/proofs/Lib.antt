@@ -1,0 +1,3 @@
+mod OnePattern
+mod OneRule
+mod OneList
