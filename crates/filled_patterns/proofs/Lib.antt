@@ -1,0 +1,6 @@
+mod Growing
+mod Looked
+mod Chosen
+mod Joining
+mod Parts
+mod Lists

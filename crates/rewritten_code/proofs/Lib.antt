@@ -1,0 +1,9 @@
+pub mod PatternsSame
+pub mod Growing
+pub mod NamesBound
+pub mod LowerBound
+pub mod Steps
+pub mod Written
+pub mod Matching
+pub mod NodeKinds
+pub mod Bodies
