@@ -14,5 +14,6 @@ mod titles;
 mod uses;
 
 pub use answers::report;
+pub use lines::write_line;
 pub use query::Query;
-pub use titles::{method_title, text_of};
+pub use titles::{doit_title, method_title, text_of};

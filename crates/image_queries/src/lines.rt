@@ -24,8 +24,8 @@ pub(crate) fn write_number(alloc: Global, number: usize, out: &mut Text) -> Resu
     out.push_slice(digits.as_bytes())
 }
 
-/// Appends the line of a node.
-fn write_line(alloc: Global, owner: &[u8], span: Span, out: &mut Text) -> Result<(), Memory>
+/// Appends the line of a node: the title of its method or do-it, and its span in the source there. The error is want of memory.
+pub fn write_line(alloc: Global, owner: &[u8], span: Span, out: &mut Text) -> Result<(), Memory>
     ensures { OnOk result (out.new ≡ out.old ++ node_line owner.now (of_span span)) }
 {
     out.push_slice(owner)?;

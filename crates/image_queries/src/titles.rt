@@ -50,7 +50,7 @@ pub fn method_title(alloc: Global, image: &Image, info: &MethodInfo<'_>) -> Resu
 }
 
 /// The title of the do-it of a number from 0, which is below the greatest `usize`: its number from 1.
-pub(crate) fn doit_title(alloc: Global, number: usize) -> Result<Text, Memory>
+pub fn doit_title(alloc: Global, number: usize) -> Result<Text, Memory>
     requires { number < usize.MAX }
     ensures { IfOk result (λ title. title ≡ codes "doit " ++ decimal (number + 1)) }
 {

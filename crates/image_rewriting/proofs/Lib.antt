@@ -1,0 +1,9 @@
+pub mod Equal
+pub mod Grown
+pub mod SameRule
+pub mod Lists
+pub mod Entries
+pub mod Copies
+pub mod Images
+pub mod DoIts
+pub mod Walks
