@@ -9,3 +9,6 @@ pub mod Told
 pub mod Steps
 pub mod Visits
 pub mod Final
+pub mod Places
+pub mod AnewImage
+pub mod AnewLoops

@@ -6,3 +6,4 @@ pub mod Code
 pub mod SlotsClosed
 pub mod Least
 pub mod Search
+pub mod Anew

@@ -1,6 +1,7 @@
 //! What the runs of an image of Smalltalk-80 (Goldberg and Robson 1983) can reach, and the image without the rest.
 #![tactic(auto)]
 
+mod anew;
 mod closed;
 mod code;
 mod least;

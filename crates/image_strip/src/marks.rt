@@ -77,6 +77,11 @@ impl Reach {
         }
     }
 
+    /// Where its memory comes from.
+    pub(crate) fn alloc(&self) -> Global {
+        *self.methods.allocator()
+    }
+
     /// Puts in the classes and the selectors of these names. The error is want of memory.
     pub(crate) fn add_names(&mut self, classes: &Ids, selectors: &Ids) -> Result<(), Memory>
         ensures classes { OnOk result ((n : ℕ) → is_marked self.new.classes n ≡ (list_any (nat_eq n) classes.now || is_marked self.old.classes n)) }

@@ -8,8 +8,12 @@ ghost use Rattle.image_strip.specs.Closed.{IsClosedForSome};
 ghost use Rattle.image_strip.specs.Reached.{is_marked, reached};
 ghost use Rattle.image_strip.specs.Stripped.{is_class_marked};
 
+use crate::anew::anew;
 use crate::marks::Reach;
 use class_table::{ClassId, Image, Slot};
+use rb_base::Memory;
+use std::marker::Brand;
+use std::sync::ledger::Blank;
 
 /// Whether the class in a live slot is reached.
 pub(crate) fn is_class_reached(image: &Image, reach: &Reach, id: ClassId) -> bool
@@ -50,8 +54,17 @@ fn strip_classes(image: &mut Image, reach: &Reach)
     }
 }
 
-/// Takes out the methods and the classes that are not reached, without memory. What is reached must be closed for the image
-/// with some do-it at the end; then the image that is left is orderly.
+/// Puts another image in the place of this one, which keeps its names.
+fn replace_all_but_names(image: &mut Image, mut made: Image)
+    ensures { image.new ≡ record made { names = image.old.names } }
+{
+    std::mem::swap(image.names_mut(), made.names_mut());
+    std::mem::swap(image, &mut made);
+}
+
+/// Takes out the methods and the classes that are not reached. What is reached must be closed for the image with some do-it at
+/// the end; then the image that is left is orderly. What is left moves to slots of its own, in one pass. Where memory is short
+/// the slots stay, and each that is not reached is taken out of the order, which moves those behind it.
 pub fn strip(image: &mut Image, reach: &Reach)
     requires orderly { IsOrderly image.old }
     requires once { HasMethodsOnce image.old }
@@ -60,6 +73,11 @@ pub fn strip(image: &mut Image, reach: &Reach)
     ensures names { image.new.names ≡ image.old.names }
     ensures orderly { IsOrderly image.new }
 {
-    strip_methods(image, reach);
-    strip_classes(image, reach);
+    match anew::<Brand>(image, reach, Blank::new(1)) {
+        Ok(made) => replace_all_but_names(image, made),
+        Err(Memory) => {
+            strip_methods(image, reach);
+            strip_classes(image, reach);
+        }
+    }
 }
