@@ -69,7 +69,7 @@ module _ (s : Slots) (orderly : IsOrderly s) where
   the-class : find is_class image.classes ≡ option_and_then (class_at s) (class_class s)
   the-class = sym (find-live (class_of s.classes) is_class s.classes s.class_order) ∙ ap (option_and_then (class_at s)) (by-number (number_in s.names (codes "Class")) refl)
 
-  class-live : (k : ℕ) → class_class s ≡ Some k → IsLive s.class_order k
+  pub class-live : (k : ℕ) → class_class s ≡ Some k → IsLive s.class_order k
   class-live k e = by (number_in s.names (codes "Class")) e
     where
       by : (o : Option ℕ) → option_and_then (named_in s.classes s.class_order) o ≡ Some k → IsLive s.class_order k

@@ -17,3 +17,4 @@ pub mod PushedUp
 pub mod MayMove
 pub mod Added
 pub mod PushedDown
+pub mod Unchanged

@@ -34,7 +34,7 @@ sides-same true = refl
 sides-same false = refl
 
 -- nothing is found where no slot passes
-find-none : (p : ℕ → Bool) (order : List ℕ) → find p order ≡ None → (k : ℕ) → IsLive order k → p k ≡ true → ⊥
+pub find-none : (p : ℕ → Bool) (order : List ℕ) → find p order ≡ None → (k : ℕ) → IsLive order k → p k ≡ true → ⊥
 find-none p [] e k l t = true≢false (sym l)
 find-none p (j ∷ js) e k l t = by (p j) refl e (eqb k j) refl l (λ h m. find-none p js h k m t)
   where

@@ -1,11 +1,13 @@
 // Which method each class finds once a method comes, goes up or goes down.
-ghost use Rattle.std.specs.Prelude.{◌≡◌};
-ghost use Rattle.method_questions.specs.Moves.{there, comes_first, is_below, own_after, first_after, found_after};
+ghost use Rattle.std.specs.Prelude.{◌≡◌, nat_eq, IfOk};
+ghost use Rattle.std.specs.List.{list_any, filter_map};
+ghost use Rattle.method_questions.specs.Moves.{there, comes_first, is_below, is_changed, is_concerned, owner_at, is_covered, own_after, first_after, found_after};
 
 use crate::found::{Found, own_slot};
 use crate::removable::object_slot;
-use class_table::{ClassId, Image, MethodSlot};
-use rb_base::NameId;
+use class_table::{ClassId, Image, MethodSlot, Place};
+use rb_base::{Memory, NameId};
+use std::alloc::Global;
 
 /// How a method moves.
 #[derive(Clone, Copy)]
@@ -76,6 +78,107 @@ fn is_below(image: &Image, class: ClassId, other: ClassId) -> bool
             Some(above) => other == above,
         },
     }
+}
+
+/// Whether the class itself may have another method afterwards.
+#[tactic(auto, unfolding(crate::specs::Moves::is_changed))]
+fn is_changed(image: &Image, moved: &Moved<'_>, class: ClassId) -> bool
+    ensures { result ≡ is_changed image.now moved.now class }
+{
+    let is_left = class == moved.method.class;
+    match moved.way {
+        Way::New => is_left,
+        Way::Up { above, .. } => is_left || class == above,
+        Way::Down => is_left || is_below(image, class, moved.method.class),
+    }
+}
+
+/// Whether the class or one above it may. Only then can a message find another method in it.
+pub(crate) fn is_concerned(image: &Image, moved: &Moved<'_>, class: ClassId) -> bool
+    ensures { result ≡ is_concerned image.now moved.now class }
+{
+    let mut at = Some(class);
+    let mut left = image.classes().len();
+    while left > 0 {
+        let Some(class) = at else {
+            return false;
+        };
+        if is_changed(image, moved, class) {
+            return true;
+        }
+        at = image.chain_at(class, 1);
+        left -= 1;
+    }
+    false
+}
+
+/// The class of the method at a place, if it is one for the selector on a side.
+fn owner(image: &Image, place: Place, meta: bool, selector: NameId) -> Option<ClassId>
+    ensures { result ≡ owner_at image.now meta selector place }
+{
+    let Place::Method(slot) = place else {
+        return None;
+    };
+    let Some(info) = image.method_info(slot) else {
+        return None;
+    };
+    if info.meta == meta && info.selector == selector {
+        Some(info.class)
+    } else {
+        None
+    }
+}
+
+/// The classes of the methods at these places that are for the selector on a side.
+pub(crate) fn owners(
+    alloc: Global,
+    image: &Image,
+    places: &[Place],
+    meta: bool,
+    selector: NameId,
+) -> Result<Vec<ClassId>, Memory>
+    ensures { IfOk result (λ found. found.items ≡ filter_map (owner_at image.now meta selector) places.now) }
+{
+    let found = places
+        .iter()
+        .filter_map(|place| owner(image, *place, meta, selector))
+        .collect(alloc)?;
+    Ok(found)
+}
+
+/// Whether the class is one of these.
+fn is_among(classes: &[ClassId], class: ClassId) -> bool
+    ensures { result ≡ list_any (nat_eq class) classes.now }
+{
+    classes.iter().any(|other| class == *other)
+}
+
+/// Whether the class or one above it is one of the owners, and none up to it may have another method: the class then finds
+/// the same method afterwards.
+pub(crate) fn is_covered(
+    image: &Image,
+    moved: &Moved<'_>,
+    owners: &[ClassId],
+    class: ClassId,
+) -> bool
+    ensures { result ≡ is_covered image.now moved.now owners.now class }
+{
+    let mut at = Some(class);
+    let mut left = image.classes().len();
+    while left > 0 {
+        let Some(class) = at else {
+            return false;
+        };
+        if is_changed(image, moved, class) {
+            return false;
+        }
+        if is_among(owners, class) {
+            return true;
+        }
+        at = image.chain_at(class, 1);
+        left -= 1;
+    }
+    false
 }
 
 /// The method that the class itself has afterwards.

@@ -10,11 +10,11 @@ ghost use Rattle.command_model.specs.Holds.{holds};
 ghost use Rattle.commands.specs.Views.{asked_by};
 ghost use Rattle.reference_index.specs.Mentioned.{IsIndexOf};
 ghost use Rattle.method_questions.specs.Found.{opened_at, are_same};
-ghost use Rattle.method_questions.specs.Moves.{IsLiveAfter, after_entry, finds_another};
+ghost use Rattle.method_questions.specs.Moves.{AreOwners, IsLiveAfter, after_entry, finds_another};
 ghost use Rattle.method_questions.specs.Unreached.{is_one_reached, is_unreached, user_slot};
 
 use crate::found::{Found, named_slot, opened, own_slot};
-use crate::moves::{After, Moved, Way, comes_first, found_after};
+use crate::moves::{After, Moved, Way, comes_first, found_after, is_concerned, is_covered, owners};
 use crate::reached::is_reached;
 use crate::removable::{are_same, is_sent_nowhere, superclass_slot};
 use crate::same::is_same_method;
@@ -82,27 +82,36 @@ fn finds_another<L: Ledger>(
     }
 }
 
-/// Whether the class in a slot, if it is live, finds another method afterwards and is reached.
+/// Whether the class in a slot, if it is live, finds another method afterwards and is reached. Methods are looked up last: this
+/// takes long where tables are not made, and most classes are told apart without it.
 #[tactic(auto, unfolding(crate::specs::Unreached::is_one_reached))]
 fn is_one_reached<L: Ledger>(
     alloc: Global,
     image: &Image,
     index: &Index,
     moved: &Moved<'_>,
+    owners: &[ClassId],
     class: ClassId,
     steps: &mut Steps<L>,
 ) -> Result<bool, Memory>
     requires orderly { IsOrderly image.now }
     requires index { IsIndexOf image.now index.now }
+    requires owners { AreOwners image.now moved.now owners.now }
     ensures { IfOk result (λ is. is ≡ is_one_reached image.now moved.now class) }
 {
     let Some(rec) = image.class_rec(class) else {
         return Ok(false);
     };
-    if !finds_another(alloc, image, moved, class, steps)? {
+    if !is_concerned(image, moved, class) {
         return Ok(false);
     }
-    is_reached(alloc, image, index, rec.name, moved.selector, steps)
+    if is_covered(image, moved, owners, class) {
+        return Ok(false);
+    }
+    if !is_reached(alloc, image, index, rec.name, moved.selector, steps)? {
+        return Ok(false);
+    }
+    finds_another(alloc, image, moved, class, steps)
 }
 
 /// Whether one of the classes does and is.
@@ -111,15 +120,17 @@ fn is_any_reached<L: Ledger>(
     image: &Image,
     index: &Index,
     moved: &Moved<'_>,
+    owners: &[ClassId],
     classes: &[ClassId],
     steps: &mut Steps<L>,
 ) -> Result<bool, Memory>
     requires orderly { IsOrderly image.now }
     requires index { IsIndexOf image.now index.now }
+    requires owners { AreOwners image.now moved.now owners.now }
     ensures { IfOk result (λ is. is ≡ list_any (is_one_reached image.now moved.now) classes.now) }
 {
     for class in classes {
-        if is_one_reached(alloc, image, index, moved, *class, steps)? {
+        if is_one_reached(alloc, image, index, moved, owners, *class, steps)? {
             return Ok(true);
         }
     }
@@ -141,7 +152,11 @@ fn is_unreached<L: Ledger>(
     if is_sent_nowhere(alloc, image, index, moved.selector, steps)? {
         return Ok(true);
     }
-    let reached = is_any_reached(alloc, image, index, moved, image.classes(), steps)?;
+    let places = index.listed(moved.selector);
+    let owners = owners(alloc, image, places, moved.method.meta, moved.selector)?;
+    let classes = image.classes();
+    let own = owners.as_slice();
+    let reached = is_any_reached(alloc, image, index, moved, own, classes, steps)?;
     Ok(!reached)
 }
 

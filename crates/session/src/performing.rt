@@ -99,16 +99,13 @@ fn judge_and_carry_out<L: Ledger>(
     Ok(())
 }
 
-/// Makes the tables ready by which methods are found at once, where a method comes, goes or moves whose selector some code
-/// mentions: then it is asked of each class what it finds. Where memory is wanting, the search is the slow one.
+/// Makes the tables ready by which methods are found at once, where a method goes up or down whose selector some code mentions:
+/// then classes are asked what they find. Where memory is wanting, the search is the slow one.
 fn make_ready(image: &mut Image, index: &Index, command: &Command)
     ensures { image.new ≡ image.old }
 {
     let selector = match command {
-        Command::AddMethod(new) => new.tree.selector,
-        Command::RemoveMethod(method)
-        | Command::PushUpMethod(method)
-        | Command::PushDownMethod(method) => method.selector,
+        Command::PushUpMethod(method) | Command::PushDownMethod(method) => method.selector,
         _ => return,
     };
     if !index.listed(selector).is_empty() {
