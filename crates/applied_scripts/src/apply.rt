@@ -1,5 +1,5 @@
 // The answer to a script in an image.
-ghost use Rattle.std.specs.Prelude.{◌≡◌, ◌<◌, ℕ, List, [], IfOk};
+ghost use Rattle.std.specs.Prelude.{◌≡◌, ◌<◌, ℕ, List, [], IfOk, OnOk};
 ghost use Rattle.class_table.specs.View.{image_of};
 ghost use Rattle.class_table.specs.Valid.{IsOrderly};
 ghost use Rattle.live_slots.specs.Live.{AllLive};
@@ -8,6 +8,7 @@ ghost use Rattle.commands.specs.Views.{HasSelf};
 ghost use Rattle.script_model.specs.Scripts.{Says};
 ghost use Rattle.script_lang.specs.Shown.{requests_in, AreKnown};
 ghost use Rattle.apply_model.specs.Applied.{AppliesIn};
+ghost use Rattle.applied_scripts.specs.Changed.{IsChanged};
 
 use crate::requests::{Stop, perform_all, requests_of};
 use apply_model::Status;
@@ -22,16 +23,26 @@ use std::marker::Brand;
 use std::mem::forget;
 use std::sync::ledger::{Blank, Ledger};
 
-/// The answer to requests in the image, for which the session is opened: all are performed, or the first one that is refused
-/// is told.
+/// What became of a script in an image.
+#[derive(Clone, Copy)]
+pub enum Changed {
+    /// All its commands are performed.
+    Done {
+        /// How many they are.
+        commands: usize,
+    },
+    /// A line of it is wrong, or a command is refused; the line that tells it is appended.
+    Told(Status),
+}
+
+/// Performs requests in the image, for which the session is opened, or tells the first one that is refused.
 fn perform_counted<L: Ledger>(
-    alloc: Global,
     session: &mut Session,
     image: &mut Image,
     requests: Vec<Request>,
     blank: Blank,
     out: &mut Text,
-) -> Result<Status, Memory>
+) -> Result<Changed, Memory>
     requires orderly { IsOrderly image.old }
     requires closed { IsClosed image.old }
     requires self_known { HasSelf image.old.names }
@@ -40,21 +51,58 @@ fn perform_counted<L: Ledger>(
     requires name { blank.name ≡ L.name }
     requires parts { blank.parts ≡ L.parts }
     requires some { 0 < L.parts }
-    ensures { IfOk result (λ status. (script : List ℕ) → Says script (requests_in image.old.names requests.items) → AppliesIn (image_of image.old) script status out.new) }
+    ensures changed { IfOk result (λ changed. (script : List ℕ) → Says script (requests_in image.old.names requests.items) → IsChanged (image_of image.old) script (image_of image.new) out.new changed) }
+    ensures orderly { OnOk result (IsOrderly image.new) }
 {
+    let commands = requests.as_slice().len();
     let mut steps = Steps::<L>::new(blank);
     image.reindex()?;
     session.open(image, &mut steps)?;
     match perform_all(session, image, requests, &mut steps) {
-        Ok(()) => {
-            write_image(alloc, image, out)?;
-            Ok(Status::Done)
-        }
+        Ok(()) => Ok(Changed::Done { commands }),
         Err(Stop::Refused { number, condition }) => {
             push_refusal(number, &condition, image.names(), out)?;
-            Ok(Status::Condition)
+            Ok(Changed::Told(Status::Condition))
         }
         Err(Stop::Memory) => Err(Memory),
+    }
+}
+
+/// Performs the commands of a script in an image that was read, each in the image after those before it; or appends the line
+/// that is wrong, or the first command that is refused.
+///
+/// The image is then the one after the commands that were performed. What is kept of it is not taken apart: the program is to
+/// end soon. On want of memory `out` may hold a part of a line.
+pub fn change_image(
+    alloc: Global,
+    image: &mut Image,
+    script: &[u8],
+    out: &mut Text,
+) -> Result<Changed, Memory>
+    requires orderly { IsOrderly image.old }
+    requires live { AllLive image.old }
+    requires empty { out.old ≡ [] }
+    ensures changed { IfOk result (λ changed. IsChanged (image_of image.old) script.now (image_of image.new) out.new changed) }
+    ensures orderly { OnOk result (IsOrderly image.new) }
+{
+    match requests_of(alloc, script, image) {
+        Ok(requests) => {
+            let mut session = Session::new(alloc);
+            let changed = perform_counted::<Brand>(
+                &mut session,
+                image,
+                requests,
+                Blank::new(1),
+                out,
+            );
+            // The program ends soon, so the session is not taken apart piece by piece.
+            forget(session);
+            changed
+        }
+        Err(fault) => {
+            push_script_line(fault, out)?;
+            Ok(Changed::Told(Status::ScriptText))
+        }
     }
 }
 
@@ -62,8 +110,8 @@ fn perform_counted<L: Ledger>(
 /// before it, and the file of the last image is written; or the first line that is wrong is told, or the first command that
 /// is refused.
 ///
-/// The image is then the one after the commands that were performed. It, and what is kept of it, is not taken apart: the
-/// program is to end behind the answer. On want of memory `out` may hold a part of the answer.
+/// The image is then the one after the commands that were performed. What is kept of it is not taken apart: the program is to
+/// end behind the answer. On want of memory `out` may hold a part of the answer.
 pub fn apply_script(
     alloc: Global,
     image: &mut Image,
@@ -75,24 +123,11 @@ pub fn apply_script(
     requires empty { out.old ≡ [] }
     ensures { IfOk result (λ status. AppliesIn (image_of image.old) script.now status out.new) }
 {
-    match requests_of(alloc, script, image) {
-        Ok(requests) => {
-            let mut session = Session::new(alloc);
-            let answer = perform_counted::<Brand>(
-                alloc,
-                &mut session,
-                image,
-                requests,
-                Blank::new(1),
-                out,
-            );
-            // The program ends behind this answer, so the session is not taken apart piece by piece.
-            forget(session);
-            answer
+    match change_image(alloc, image, script, out)? {
+        Changed::Done { .. } => {
+            write_image(alloc, image, out)?;
+            Ok(Status::Done)
         }
-        Err(fault) => {
-            push_script_line(fault, out)?;
-            Ok(Status::ScriptText)
-        }
+        Changed::Told(status) => Ok(status),
     }
 }

@@ -5,4 +5,4 @@
 mod apply;
 mod requests;
 
-pub use apply::apply_script;
+pub use apply::{Changed, apply_script, change_image};

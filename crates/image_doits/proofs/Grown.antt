@@ -8,6 +8,7 @@ use Rattle.class_table.specs.Slots.{Slots}
 use Rattle.class_table.specs.View.{number_image, image_of}
 use Rattle.class_table.specs.Valid.{IsOrderly}
 use Rattle.class_table.proofs.Found.{image_of-grown}
+use Rattle.live_slots.specs.Live.{AllLive}
 
 -- an orderly image with more names is orderly, where no text has two numbers
 orderly_grown : (s : Slots) (more : List (List ℕ)) → IsOrderly s → HasNoTwice (s.names ++ more) → IsOrderly (record s { names = s.names ++ more })
@@ -33,3 +34,7 @@ same_image s t h rest g = ap image_of (same_slots s t (s.names ++ g.more) rest g
 pub still_orderly : (s t : Slots) → IsOrderly s → t ≡ record s { names = t.names } → Grows s.names t.names → HasNoTwice t.names → IsOrderly t
 still_orderly s t h rest g once =
     subst IsOrderly (sym (same_slots s t (s.names ++ g.more) rest g.grown)) (orderly_grown s g.more h (subst HasNoTwice g.grown once))
+
+-- each slot stays live
+pub still_live : (s t : Slots) → t ≡ record s { names = t.names } → AllLive s → AllLive t
+still_live s t rest live = subst AllLive (sym rest) (record { classes = live.classes; methods = live.methods })

@@ -13,6 +13,7 @@ ghost use Rattle.event_trees.specs.Naming.{Grows};
 ghost use Rattle.image_model.specs.Image.{plus, map_doit};
 ghost use Rattle.class_table.specs.View.{doit_of, image_of};
 ghost use Rattle.class_table.specs.Valid.{IsOrderly};
+ghost use Rattle.live_slots.specs.Live.{AllLive};
 ghost use Rattle.image_doits.specs.Added.{IsWithDoIt};
 
 use class_table::{DoIt, Image};
@@ -42,6 +43,7 @@ pub fn read_doit(alloc: Global, text: &[u8], image: &mut Image) -> Result<Sequen
     requires { IsOrderly image.old }
     ensures image { image_of image.new ≡ image_of image.old }
     ensures orderly { IsOrderly image.new }
+    ensures live { AllLive image.old → AllLive image.new }
     ensures tree { IfOk result (λ body. SpellsDoIt Second text.now (map_sequence (name_at image.new.names) (sequence_of body))) }
     ensures known { IfOk result (λ body. SequenceNames (λ n. n < length image.new.names) (sequence_of body)) }
     ensures fault { IfErr result (IsRefused whole.DoIt text.now) }
@@ -57,6 +59,7 @@ fn put(image: &mut Image, doit: DoIt) -> Result<(), ParseFault>
     requires known { SequenceNames (λ n. n < length image.old.names) (sequence_of doit.body) }
     ensures image { OnOk result (image_of image.new ≡ plus (image_of image.old) (map_doit (name_at image.old.names) (doit_of doit))) }
     ensures orderly { OnOk result (IsOrderly image.new) }
+    ensures live { OnOk result (AllLive image.old → AllLive image.new) }
     ensures fault { IfErr result (λ fault. fault ≡ ParseFault.Memory) }
 {
     match image.add_doit(doit) {
@@ -76,6 +79,7 @@ pub fn add_doit(alloc: Global, text: &[u8], image: &mut Image) -> Result<(), Par
     requires { IsOrderly image.old }
     ensures added { OnOk result (IsWithDoIt text.now (image_of image.old) (image_of image.new)) }
     ensures orderly { OnOk result (IsOrderly image.new) }
+    ensures live { OnOk result (AllLive image.old → AllLive image.new) }
     ensures fault { IfErr result (IsRefused whole.DoIt text.now) }
 {
     let body = read_doit(alloc, text, image)?;
