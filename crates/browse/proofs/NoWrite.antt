@@ -6,12 +6,12 @@ use Rattle.image_model.specs.Image.{ImageOf}
 use Rattle.run_model.specs.Values.{Outcome, done, failed, spent}
 use Rattle.run_model.specs.Runs.{run}
 use Rattle.query_model.specs.Queries.{QueryOf}
-use Rattle.command_words.specs.Forms.{Form, Apply, Format, Run, Find, Strip, Help, Version, Later, NoForm, form_of}
+use Rattle.command_words.specs.Forms.{Form, Apply, Format, Run, Find, Strip, Search, Rewrite, Demo, Help, Version, Later, NoForm, form_of}
 use Rattle.browse.specs.declared.status.Status.{Status}
 use Rattle.browse.specs.declared.status.Status.TheVariants as status
 use Rattle.browse.specs.Statuses.{number_of}
 use Rattle.browse.specs.Loads.{World, Loads, Given, Refused, Refuses}
-use Rattle.browse.specs.Answers.{status_applied, Applies, Formats, Formatted, Refused as Stopped, status_of, RunsIn, NoDoIt, Ran, Runs, NoImage, InImage, Finds, NoImageThere, Found, StripsIn, NoStart, Stripped, Strips, NoImageToStrip, StripsImage, AnswersForm, Answers, image_limit, script_limit}
+use Rattle.browse.specs.Answers.{status_applied, Applies, Formats, Formatted, Refused as Stopped, status_of, RunsIn, NoDoIt, Ran, Runs, NoImage, InImage, Finds, NoImageThere, Found, StripsIn, NoStart, Stripped, Strips, NoImageToStrip, StripsImage, OfImage, Unread, Read, SearchesIn, NoPattern, Matched, RewritesIn, NoRule, NoReplacement, Rewritten, AnswersForm, Answers, image_limit, script_limit}
 
 -- the status does not say that the output failed
 abbrev IsOther : Status → Type 0
@@ -66,12 +66,28 @@ strips : (text expression : List ℕ) (sets : Bool) (s : Status) (x : List ℕ) 
 strips text expression sets s x (NoImageToStrip r wrong is line) = other s status.ImageText is (λ e. omega (arith, e))
 strips text expression sets s x (StripsImage i read p) = strips_in i expression sets s x p
 
+of_image : (text : List ℕ) (s : Status) (x : List ℕ) (P : ImageOf (List ℕ) → Type 0) → ((i : ImageOf (List ℕ)) → P i → IsOther s) → OfImage text s x P → IsOther s
+of_image text s x P next (Unread r wrong is line) = other s status.ImageText is (λ e. omega (arith, e))
+of_image text s x P next (Read i read p) = next i p
+
+searches : (i : ImageOf (List ℕ)) (pattern : List ℕ) (s : Status) (x : List ℕ) → SearchesIn i pattern s x → IsOther s
+searches i pattern s x (NoPattern c wrong is line) = other s status.ScriptText is (λ e. omega (arith, e))
+searches i pattern s x (Matched p says lines is) = other s status.Done is (λ e. omega (arith, e))
+
+rewrites : (i : ImageOf (List ℕ)) (pattern replacement : List ℕ) (s : Status) (x : List ℕ) → RewritesIn i pattern replacement s x → IsOther s
+rewrites i pattern replacement s x (NoRule c wrong is line) = other s status.ScriptText is (λ e. omega (arith, e))
+rewrites i pattern replacement s x (NoReplacement p c says wrong is line) = other s status.ScriptText is (λ e. omega (arith, e))
+rewrites i pattern replacement s x (Rewritten r said is file) = other s status.Done is (λ e. omega (arith, e))
+
 form_other : (w : World) (form : Form) (s : Status) (x : List ℕ) → AnswersForm w form s x → IsOther s
 form_other w (Apply image script) s x p = loads w image image_limit s x _ (λ i q. loads w script script_limit s x _ (λ c. applies i c s x) q) p
 form_other w (Format image) s x p = loads w image image_limit s x _ (λ i. formats i s x) p
 form_other w (Run image expression budget) s x p = loads w image image_limit s x _ (λ i. runs i expression budget s x) p
 form_other w (Find image question) s x p = loads w image image_limit s x _ (λ i. finds i question s x) p
 form_other w (Strip image expression sets) s x p = loads w image image_limit s x _ (λ i. strips i expression sets s x) p
+form_other w (Search image pattern) s x p = loads w image image_limit s x _ (λ t. of_image t s x _ (λ i. searches i pattern s x)) p
+form_other w (Rewrite image pattern replacement) s x p = loads w image image_limit s x _ (λ t. of_image t s x _ (λ i. rewrites i pattern replacement s x)) p
+form_other w (Demo number) s x p = other s status.Unbuilt p.0 (λ e. omega (arith, e))
 form_other w Help s x p = other s status.Done p.0 (λ e. omega (arith, e))
 form_other w Version s x p = other s status.Done p.0 (λ e. omega (arith, e))
 form_other w Later s x p = other s status.Unbuilt p.0 (λ e. omega (arith, e))

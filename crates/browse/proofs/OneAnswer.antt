@@ -1,5 +1,6 @@
 -- Where the outside tells of the files and no read fails, words have at most one answer.
 use Rattle.std.proofs.Common.{◌≡◌, ℕ, Bool, List, ◌<◌, length, inl, inr, ap, sym, subst, ◌∙◌, arith}
+use Rattle.std.specs.Prelude.{codes}
 use Rattle.rb_base.specs.Outside.{Told, Untold, NoFile, File, IsNoFile, OnFile, MayGive, Rose}
 use Rattle.token_model.specs.declared.kind.Dialect.TheVariants.{Second}
 use Rattle.image_model.specs.Image.{ImageOf}
@@ -8,7 +9,7 @@ use Rattle.file_model.specs.Written.{file_of}
 use Rattle.file_model.proofs.OneImage.{one_image, one_refusal, no_image_where_refused}
 use Rattle.canonical_image.specs.Formatted.{formatted}
 use Rattle.browse.specs.declared.status.Status.{Status}
-use Rattle.command_words.specs.Forms.{Form, Apply, Format, Run, Find, Strip, Help, Version, Later, NoForm, files_of, form_of}
+use Rattle.command_words.specs.Forms.{Form, Apply, Format, Run, Find, Strip, Search, Rewrite, Demo, Help, Version, Later, NoForm, files_of, form_of}
 use Rattle.browse.specs.Loads.{World, Loads, Given, Refused, Refuses, MayFail, IsTold, IsHonest}
 use Rattle.grammar_model.specs.Whole.{DoIt}
 use Rattle.grammar_model.proofs.Texts.{no_fault_DoIt, one_SpellsDoIt, one_HasFirstFault}
@@ -19,13 +20,19 @@ use Rattle.strip_model.specs.Reach.{reach}
 use Rattle.image_doits.specs.Added.{IsWithDoIt}
 use Rattle.run_model.specs.Runs.{run, printed_run}
 use Rattle.query_model.specs.Queries.{QueryOf}
-use Rattle.query_model.specs.Lines.{IsAnswer}
+use Rattle.query_model.specs.Lines.{AreLines, IsAnswer}
+use Rattle.image_model.specs.Nodes.{Use}
+use Rattle.pattern_model.specs.Patterns.{PatternOf}
+use Rattle.pattern_model.specs.Rewritten.{RuleOf}
+use Rattle.rewrite_model.specs.Saying.{Cause, SaysPattern, SaysReplacement, SaysRule, IsRefusedPattern, IsRefusedReplacement}
+use Rattle.rewrite_model.specs.Searched.{matches}
+use Rattle.rewrite_model.specs.Rewritten.{rewritten_image}
 use Rattle.query_model.proofs.OneAnswer.{one_answer}
 use Rattle.file_model.specs.Causes.{Refusal}
 use Rattle.apply_model.specs.declared.status.Status as applied
 use Rattle.apply_model.specs.Applied as model
-use Rattle.browse.specs.ImageLines.{image_refusal, expression_refusal}
-use Rattle.browse.specs.Answers.{status_applied, Applies, Formats, Formatted, Refused as Stopped, status_of, RunsIn, NoDoIt, Ran, Runs, NoImage, InImage, Finds, NoImageThere, Found, stripped_text, StripsIn, NoStart, Stripped, Strips, NoImageToStrip, StripsImage, AnswersForm, Answers, image_limit, script_limit}
+use Rattle.browse.specs.ImageLines.{image_refusal, expression_refusal, text_refusal}
+use Rattle.browse.specs.Answers.{status_applied, Applies, Formats, Formatted, Refused as Stopped, status_of, RunsIn, NoDoIt, Ran, Runs, NoImage, InImage, Finds, NoImageThere, Found, stripped_text, StripsIn, NoStart, Stripped, Strips, NoImageToStrip, StripsImage, OfImage, Unread, Read, SearchesIn, NoPattern, Matched, RewritesIn, NoRule, NoReplacement, Rewritten, AnswersForm, Answers, image_limit, script_limit}
 
 -- both answers are one
 abbrev pub SameAnswer : Status → Status → List ℕ → List ℕ → Type 0
@@ -135,17 +142,65 @@ strips_one text expression sets s t x y (StripsImage i read p) (NoImageToStrip r
 strips_one text expression sets s t x y (StripsImage i read p) (StripsImage j read' q) =
     strips_in_one j expression sets s t x y (subst (λ (k : ImageOf (List ℕ)). StripsIn k expression sets s x) (one_image Second prelude_text text i j read read') p) q
 
--- two answers of `apply` to the same texts are one
-abbrev pub AppliesOnce : Type 0
-AppliesOnce =
-    (image_line : Refusal → List ℕ) (text script : List ℕ) (v u : applied.Status) (x y : List ℕ) →
-    model.Applies image_line text script v x → model.Applies image_line text script u y → (v ≡ u) × (x ≡ y)
+-- a text that is read as an image has one answer where the image has one
+of_image_one : (text : List ℕ) (s t : Status) (x y : List ℕ) (P Q : ImageOf (List ℕ) → Type 0) → ((i : ImageOf (List ℕ)) → P i → Q i → SameAnswer s t x y) → OfImage text s x P → OfImage text t y Q → SameAnswer s t x y
+of_image_one text s t x y P Q step (Unread r wrong is line) (Unread q wrong' is' line') =
+    (is ∙ sym is', line ∙ ap image_refusal (one_refusal Second prelude_text text r q wrong wrong') ∙ sym line')
+of_image_one text s t x y P Q step (Unread r wrong is line) (Read i read p) = absurd (no_image_where_refused Second prelude_text text i r read wrong)
+of_image_one text s t x y P Q step (Read i read p) (Unread r wrong is line) = absurd (no_image_where_refused Second prelude_text text i r read wrong)
+of_image_one text s t x y P Q step (Read i read p) (Read j read' q) = step j (subst P (one_image Second prelude_text text i j read read') p) q
 
-module _ (once : AppliesOnce) where
+-- what is known of `apply`, of patterns and rules, and of lines
+pub record OnceLaws : Type 0 where
+  pub applies : (image_line : Refusal → List ℕ) (text script : List ℕ) (v u : applied.Status) (x y : List ℕ) → model.Applies image_line text script v x → model.Applies image_line text script u y → (v ≡ u) × (x ≡ y)
+  pub pattern : (text : List ℕ) (p q : PatternOf (List ℕ)) → SaysPattern text p → SaysPattern text q → p ≡ q
+  pub no_pattern : (text : List ℕ) (p : PatternOf (List ℕ)) (c : Cause) → SaysPattern text p → ¬ IsRefusedPattern text c
+  pub pattern_cause : (text : List ℕ) (c d : Cause) → IsRefusedPattern text c → IsRefusedPattern text d → c ≡ d
+  pub replacement : (p : PatternOf (List ℕ)) (text : List ℕ) (q r : PatternOf (List ℕ)) → SaysReplacement p text q → SaysReplacement p text r → q ≡ r
+  pub no_replacement : (p : PatternOf (List ℕ)) (text : List ℕ) (q : PatternOf (List ℕ)) (c : Cause) → SaysReplacement p text q → ¬ IsRefusedReplacement p text c
+  pub replacement_cause : (p : PatternOf (List ℕ)) (text : List ℕ) (c d : Cause) → IsRefusedReplacement p text c → IsRefusedReplacement p text d → c ≡ d
+  pub lines : (i : ImageOf (List ℕ)) (uses : List Use) (x y : List ℕ) → AreLines i uses x → AreLines i uses y → x ≡ y
+
+module _ (once : OnceLaws) where
   applies_one : (text script : List ℕ) (s t : Status) (x y : List ℕ) → Applies text script s x → Applies text script t y → SameAnswer s t x y
   applies_one text script s t x y a b =
-      let same = once image_refusal text script a.verdict b.verdict x y a.applies b.applies in
+      let same = once.applies image_refusal text script a.verdict b.verdict x y a.applies b.applies in
       (a.status ∙ ap status_applied same.0 ∙ sym b.status, same.1)
+
+  searches_one : (i : ImageOf (List ℕ)) (pattern : List ℕ) (s t : Status) (x y : List ℕ) → SearchesIn i pattern s x → SearchesIn i pattern t y → SameAnswer s t x y
+  searches_one i pattern s t x y (NoPattern c wrong is line) (NoPattern d wrong' is' line') =
+      (is ∙ sym is', line ∙ ap (text_refusal (codes "pattern")) (once.pattern_cause pattern c d wrong wrong') ∙ sym line')
+  searches_one i pattern s t x y (NoPattern c wrong is line) (Matched p says lines is') = absurd (once.no_pattern pattern p c says wrong)
+  searches_one i pattern s t x y (Matched p says lines is) (NoPattern c wrong is' line) = absurd (once.no_pattern pattern p c says wrong)
+  searches_one i pattern s t x y (Matched p says lines is) (Matched q says' lines' is') =
+      (is ∙ sym is', once.lines i (matches q i) x y (subst (λ (r : PatternOf (List ℕ)). AreLines i (matches r i) x) (once.pattern pattern p q says says') lines) lines')
+
+  rule_one : (pattern replacement : List ℕ) (r q : RuleOf (List ℕ)) → SaysRule pattern replacement r → SaysRule pattern replacement q → r ≡ q
+  rule_one pattern replacement r q said said' =
+      let same : r.pattern ≡ q.pattern = once.pattern pattern r.pattern q.pattern said.pattern said'.pattern in
+      let other : r.replacement ≡ q.replacement =
+      once.replacement q.pattern replacement r.replacement q.replacement
+      (subst (λ (p : PatternOf (List ℕ)). SaysReplacement p replacement r.replacement) same said.replacement) said'.replacement in
+      (λ k. record { pattern = same k; replacement = other k })
+
+  rewrites_one : (i : ImageOf (List ℕ)) (pattern replacement : List ℕ) (s t : Status) (x y : List ℕ) → RewritesIn i pattern replacement s x → RewritesIn i pattern replacement t y → SameAnswer s t x y
+  rewrites_one i pattern replacement s t x y (NoRule c wrong is line) (NoRule d wrong' is' line') =
+      (is ∙ sym is', line ∙ ap (text_refusal (codes "pattern")) (once.pattern_cause pattern c d wrong wrong') ∙ sym line')
+  rewrites_one i pattern replacement s t x y (NoRule c wrong is line) (NoReplacement p d says wrong' is' line') = absurd (once.no_pattern pattern p c says wrong)
+  rewrites_one i pattern replacement s t x y (NoRule c wrong is line) (Rewritten r said is' line') = absurd (once.no_pattern pattern r.pattern c said.pattern wrong)
+  rewrites_one i pattern replacement s t x y (NoReplacement p d says wrong is line) (NoRule c wrong' is' line') = absurd (once.no_pattern pattern p c says wrong')
+  rewrites_one i pattern replacement s t x y (NoReplacement p c says wrong is line) (NoReplacement q d says' wrong' is' line') =
+      let moved : IsRefusedReplacement q replacement c = subst (λ (r : PatternOf (List ℕ)). IsRefusedReplacement r replacement c) (once.pattern pattern p q says says') wrong in
+      (is ∙ sym is', line ∙ ap (text_refusal (codes "replacement")) (once.replacement_cause q replacement c d moved wrong') ∙ sym line')
+  rewrites_one i pattern replacement s t x y (NoReplacement p c says wrong is line) (Rewritten r said is' line') =
+      absurd (once.no_replacement r.pattern replacement r.replacement c said.replacement
+      (subst (λ (q : PatternOf (List ℕ)). IsRefusedReplacement q replacement c) (once.pattern pattern p r.pattern says said.pattern) wrong))
+  rewrites_one i pattern replacement s t x y (Rewritten r said is line) (NoRule c wrong is' line') = absurd (once.no_pattern pattern r.pattern c said.pattern wrong)
+  rewrites_one i pattern replacement s t x y (Rewritten r said is line) (NoReplacement p c says wrong is' line') =
+      absurd (once.no_replacement r.pattern replacement r.replacement c said.replacement
+      (subst (λ (q : PatternOf (List ℕ)). IsRefusedReplacement q replacement c) (once.pattern pattern p r.pattern says said.pattern) wrong))
+  rewrites_one i pattern replacement s t x y (Rewritten r said is line) (Rewritten q said' is' line') =
+      (is ∙ sym is', line ∙ ap (λ (u : RuleOf (List ℕ)). file_of (rewritten_image u i)) (rule_one pattern replacement r q said said') ∙ sym line')
 
   form_one : (w : World) (form : Form) (s t : Status) (x y : List ℕ) → IsHonest w (files_of form) → AnswersForm w form s x → AnswersForm w form t y → SameAnswer s t x y
   form_one w (Apply image script) s t x y honest p q =
@@ -159,6 +214,11 @@ module _ (once : AppliesOnce) where
       loads_one w image image_limit s t x y _ _ honest.told.0 honest.fine (λ i. finds_one i question s t x y) p q
   form_one w (Strip image expression sets) s t x y honest p q =
       loads_one w image image_limit s t x y _ _ honest.told.0 honest.fine (λ i. strips_one i expression sets s t x y) p q
+  form_one w (Search image pattern) s t x y honest p q =
+      loads_one w image image_limit s t x y _ _ honest.told.0 honest.fine (λ i. of_image_one i s t x y _ _ (λ j. searches_one j pattern s t x y)) p q
+  form_one w (Rewrite image pattern replacement) s t x y honest p q =
+      loads_one w image image_limit s t x y _ _ honest.told.0 honest.fine (λ i. of_image_one i s t x y _ _ (λ j. rewrites_one j pattern replacement s t x y)) p q
+  form_one w (Demo number) s t x y honest p q = (p.0 ∙ sym q.0, p.1 ∙ sym q.1)
   form_one w Help s t x y honest p q = (p.0 ∙ sym q.0, p.1 ∙ sym q.1)
   form_one w Version s t x y honest p q = (p.0 ∙ sym q.0, p.1 ∙ sym q.1)
   form_one w Later s t x y honest p q = (p.0 ∙ sym q.0, p.1 ∙ sym q.1)

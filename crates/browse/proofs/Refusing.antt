@@ -9,11 +9,14 @@ use Rattle.st_faults.specs.declared.fault.ParseFault.{ParseFault}
 use Rattle.st_faults.specs.Faults as faults
 use Rattle.st_kernel.specs.KernelText.{prelude_text}
 use Rattle.file_model.specs.Causes.{Cause, Refusal}
+use Rattle.rewrite_model.specs.Saying as saying
+use Rattle.pattern_faults.specs.declared.fault.PatternFault.{PatternFault}
+use Rattle.pattern_faults.specs.Told as told
 use Rattle.file_model.specs.Reading.{HasRefusal}
 use Rattle.file_faults.specs.declared.fault.ImageCause.{ImageCause}
 use Rattle.file_faults.specs.declared.fault.ImageFault.TheVariants as fault
 use Rattle.file_faults.specs.Faults.{cause_of, IsRefused, Told}
-use Rattle.browse.specs.ImageLines.{image_refusal, expression_refusal}
+use Rattle.browse.specs.ImageLines.{image_refusal, expression_refusal, text_refusal}
 
 -- a refusal of these parts
 abbrev refusal_at : ℕ → ℕ → Cause → Refusal
@@ -36,3 +39,12 @@ fault_told expression answer sent refused line = by (faults.fault_of answer) ref
     by : (o : Option Fault) → MatchOption o (Unit {0}) (HasFirstFault Second DoIt expression) → MatchOption o ⊥ (λ f. sent ≡ expression_refusal f) → (f : Fault) × HasFirstFault Second DoIt expression f × (sent ≡ expression_refusal f)
     by None h n = absurd n
     by (Some f) h n = (f, h, n)
+
+-- the line of a text that is refused is that of the cause that is told
+pub cause_told : (what : List ℕ) (answer : PatternFault) (sent : List ℕ) (P : saying.Cause → Type 0) → MatchOption (told.cause_of answer) (Unit {0}) P
+    → MatchOption (told.cause_of answer) ⊥ (λ c. sent ≡ text_refusal what c) → (c : saying.Cause) × P c × (sent ≡ text_refusal what c)
+cause_told what answer sent P refused line = by (told.cause_of answer) refused line
+  where
+    by : (o : Option saying.Cause) → MatchOption o (Unit {0}) P → MatchOption o ⊥ (λ c. sent ≡ text_refusal what c) → (c : saying.Cause) × P c × (sent ≡ text_refusal what c)
+    by None h n = absurd n
+    by (Some c) h n = (c, h, n)

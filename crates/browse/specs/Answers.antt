@@ -21,12 +21,17 @@ use Rattle.run_model.specs.Values.{Outcome, done, failed, spent}
 use Rattle.run_model.specs.Runs.{run, printed_run}
 use Rattle.image_doits.specs.Added.{IsWithDoIt}
 use Rattle.query_model.specs.Queries.{QueryOf}
-use Rattle.query_model.specs.Lines.{IsAnswer}
+use Rattle.query_model.specs.Lines.{AreLines, IsAnswer}
+use Rattle.pattern_model.specs.Patterns.{PatternOf}
+use Rattle.pattern_model.specs.Rewritten.{RuleOf}
+use Rattle.rewrite_model.specs.Saying.{Cause, SaysPattern, SaysRule, IsRefusedPattern, IsRefusedReplacement}
+use Rattle.rewrite_model.specs.Searched.{matches}
+use Rattle.rewrite_model.specs.Rewritten.{rewritten_image}
 use Rattle.strip_model.specs.Reach.{ReachOf, reach}
 use Rattle.strip_model.specs.Stripped.{certificate, strip}
-use Rattle.command_words.specs.Forms.{Form, Apply, Format, Run, Find, Strip, Help, Version, Later, NoForm, form_of}
+use Rattle.command_words.specs.Forms.{Form, Apply, Format, Run, Find, Strip, Search, Rewrite, Demo, Help, Version, Later, NoForm, form_of}
 use Rattle.browse.specs.Loads.{World, Loads, line}
-use Rattle.browse.specs.ImageLines.{image_refusal, expression_refusal}
+use Rattle.browse.specs.ImageLines.{image_refusal, expression_refusal, text_refusal}
 
 -- the most bytes of a file with an image
 abbrev pub image_limit : ℕ
@@ -44,7 +49,7 @@ usage = line (codes "usage: browse COMMAND ARGUMENTS")
 
 -- the forms as they are typed, each with what it does
 abbrev pub help : List ℕ
-help = line (codes "usage: browse COMMAND ARGUMENTS\napply IMAGE SCRIPT: prints the file-out IMAGE as the commands of SCRIPT change it\nrun IMAGE EXPRESSION [BUDGET]: runs the do-its of IMAGE and then EXPRESSION, for at most BUDGET ticks\nfind IMAGE KIND NAME: lists what sends or implements a selector, or means a class or a variable\nformat IMAGE: prints IMAGE with each source in canonical text\nstrip IMAGE EXPRESSION [sets]: prints IMAGE without what its do-its and EXPRESSION cannot reach, or what they reach\n--help: prints these lines\n--version: prints the version of the program and of the logic that proves it")
+help = line (codes "usage: browse COMMAND ARGUMENTS\napply IMAGE SCRIPT: prints the file-out IMAGE as the commands of SCRIPT change it\nrun IMAGE EXPRESSION [BUDGET]: runs the do-its of IMAGE and then EXPRESSION, for at most BUDGET ticks\nfind IMAGE KIND NAME: lists what sends or implements a selector, or means a class or a variable\nformat IMAGE: prints IMAGE with each source in canonical text\nstrip IMAGE EXPRESSION [sets]: prints IMAGE without what its do-its and EXPRESSION cannot reach, or what they reach\nsearch IMAGE PATTERN: lists the nodes that PATTERN matches\nrewrite IMAGE PATTERN REPLACEMENT: prints IMAGE with each node that PATTERN matches replaced\n--help: prints these lines\n--version: prints the version of the program and of the logic that proves it")
 
 -- the version of the program, of the kit that builds it and of the logic that proves it
 abbrev pub version : List ℕ
@@ -103,6 +108,22 @@ pub data Strips (text expression : List ℕ) (sets : Bool) (s : Status) (sent : 
   NoImageToStrip : (r : Refusal) → HasRefusal Second prelude_text text r → s ≡ status.ImageText → sent ≡ image_refusal r → Strips text expression sets s sent
   StripsImage : (i : ImageOf (List ℕ)) → IsImageOf Second prelude_text text i → StripsIn i expression sets s sent → Strips text expression sets s sent
 
+-- the text is read as an image, of which the rest is said; or its first chunk that is refused is told
+pub data OfImage (text : List ℕ) (s : Status) (sent : List ℕ) (P : ImageOf (List ℕ) → Type 0) : Type 0 where
+  Unread : (r : Refusal) → HasRefusal Second prelude_text text r → s ≡ status.ImageText → sent ≡ image_refusal r → OfImage text s sent P
+  Read : (i : ImageOf (List ℕ)) → IsImageOf Second prelude_text text i → P i → OfImage text s sent P
+
+-- `search` answers this image and this pattern with the status and the bytes: a line for each node that the pattern matches
+pub data SearchesIn (i : ImageOf (List ℕ)) (pattern : List ℕ) (s : Status) (sent : List ℕ) : Type 0 where
+  NoPattern : (c : Cause) → IsRefusedPattern pattern c → s ≡ status.ScriptText → sent ≡ text_refusal (codes "pattern") c → SearchesIn i pattern s sent
+  Matched : (p : PatternOf (List ℕ)) → SaysPattern pattern p → AreLines i (matches p i) sent → s ≡ status.Done → SearchesIn i pattern s sent
+
+-- `rewrite` answers this image and this rule with the status and the bytes: the file of the image in which the rule is applied
+pub data RewritesIn (i : ImageOf (List ℕ)) (pattern replacement : List ℕ) (s : Status) (sent : List ℕ) : Type 0 where
+  NoRule : (c : Cause) → IsRefusedPattern pattern c → s ≡ status.ScriptText → sent ≡ text_refusal (codes "pattern") c → RewritesIn i pattern replacement s sent
+  NoReplacement : (p : PatternOf (List ℕ)) (c : Cause) → SaysPattern pattern p → IsRefusedReplacement p replacement c → s ≡ status.ScriptText → sent ≡ text_refusal (codes "replacement") c → RewritesIn i pattern replacement s sent
+  Rewritten : (r : RuleOf (List ℕ)) → SaysRule pattern replacement r → s ≡ status.Done → sent ≡ written.file_of (rewritten_image r i) → RewritesIn i pattern replacement s sent
+
 -- the form is answered with the status and the bytes
 abbrev pub AnswersForm : World → Form → Status → List ℕ → Type 0
 AnswersForm w (Apply image script) s sent = Loads w image image_limit s sent (λ i. Loads w script script_limit s sent (λ c. Applies i c s sent))
@@ -110,6 +131,9 @@ AnswersForm w (Format image) s sent = Loads w image image_limit s sent (λ i. Fo
 AnswersForm w (Run image expression budget) s sent = Loads w image image_limit s sent (λ i. Runs i expression budget s sent)
 AnswersForm w (Find image question) s sent = Loads w image image_limit s sent (λ i. Finds i question s sent)
 AnswersForm w (Strip image expression sets) s sent = Loads w image image_limit s sent (λ i. Strips i expression sets s sent)
+AnswersForm w (Search image pattern) s sent = Loads w image image_limit s sent (λ t. OfImage t s sent (λ i. SearchesIn i pattern s sent))
+AnswersForm w (Rewrite image pattern replacement) s sent = Loads w image image_limit s sent (λ t. OfImage t s sent (λ i. RewritesIn i pattern replacement s sent))
+AnswersForm w (Demo number) s sent = (s ≡ status.Unbuilt) × (sent ≡ unbuilt)
 AnswersForm w Help s sent = (s ≡ status.Done) × (sent ≡ help)
 AnswersForm w Version s sent = (s ≡ status.Done) × (sent ≡ version)
 AnswersForm w Later s sent = (s ≡ status.Unbuilt) × (sent ≡ unbuilt)

@@ -1,4 +1,4 @@
--- The lines of a refused image and of a refused expression.
+-- The lines of a refused image, of a refused expression, and of a refused pattern or replacement.
 use Rattle.std.specs.Prelude.{ℕ, List, ◌++◌, codes}
 use Rattle.std.specs.Fmt.{decimal}
 use Rattle.token_model.specs.declared.fault.LexFault.{LexFault}
@@ -6,6 +6,7 @@ use Rattle.token_model.specs.declared.fault.LexFault.TheVariants.{BadByte, OpenS
 use Rattle.grammar_model.specs.Checks.{Fault, Lexical, TooDeep, Expected, PrimitiveInUser, DuplicateName, AssignsFixed}
 use Rattle.st_faults.specs.Words.{word}
 use Rattle.file_model.specs.Causes.{Cause, UnknownSuperclass, Cycle, VariableTwice, KernelReplaced, UnknownClass, TooMany, PoolsNotEmpty, UnknownDefinition, Unended, Syntax, Refusal, place_of_fault}
+use Rattle.rewrite_model.specs.Saying as saying
 use Rattle.browse.specs.Loads.{line}
 
 -- why no token begins where one should
@@ -44,3 +45,20 @@ image_refusal r = line (codes "image chunk " ++ decimal r.chunk ++ codes " at " 
 -- the line of an expression that is no do-it: the place of its first fault, and the fault
 abbrev pub expression_refusal : Fault → List ℕ
 expression_refusal f = line (codes "expression at " ++ decimal (place_of_fault f) ++ codes " " ++ fault_text f)
+
+-- why the text of a pattern or a replacement is refused, and where
+abbrev pub text_cause : saying.Cause → List ℕ
+text_cause (saying.Grammar f) = fault_text f
+text_cause (saying.TwoLists at) = codes "TwoLists"
+text_cause (saying.UnboundInReplacement at) = codes "UnboundInReplacement"
+text_cause (saying.TwiceDoubled at) = codes "TwiceDoubled"
+
+abbrev pub text_place : saying.Cause → ℕ
+text_place (saying.Grammar f) = place_of_fault f
+text_place (saying.TwoLists at) = at
+text_place (saying.UnboundInReplacement at) = at
+text_place (saying.TwiceDoubled at) = at
+
+-- the line of a text of the command line that is refused: what it is, the place of its first fault, and the fault
+abbrev pub text_refusal : List ℕ → saying.Cause → List ℕ
+text_refusal what c = line (what ++ codes " at " ++ decimal (text_place c) ++ codes " " ++ text_cause c)

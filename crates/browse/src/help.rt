@@ -14,6 +14,8 @@ run IMAGE EXPRESSION [BUDGET]: runs the do-its of IMAGE and then EXPRESSION, for
 find IMAGE KIND NAME: lists what sends or implements a selector, or means a class or a variable
 format IMAGE: prints IMAGE with each source in canonical text
 strip IMAGE EXPRESSION [sets]: prints IMAGE without what its do-its and EXPRESSION cannot reach, or what they reach
+search IMAGE PATTERN: lists the nodes that PATTERN matches
+rewrite IMAGE PATTERN REPLACEMENT: prints IMAGE with each node that PATTERN matches replaced
 --help: prints these lines
 --version: prints the version of the program and of the logic that proves it";
 

@@ -1,12 +1,14 @@
-// The lines of a refused image and of a refused expression.
+// The lines of a refused image, of a refused expression, and of a refused pattern or replacement.
 ghost use Rattle.std.specs.Prelude.{◌≡◌, ◌++◌, [], OnOk, MatchOption};
 ghost use Rattle.std.specs.Fmt.{decimal};
 ghost use Rattle.file_model.specs.Causes.{place_of_lexical, place_of_fault};
 ghost use Rattle.st_faults.specs.Faults.{fault_of};
 ghost use Rattle.file_faults.specs.Faults.{cause_of};
-ghost use Rattle.browse.specs.ImageLines.{lexical_text, fault_text, cause_text, image_refusal, expression_refusal};
+ghost use Rattle.browse.specs.ImageLines.{lexical_text, fault_text, cause_text, image_refusal, expression_refusal, text_cause, text_place, text_refusal};
+ghost use Rattle.pattern_faults.specs.Told as pattern;
 
 use file_faults::ImageCause;
+use pattern_faults::PatternFault;
 use rb_base::{Memory, Text};
 use st_faults::{ParseFault, word_of};
 use std::alloc::Global;
@@ -115,6 +117,48 @@ fn place_of(fault: ParseFault) -> usize
     }
 }
 
+/// The place of a fault of the text of a pattern, and 0 for want of memory.
+fn place_of_pattern(fault: PatternFault) -> usize
+    ensures { MatchOption (pattern.cause_of fault) (Unit {0}) (λ c. result ≡ text_place c) }
+{
+    match fault {
+        PatternFault::Text(fault) => place_of(fault),
+        PatternFault::TwoLists { at } => at,
+        PatternFault::UnboundInReplacement { at } => at,
+        PatternFault::TwiceDoubled { at } => at,
+    }
+}
+
+/// Appends the name of a fault of the text of a pattern, and what was expected. Want of memory is no fault of a text.
+fn push_pattern_fault(fault: PatternFault, out: &mut Text) -> Result<(), Memory>
+    ensures { OnOk result (MatchOption (pattern.cause_of fault) ⊥ (λ c. out.new ≡ out.old ++ text_cause c)) }
+{
+    match fault {
+        PatternFault::Text(fault) => push_fault(fault, out),
+        PatternFault::TwoLists { .. } => out.push_slice(b"TwoLists"),
+        PatternFault::UnboundInReplacement { .. } => out.push_slice(b"UnboundInReplacement"),
+        PatternFault::TwiceDoubled { .. } => out.push_slice(b"TwiceDoubled"),
+    }
+}
+
+/// Appends the line of a text of the command line that is refused. Want of memory is no fault of a text.
+pub(crate) fn push_text_refusal(
+    alloc: Global,
+    what: &str,
+    fault: PatternFault,
+    out: &mut Text,
+) -> Result<(), Memory>
+    requires { out.old ≡ [] }
+    ensures { OnOk result (MatchOption (pattern.cause_of fault) ⊥ (λ c. out.new ≡ text_refusal what.now c)) }
+{
+    out.push_slice(what.as_bytes())?;
+    out.push_slice(b" at ")?;
+    push_number(alloc, place_of_pattern(fault), out)?;
+    out.push_slice(b" ")?;
+    push_pattern_fault(fault, out)?;
+    out.push_slice(b"\n")
+}
+
 /// Appends the line of an expression that is no do-it. Want of memory is no fault of a text.
 pub(crate) fn push_expression_refusal(
     alloc: Global,
@@ -124,9 +168,5 @@ pub(crate) fn push_expression_refusal(
     requires { out.old ≡ [] }
     ensures { OnOk result (MatchOption (fault_of fault) ⊥ (λ f. out.new ≡ expression_refusal f)) }
 {
-    out.push_slice(b"expression at ")?;
-    push_number(alloc, place_of(fault), out)?;
-    out.push_slice(b" ")?;
-    push_fault(fault, out)?;
-    out.push_slice(b"\n")
+    push_text_refusal(alloc, "expression", PatternFault::Text(fault), out)
 }

@@ -11,12 +11,15 @@ use crate::find::find;
 use crate::format::format;
 use crate::help::{help, version};
 use crate::load::push_line;
+use crate::rewrite::rewrite;
 use crate::run::run;
+use crate::search::search;
 use crate::send::send;
 use crate::status::Status;
 use crate::strip::strip;
 use command_words::{Words, words_of};
 use rb_base::{Memory, Shelf, Sink, SinkError, Text};
+use rewrite_model::{has_one_list_of_lines, has_one_pattern, has_one_rule};
 use std::alloc::Global;
 
 /// The answer to words in no form.
@@ -54,9 +57,15 @@ fn answer<F: Shelf>(
             expression,
             sets,
         } => strip(alloc, shelf, image, expression, sets, out),
+        Words::Search { image, pattern } => search(alloc, shelf, image, pattern, out),
+        Words::Rewrite {
+            image,
+            pattern,
+            replacement,
+        } => rewrite(alloc, shelf, image, pattern, replacement, out),
         Words::Help => help(out),
         Words::Version => version(out),
-        Words::Later => unbuilt(out),
+        Words::Demo { .. } | Words::Later => unbuilt(out),
         Words::NoForm => usage(out),
     }
 }
@@ -107,4 +116,7 @@ pub fn has_one_answer()
         Answers w words s x → Answers w words t y → (s ≡ t) × (x ≡ y) }
 {
     apply_model::has_one_answer();
+    has_one_pattern();
+    has_one_rule();
+    has_one_list_of_lines();
 }

@@ -3,7 +3,7 @@ use Rattle.std.specs.Prelude.{ℕ, Bool, true, false, ◌&&◌, ◌||◌, List, 
 use Rattle.std.specs.Option.{option_map_or}
 use Rattle.std.specs.Str.{bytes_eq}
 use Rattle.query_model.specs.Queries.{QueryOf}
-use Rattle.command_words.specs.Spelling.{is_number, number_of}
+use Rattle.command_words.specs.Spelling.{number_of}
 use Rattle.command_words.specs.Questions.{question_of, asks}
 use Rattle.command_words.specs.declared.words.Words.{Words}
 use Rattle.command_words.specs.declared.words.Words.TheVariants as words
@@ -20,6 +20,12 @@ pub data Form : Type 0 where
   Find : List ℕ → QueryOf (List ℕ) → Form
   -- `strip IMAGE EXPRESSION`, and `strip IMAGE EXPRESSION sets` with true
   Strip : List ℕ → List ℕ → Bool → Form
+  -- `search IMAGE PATTERN`
+  Search : List ℕ → List ℕ → Form
+  -- `rewrite IMAGE PATTERN REPLACEMENT`
+  Rewrite : List ℕ → List ℕ → List ℕ → Form
+  -- `demo NUMBER`, with the number of classes
+  Demo : ℕ → Form
   -- `--help`
   Help : Form
   -- `--version`
@@ -39,19 +45,20 @@ form_of_one word =
 abbrev pub form_of_two : List ℕ → List ℕ → Form
 form_of_two command word =
     if bytes_eq command (codes "format") then Format word else
-    (if bytes_eq command (codes "demo") && is_number 2000 word then Later else NoForm)
+    (if bytes_eq command (codes "demo") then option_map_or Demo (number_of 2000 word) NoForm else NoForm)
 
--- `search IMAGE PATTERN`, `changes IMAGE SCRIPT` and `team IMAGE LOG`
-abbrev pub is_later_of_three : List ℕ → Bool
-is_later_of_three command = bytes_eq command (codes "search") || bytes_eq command (codes "changes") || bytes_eq command (codes "team")
+-- `changes IMAGE SCRIPT` and `team IMAGE LOG`
+abbrev pub is_later : List ℕ → Bool
+is_later command = bytes_eq command (codes "changes") || bytes_eq command (codes "team")
 
--- `apply IMAGE SCRIPT`, `run IMAGE EXPRESSION` with 1,000,000 ticks, `strip IMAGE EXPRESSION`, and the forms above
+-- `apply IMAGE SCRIPT`, `run IMAGE EXPRESSION` with 1,000,000 ticks, `strip IMAGE EXPRESSION`, `search IMAGE PATTERN`, and the forms above
 abbrev pub form_of_three : List ℕ → List ℕ → List ℕ → Form
 form_of_three command image word =
     if bytes_eq command (codes "apply") then Apply image word else
     (if bytes_eq command (codes "run") then Run image word 1000000 else
     (if bytes_eq command (codes "strip") then Strip image word false else
-    (if is_later_of_three command then Later else NoForm)))
+    (if bytes_eq command (codes "search") then Search image word else
+    (if is_later command then Later else NoForm))))
 
 -- `run IMAGE EXPRESSION BUDGET` with a budget from 1 to 10,000,000
 abbrev pub run_of : List ℕ → List ℕ → List ℕ → Form
@@ -65,17 +72,13 @@ find_of image kind name = option_map_or (Find image) (question_of kind name) NoF
 abbrev pub strip_of : List ℕ → List ℕ → List ℕ → Form
 strip_of image expression last = if bytes_eq last (codes "sets") then Strip image expression true else NoForm
 
--- `rewrite IMAGE PATTERN REPLACEMENT`
-abbrev pub is_later_of_four : List ℕ → Bool
-is_later_of_four command = bytes_eq command (codes "rewrite")
-
--- the forms of four words above
+-- `rewrite IMAGE PATTERN REPLACEMENT`, and the forms of four words above
 abbrev pub form_of_four : List ℕ → List ℕ → List ℕ → List ℕ → Form
 form_of_four command image word last =
     if bytes_eq command (codes "run") then run_of image word last else
     (if bytes_eq command (codes "find") then find_of image word last else
     (if bytes_eq command (codes "strip") then strip_of image word last else
-    (if is_later_of_four command then Later else NoForm)))
+    (if bytes_eq command (codes "rewrite") then Rewrite image word last else NoForm)))
 
 abbrev pub form_of : List (List ℕ) → Form
 form_of (word ∷ []) = form_of_one word
@@ -91,6 +94,9 @@ files_of (Format image) = image ∷ []
 files_of (Run image expression budget) = image ∷ []
 files_of (Find image question) = image ∷ []
 files_of (Strip image expression sets) = image ∷ []
+files_of (Search image pattern) = image ∷ []
+files_of (Rewrite image pattern replacement) = image ∷ []
+files_of (Demo number) = []
 files_of Help = []
 files_of Version = []
 files_of Later = []
@@ -103,6 +109,9 @@ shows (words.Format image) = Format image.now
 shows (words.Run image expression budget) = Run image.now expression.now budget
 shows (words.Find image question) = Find image.now (asks question)
 shows (words.Strip image expression sets) = Strip image.now expression.now sets
+shows (words.Search image pattern) = Search image.now pattern.now
+shows (words.Rewrite image pattern replacement) = Rewrite image.now pattern.now replacement.now
+shows (words.Demo number) = Demo number
 shows words.Help = Help
 shows words.Version = Version
 shows words.Later = Later

@@ -3,7 +3,7 @@ ghost use Rattle.std.specs.Prelude.{◌≡◌, ◌-◌, nat_le, IsTrue, Option, 
 ghost use Rattle.std.specs.List.{list_all};
 ghost use Rattle.token_model.specs.Bytes as class;
 ghost use Rattle.text_model.specs.Literals as literal;
-ghost use Rattle.command_words.specs.Spelling.{value_after, is_numeral, is_number, number_of};
+ghost use Rattle.command_words.specs.Spelling.{value_after, is_numeral, number_of};
 
 /// Whether the byte is a decimal digit.
 fn is_digit(byte: u8) -> bool
@@ -92,11 +92,4 @@ pub fn number_of(word: &[u8], most: u32) -> Option<u32>
     } else {
         None
     }
-}
-
-/// Whether the word is a decimal number from 1 to `most` without a leading zero.
-pub(crate) fn is_number(word: &[u8], most: u32) -> bool
-    ensures { result ≡ is_number most word.now }
-{
-    number_of(word, most).is_some()
 }

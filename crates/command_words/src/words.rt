@@ -1,9 +1,9 @@
 // The words of a command line.
 ghost use Rattle.std.specs.Prelude.{◌≡◌, map, string_bytes};
-ghost use Rattle.command_words.specs.Forms.{form_of, form_of_one, form_of_two, form_of_three, form_of_four, run_of, find_of, strip_of, is_later_of_three, is_later_of_four, shows};
+ghost use Rattle.command_words.specs.Forms.{form_of, form_of_one, form_of_two, form_of_three, form_of_four, run_of, find_of, strip_of, is_later, shows};
 
 use crate::questions::{Question, question_of};
-use crate::spelling::{is_number, number_of};
+use crate::spelling::number_of;
 
 /// The highest number of `demo`.
 const MOST_CLASSES: u32 = 2000;
@@ -45,6 +45,22 @@ pub enum Words<'w> {
         /// Whether the classes and the methods are asked for that are reached, and not the image.
         sets: bool,
     },
+    /// `search IMAGE PATTERN`.
+    Search {
+        image: &'w str,
+        pattern: &'w str,
+    },
+    /// `rewrite IMAGE PATTERN REPLACEMENT`.
+    Rewrite {
+        image: &'w str,
+        pattern: &'w str,
+        replacement: &'w str,
+    },
+    /// `demo NUMBER`.
+    Demo {
+        /// How many classes the image has, from 1 to 2,000.
+        number: u32,
+    },
     /// `--help`.
     Help,
     /// `--version`.
@@ -74,18 +90,21 @@ fn form_of_two<'w>(command: &str, word: &'w str) -> Words<'w>
 {
     if command == "format" {
         Words::Format { image: word }
-    } else if command == "demo" && is_number(word.as_bytes(), MOST_CLASSES) {
-        Words::Later
+    } else if command == "demo" {
+        match number_of(word.as_bytes(), MOST_CLASSES) {
+            Some(number) => Words::Demo { number },
+            None => Words::NoForm,
+        }
     } else {
         Words::NoForm
     }
 }
 
 /// Whether the command is one of three words that is not built yet.
-fn is_later_of_three(command: &str) -> bool
-    ensures { result ≡ is_later_of_three command.now }
+fn is_later(command: &str) -> bool
+    ensures { result ≡ is_later command.now }
 {
-    command == "search" || command == "changes" || command == "team"
+    command == "changes" || command == "team"
 }
 
 /// The form that three words are in.
@@ -109,18 +128,16 @@ fn form_of_three<'w>(command: &str, image: &'w str, word: &'w str) -> Words<'w>
             expression: word,
             sets: false,
         }
-    } else if is_later_of_three(command) {
+    } else if command == "search" {
+        Words::Search {
+            image,
+            pattern: word,
+        }
+    } else if is_later(command) {
         Words::Later
     } else {
         Words::NoForm
     }
-}
-
-/// Whether the command is one of four words that is not built yet.
-fn is_later_of_four(command: &str) -> bool
-    ensures { result ≡ is_later_of_four command.now }
-{
-    command == "rewrite"
 }
 
 /// The form of what an expression reaches.
@@ -172,8 +189,12 @@ fn form_of_four<'w>(command: &str, image: &'w str, word: &'w str, last: &'w str)
         find_of(image, word, last)
     } else if command == "strip" {
         strip_of(image, word, last)
-    } else if is_later_of_four(command) {
-        Words::Later
+    } else if command == "rewrite" {
+        Words::Rewrite {
+            image,
+            pattern: word,
+            replacement: last,
+        }
     } else {
         Words::NoForm
     }

@@ -2,4 +2,14 @@ use Rattle.browse.proofs.OneAnswer.{answers_one}
 use Rattle.browse.proofs.top.has_one_answer.Goals as goal
 
 pub returns : goal.returns
-returns c = answers_one c.has_one_answer.ensures
+returns c =
+    answers_one (record {
+      applies = c.has_one_answer.ensures;
+      pattern = c.has_one_pattern.ensures.one;
+      no_pattern = c.has_one_pattern.ensures.refused;
+      pattern_cause = c.has_one_pattern.ensures.one_cause;
+      replacement = c.has_one_rule.ensures.one;
+      no_replacement = c.has_one_rule.ensures.refused;
+      replacement_cause = c.has_one_rule.ensures.one_cause;
+      lines = c.has_one_list_of_lines.ensures;
+    })
