@@ -1,4 +1,0 @@
-use Rattle.applied_scripts.proofs.apply.apply_script.Given as goal
-
-abbrev pub ghosts-perform_counted : goal.ghosts-perform_counted
-ghosts-perform_counted a = record { name = a.blank.name; parts = a.blank.parts }
