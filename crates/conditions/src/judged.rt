@@ -205,7 +205,7 @@ pub fn holds<L: Ledger>(
         }
         Condition::Arity { selector, count } => Ok(arity_of(image.names(), selector) == count),
         Condition::Implements(method) => Ok(implements(image, method)),
-        Condition::NotImplements(method) => Ok(lacks_method(image, method)),
+        Condition::NotImplements(method) => Ok(lacks_method(image, index, method)),
         Condition::Removable(method) => is_removable(alloc, image, index, method, steps),
         Condition::NoSubclasses { class } => Ok(has_no_subclasses(image, class)),
         Condition::NotReferenced { class } => is_not_referenced(alloc, image, index, class, steps),

@@ -4,3 +4,4 @@ pub mod NamesThat
 pub mod Parents
 pub mod Beside
 pub mod Listed
+pub mod OwnListed

@@ -18,12 +18,12 @@ use Rattle.hierarchy_questions.specs.declared.arrival.Arrival.{Arrival}
 use Rattle.hierarchy_questions.specs.Arrivals.{is_named_beside, is_place_named}
 
 -- a test that never passes
-never : {X : Type 0} (xs : List X) → list_any (λ x. false) xs ≡ false
+pub never : {X : Type 0} (xs : List X) → list_any (λ x. false) xs ≡ false
 never [] = refl
 never (x ∷ xs) = never xs
 
 -- the first of two tests of which the second does not pass
-or-false : (b : Bool) → (b || false) ≡ b
+pub or-false : (b : Bool) → (b || false) ≡ b
 or-false true = refl
 or-false false = refl
 

@@ -152,7 +152,7 @@ module _ (s : Slots) (c k : ℕ) (meta : Bool) (selector : ℕ) (named : named_i
 -- the method that a class itself has in the image
 module _ (s : Slots) (orderly : IsOrderly s) (c : ℕ) (meta : Bool) (selector : ℕ) where
   -- the class of a live method has a name exactly where the class of the name is found there
-  class-agrees : (k : ℕ) → IsLive s.class_order k → is_named s.classes c k ≡ option_map_or (λ j. nat_eq j k) (named_in s.classes s.class_order c) false
+  pub class-agrees : (k : ℕ) → IsLive s.class_order k → is_named s.classes c k ≡ option_map_or (λ j. nat_eq j k) (named_in s.classes s.class_order c) false
   class-agrees k l =
       same-truth (is_named s.classes c k) (option_map_or (λ j. nat_eq j k) (named_in s.classes s.class_order c) false)
       (λ e. ap (λ o. option_map_or (λ j. nat_eq j k) o false) (find-only (is_named s.classes c) s.class_order k l e (only e)) ∙ eqb-refl k)
