@@ -69,25 +69,35 @@ module _ (s : Slots) (start : Sequence) where
     methods_settled = λ e. absurd (true≢false e);
   }
 
-  module _ (t p q : Bool) (a b c : Marks) (before : IsSearch s start t a) (x : IsPass s (class_closed s) s.class_order p a b) (y : IsPass s (is_method_settled s) s.method_order q b c) where
-    step : IsStep s a c
-    step = step-then s a b c x.step y.step
+  -- a step more, of which is not known whether it leaves something
+  pub search-later : (t : Bool) (a b : Marks) → IsSearch s start t a → IsStep s a b → IsSearch s start true b
+  search-later t a b before step = record {
+    start_closed = code-more a b (doit_at s start) step.more before.start_closed;
+    doits_closed = all-weaker (doit_closed s a) (doit_closed s b) s.doits (λ d h. code-more a b (doit_at s d.body) step.more h) before.doits_closed;
+    opened = step.opened before.opened;
+    sound = λ r closed. step.sound (start_of start) r closed (before.sound r closed);
+    classes_settled = λ e. absurd (true≢false e);
+    methods_settled = λ e. absurd (true≢false e);
+  }
 
+  module _ (t p q : Bool) (a b c : Marks) (before : IsSearch s start t a) (x : IsPass s (class_closed s) s.class_order p a b) (y : IsPass s (is_method_settled s) s.method_order q b c) where
     parts-false : (u v : Bool) → (u || v) ≡ false → (u ≡ false) × (v ≡ false)
     parts-false false v e = (refl, e)
     parts-false true v e = absurd (true≢false e)
 
     pub search-next : (changed : Bool) → changed ≡ (p || q) → IsSearch s start changed c
-    search-next changed is = record {
-      start_closed = code-more a c (doit_at s start) step.more before.start_closed;
-      doits_closed = all-weaker (doit_closed s a) (doit_closed s c) s.doits (λ d h. code-more a c (doit_at s d.body) step.more h) before.doits_closed;
-      opened = step.opened before.opened;
-      sound = λ r closed. step.sound (start_of start) r closed (before.sound r closed);
-      classes_settled = λ e.
-          let both = parts-false p q (sym is ∙ e) in
-          ap (λ (m : Marks). list_all (class_closed s m) s.class_order) (y.same both.1) ∙ x.all_settled both.0;
-      methods_settled = λ e. y.all_settled (parts-false p q (sym is ∙ e)).1;
-    }
+    search-next changed is =
+        let later = search-later t a c before (step-then s a b c x.step y.step) in
+        record {
+          start_closed = later.start_closed;
+          doits_closed = later.doits_closed;
+          opened = later.opened;
+          sound = later.sound;
+          classes_settled = λ e.
+              let both = parts-false p q (sym is ∙ e) in
+              ap (λ (m : Marks). list_all (class_closed s m) s.class_order) (y.same both.1) ∙ x.all_settled both.0;
+          methods_settled = λ e. y.all_settled (parts-false p q (sym is ∙ e)).1;
+        }
 
     pub search-smaller : (changed : Bool) → changed ≡ (p || q) → t ≡ true → unreached s c + (if changed then 1 else 0) < unreached s a + (if t then 1 else 0)
     search-smaller changed is old =

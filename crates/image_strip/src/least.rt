@@ -9,16 +9,17 @@ ghost use Rattle.class_table.specs.Valid.{IsLive, IsOrderly};
 ghost use Rattle.class_table.specs.View.{number_image};
 ghost use Rattle.image_strip.specs.Closed.{is_closed_with, start_of};
 ghost use Rattle.image_strip.specs.Code.{doit_at};
-ghost use Rattle.image_strip.specs.Least.{IsAdded, AreDoItsAdded, IsPass, is_method_settled, option_names};
+ghost use Rattle.image_strip.specs.Least.{IsAdded, AreDoItsAdded, IsPass, IsStep, is_method_settled, option_names};
 ghost use Rattle.image_strip.specs.Once.{HasMethodsOnce};
 ghost use Rattle.image_strip.specs.Reached.{reached};
 ghost use Rattle.image_strip.specs.SlotsClosed.{class_closed};
 
+use crate::by_name::{methods_by_name, row};
 use crate::closed::{is_class_closed, is_wanted};
 use crate::code::{doit_classes, method_classes, selectors_sent};
 use crate::marks::Reach;
 use class_table::{ClassId, Image, MethodSlot};
-use rb_base::{Ids, Memory, Steps};
+use rb_base::{Ids, Memory, NameId, Steps};
 use st_tree::Sequence;
 use std::alloc::Global;
 use std::sync::ledger::Ledger;
@@ -149,6 +150,69 @@ fn visit_all<L: Ledger>(
     Ok(changed)
 }
 
+/// Visits those of the slots that are live.
+fn visit_each<L: Ledger>(
+    alloc: Global,
+    image: &Image,
+    reach: &mut Reach,
+    slots: &[MethodSlot],
+    steps: &mut Steps<L>,
+) -> Result<(), Memory>
+    requires { IsOrderly image.now }
+    ensures { OnOk result (IsStep image.now reach.old reach.new) }
+{
+    for slot in slots {
+        if image.method_info(*slot).is_some() {
+            visit(alloc, image, reach, *slot, steps)?;
+        }
+    }
+    Ok(())
+}
+
+/// Puts in what follows from a name: what the class of that name demands, and of these slots the methods that must be in.
+fn follow<L: Ledger>(
+    alloc: Global,
+    image: &Image,
+    reach: &mut Reach,
+    name: NameId,
+    slots: &[MethodSlot],
+    steps: &mut Steps<L>,
+) -> Result<(), Memory>
+    requires { IsOrderly image.now }
+    ensures { OnOk result (IsStep image.now reach.old reach.new) }
+{
+    if let Some(id) = image.class_named(name) {
+        raise(alloc, image, reach, id)?;
+    }
+    visit_each(alloc, image, reach, slots, steps)?;
+    Ok(())
+}
+
+/// Puts in more of what is reached, in any order of calls: each name that comes in is followed to the classes and the methods of
+/// that name alone. Nothing is left, but that is for another pass to see.
+fn follow_all<L: Ledger>(
+    alloc: Global,
+    image: &Image,
+    reach: &mut Reach,
+    steps: &mut Steps<L>,
+) -> Result<(), Memory>
+    requires { IsOrderly image.now }
+    ensures { OnOk result (IsStep image.now reach.old reach.new) }
+{
+    raise_all(alloc, image, reach)?;
+    visit_all(alloc, image, reach, steps)?;
+    let rows = methods_by_name(alloc, image)?;
+    // A name comes in at most twice: as that of a class, and as a selector.
+    for _ in 0..image.names().len().saturating_mul(2) {
+        let Some(name) = reach.take_fresh() else {
+            return Ok(());
+        };
+        let slots = row(&rows, name);
+        follow(alloc, image, reach, name, slots, steps)?;
+    }
+    Ok(())
+}
+
 /// What the runs of the image with an expression as its last do-it can reach: the least that is closed. Opens the body of each
 /// do-it and of each method that is reached once. The error is want of memory.
 pub fn reach<L: Ledger>(
@@ -166,6 +230,7 @@ pub fn reach<L: Ledger>(
     let mut found = Reach::new(alloc);
     add_doit(alloc, image, &mut found, start)?;
     add_doits(alloc, image, &mut found, steps)?;
+    follow_all(alloc, image, &mut found, steps)?;
     let mut changed = true;
     while changed {
         let raised = raise_all(alloc, image, &mut found)?;

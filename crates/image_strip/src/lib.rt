@@ -2,6 +2,7 @@
 #![tactic(auto)]
 
 mod anew;
+mod by_name;
 mod closed;
 mod code;
 mod least;

@@ -15,6 +15,8 @@ pub struct Reach {
     classes: Vec<bool>,
     selectors: Vec<bool>,
     methods: Vec<bool>,
+    // The names of classes and selectors that were not marked before, until they are taken.
+    fresh: Vec<NameId>,
 }
 
 impl Model for Reach {
@@ -55,11 +57,14 @@ fn mark(marks: &mut Vec<bool>, number: usize) -> Result<(), Memory>
     Ok(())
 }
 
-/// Marks the numbers of names. The error is want of memory.
-fn mark_all(marks: &mut Vec<bool>, names: &[NameId]) -> Result<(), Memory>
+/// Marks the numbers of names, and puts those that were not marked among the fresh ones. The error is want of memory.
+fn mark_all(marks: &mut Vec<bool>, names: &[NameId], fresh: &mut Vec<NameId>) -> Result<(), Memory>
     ensures { OnOk result ((n : ℕ) → is_marked marks.new.items n ≡ (list_any (nat_eq n) names.now || is_marked marks.old.items n)) }
 {
     for name in names {
+        if !is_marked(marks, name.0) {
+            fresh.push(*name)?;
+        }
         mark(marks, name.0)?;
     }
     Ok(())
@@ -74,6 +79,7 @@ impl Reach {
             classes: Vec::new(alloc),
             selectors: Vec::new(alloc),
             methods: Vec::new(alloc),
+            fresh: Vec::new(alloc),
         }
     }
 
@@ -88,8 +94,15 @@ impl Reach {
         ensures selectors { OnOk result ((n : ℕ) → is_marked self.new.selectors n ≡ (list_any (nat_eq n) selectors.now || is_marked self.old.selectors n)) }
         ensures methods { self.new.methods ≡ self.old.methods }
     {
-        mark_all(&mut self.classes, classes.as_slice())?;
-        mark_all(&mut self.selectors, selectors.as_slice())
+        mark_all(&mut self.classes, classes.as_slice(), &mut self.fresh)?;
+        mark_all(&mut self.selectors, selectors.as_slice(), &mut self.fresh)
+    }
+
+    /// Takes one of the names of classes and selectors that came in and were not taken since, if there is one.
+    pub(crate) fn take_fresh(&mut self) -> Option<NameId>
+        ensures { self.new ≡ self.old }
+    {
+        self.fresh.pop()
     }
 
     /// Puts in the method in the slot. The error is want of memory.

@@ -1,6 +1,6 @@
-use Rattle.std.proofs.Common.{◌≡◌, ◌||◌, Bool, sym, ap, subst, ◌∙◌}
+use Rattle.std.proofs.Common.{◌≡◌, ◌||◌, Bool, true, sym, ap, subst, ◌∙◌}
 use Rattle.image_strip.specs.Search.{IsSearch}
-use Rattle.image_strip.proofs.Final.{search-first, search-next, search-smaller, search-closed, search-within, search-whole}
+use Rattle.image_strip.proofs.Final.{search-first, search-later, search-next, search-smaller, search-closed, search-within, search-whole}
 use Rattle.image_strip.proofs.least.reach.Goals as goal
 use Rattle.image_strip.proofs.least.reach.Goals.{then-raised, else-raised}
 
@@ -18,7 +18,9 @@ returns g c =
 
 pub loop-changed-init : goal.loop-changed-init
 loop-changed-init g c =
-    search-first c.args.image.now c.args.start.now c.new-found.result c.add_doit.new.reach c.add_doits.new.reach c.new-found.ensures c.in_ok-add_doit.ensures c.in_ok-add_doits.ensures
+    search-later c.args.image.now c.args.start.now true c.add_doits.new.reach c.follow_all.new.reach
+    (search-first c.args.image.now c.args.start.now c.new-found.result c.add_doit.new.reach c.add_doits.new.reach c.new-found.ensures c.in_ok-add_doit.ensures c.in_ok-add_doits.ensures)
+    c.in_ok-follow_all.ensures
 
 pub loop-changed-preserved : goal.loop-changed-preserved
 loop-changed-preserved g c =
