@@ -4,3 +4,4 @@ pub mod OneAnswer
 pub mod NoWrite
 pub mod Refusing
 pub mod Spelled
+pub mod Shown

@@ -11,7 +11,7 @@ use Rattle.browse.specs.declared.status.Status.{Status}
 use Rattle.browse.specs.declared.status.Status.TheVariants as status
 use Rattle.browse.specs.Statuses.{number_of}
 use Rattle.browse.specs.Loads.{World, Loads, Given, Refused, Refuses}
-use Rattle.browse.specs.Answers.{status_applied, Applies, Formats, Formatted, Refused as Stopped, status_of, RunsIn, NoDoIt, Ran, Runs, NoImage, InImage, Finds, NoImageThere, Found, StripsIn, NoStart, Stripped, Strips, NoImageToStrip, StripsImage, OfImage, Unread, Read, SearchesIn, NoPattern, Matched, RewritesIn, NoRule, NoReplacement, Rewritten, AnswersForm, Answers, image_limit, script_limit}
+use Rattle.browse.specs.Answers.{status_applied, Applies, Formats, Formatted, Refused as Stopped, status_of, RunsIn, NoDoIt, Ran, Runs, NoImage, InImage, Finds, NoImageThere, Found, StripsIn, NoStart, Stripped, Strips, NoImageToStrip, StripsImage, OfImage, Unread, Read, SearchesIn, NoPattern, Matched, RewritesIn, NoRule, NoReplacement, Rewritten, ChangesIn, Unchanged, Changed, DemosIn, NoExpression, Shown, AnswersForm, Answers, image_limit, script_limit}
 
 -- the status does not say that the output failed
 abbrev IsOther : Status → Type 0
@@ -79,6 +79,14 @@ rewrites i pattern replacement s x (NoRule c wrong is line) = other s status.Scr
 rewrites i pattern replacement s x (NoReplacement p c says wrong is line) = other s status.ScriptText is (λ e. omega (arith, e))
 rewrites i pattern replacement s x (Rewritten r said is file) = other s status.Done is (λ e. omega (arith, e))
 
+changes : (classes : ℕ) (i : ImageOf (List ℕ)) (s : Status) (x : List ℕ) → ChangesIn classes i s x → IsOther s
+changes classes i s x (Unchanged v unlike a is) = other s (status_applied v) is (verdict_other v)
+changes classes i s x (Changed rs h says ok is lines) = other s status.Done is (λ e. omega (arith, e))
+
+demos : (classes : ℕ) (i : ImageOf (List ℕ)) (s : Status) (x : List ℕ) → DemosIn classes i s x → IsOther s
+demos classes i s x (NoExpression f wrong is line) = other s status.ScriptText is (λ e. omega (arith, e))
+demos classes i s x (Shown j added c) = changes classes j s x c
+
 form_other : (w : World) (form : Form) (s : Status) (x : List ℕ) → AnswersForm w form s x → IsOther s
 form_other w (Apply image script) s x p = loads w image image_limit s x _ (λ i q. loads w script script_limit s x _ (λ c. applies i c s x) q) p
 form_other w (Format image) s x p = loads w image image_limit s x _ (λ i. formats i s x) p
@@ -87,7 +95,7 @@ form_other w (Find image question) s x p = loads w image image_limit s x _ (λ i
 form_other w (Strip image expression sets) s x p = loads w image image_limit s x _ (λ i. strips i expression sets s x) p
 form_other w (Search image pattern) s x p = loads w image image_limit s x _ (λ t. of_image t s x _ (λ i. searches i pattern s x)) p
 form_other w (Rewrite image pattern replacement) s x p = loads w image image_limit s x _ (λ t. of_image t s x _ (λ i. rewrites i pattern replacement s x)) p
-form_other w (Demo number) s x p = other s status.Unbuilt p.0 (λ e. omega (arith, e))
+form_other w (Demo number) s x p = of_image _ s x _ (λ i. demos number i s x) p
 form_other w Help s x p = other s status.Done p.0 (λ e. omega (arith, e))
 form_other w Version s x p = other s status.Done p.0 (λ e. omega (arith, e))
 form_other w Later s x p = other s status.Unbuilt p.0 (λ e. omega (arith, e))

@@ -1,5 +1,5 @@
 -- Where the outside tells of the files and no read fails, words have at most one answer.
-use Rattle.std.proofs.Common.{◌≡◌, ℕ, Bool, List, ◌<◌, length, inl, inr, ap, sym, subst, ◌∙◌, arith}
+use Rattle.std.proofs.Common.{◌≡◌, ℕ, Bool, List, Result, Ok, ◌<◌, length, inl, inr, refl, ap, sym, subst, ◌∙◌, arith}
 use Rattle.std.specs.Prelude.{codes}
 use Rattle.rb_base.specs.Outside.{Told, Untold, NoFile, File, IsNoFile, OnFile, MayGive, Rose}
 use Rattle.token_model.specs.declared.kind.Dialect.TheVariants.{Second}
@@ -27,12 +27,16 @@ use Rattle.pattern_model.specs.Rewritten.{RuleOf}
 use Rattle.rewrite_model.specs.Saying.{Cause, SaysPattern, SaysReplacement, SaysRule, IsRefusedPattern, IsRefusedReplacement}
 use Rattle.rewrite_model.specs.Searched.{matches}
 use Rattle.rewrite_model.specs.Rewritten.{rewritten_image}
+use Rattle.session_model.specs.Scripts.{Request, History, Refusal as Stop, verdict_in}
+use Rattle.script_model.specs.Scripts.{Says}
+use Rattle.image_maker.specs.Generated.{image_text, expression_text, script_text}
 use Rattle.query_model.proofs.OneAnswer.{one_answer}
 use Rattle.file_model.specs.Causes.{Refusal}
 use Rattle.apply_model.specs.declared.status.Status as applied
+use Rattle.apply_model.specs.declared.status.Status.TheVariants as verdict
 use Rattle.apply_model.specs.Applied as model
 use Rattle.browse.specs.ImageLines.{image_refusal, expression_refusal, text_refusal}
-use Rattle.browse.specs.Answers.{status_applied, Applies, Formats, Formatted, Refused as Stopped, status_of, RunsIn, NoDoIt, Ran, Runs, NoImage, InImage, Finds, NoImageThere, Found, stripped_text, StripsIn, NoStart, Stripped, Strips, NoImageToStrip, StripsImage, OfImage, Unread, Read, SearchesIn, NoPattern, Matched, RewritesIn, NoRule, NoReplacement, Rewritten, AnswersForm, Answers, image_limit, script_limit}
+use Rattle.browse.specs.Answers.{status_applied, Applies, Formats, Formatted, Refused as Stopped, status_of, RunsIn, NoDoIt, Ran, Runs, NoImage, InImage, Finds, NoImageThere, Found, stripped_text, StripsIn, NoStart, Stripped, Strips, NoImageToStrip, StripsImage, OfImage, Unread, Read, SearchesIn, NoPattern, Matched, RewritesIn, NoRule, NoReplacement, Rewritten, summary, ChangesIn, Unchanged, Changed, DemosIn, NoExpression, Shown, AnswersForm, Answers, image_limit, script_limit}
 
 -- both answers are one
 abbrev pub SameAnswer : Status → Status → List ℕ → List ℕ → Type 0
@@ -150,9 +154,11 @@ of_image_one text s t x y P Q step (Unread r wrong is line) (Read i read p) = ab
 of_image_one text s t x y P Q step (Read i read p) (Unread r wrong is line) = absurd (no_image_where_refused Second prelude_text text i r read wrong)
 of_image_one text s t x y P Q step (Read i read p) (Read j read' q) = step j (subst P (one_image Second prelude_text text i j read read') p) q
 
--- what is known of `apply`, of patterns and rules, and of lines
+-- what is known of scripts, of patterns and rules, and of lines
 pub record OnceLaws : Type 0 where
   pub applies : (image_line : Refusal → List ℕ) (text script : List ℕ) (v u : applied.Status) (x y : List ℕ) → model.Applies image_line text script v x → model.Applies image_line text script u y → (v ≡ u) × (x ≡ y)
+  pub applies_in : (i : ImageOf (List ℕ)) (script : List ℕ) (v u : applied.Status) (x y : List ℕ) → model.AppliesIn i script v x → model.AppliesIn i script u y → (v ≡ u) × (x ≡ y)
+  pub requests : (text : List ℕ) (rs qs : List Request) → Says text rs → Says text qs → rs ≡ qs
   pub pattern : (text : List ℕ) (p q : PatternOf (List ℕ)) → SaysPattern text p → SaysPattern text q → p ≡ q
   pub no_pattern : (text : List ℕ) (p : PatternOf (List ℕ)) (c : Cause) → SaysPattern text p → ¬ IsRefusedPattern text c
   pub pattern_cause : (text : List ℕ) (c d : Cause) → IsRefusedPattern text c → IsRefusedPattern text d → c ≡ d
@@ -202,6 +208,28 @@ module _ (once : OnceLaws) where
   rewrites_one i pattern replacement s t x y (Rewritten r said is line) (Rewritten q said' is' line') =
       (is ∙ sym is', line ∙ ap (λ (u : RuleOf (List ℕ)). file_of (rewritten_image u i)) (rule_one pattern replacement r q said said') ∙ sym line')
 
+  changes_one : (classes : ℕ) (i : ImageOf (List ℕ)) (s t : Status) (x y : List ℕ) → ChangesIn classes i s x → ChangesIn classes i t y → SameAnswer s t x y
+  changes_one classes i s t x y (Unchanged v other a is) (Unchanged u other' b is') =
+      let same = once.applies_in i (script_text classes) v u x y a b in
+      (is ∙ ap status_applied same.0 ∙ sym is', same.1)
+  changes_one classes i s t x y (Unchanged v other a is) (Changed rs h says ok is' line) =
+      absurd (other (once.applies_in i (script_text classes) v verdict.Done x (file_of h.now.image) a (model.Accepted rs h says ok refl refl)).0)
+  changes_one classes i s t x y (Changed rs h says ok is line) (Unchanged v other a is') =
+      absurd (other (once.applies_in i (script_text classes) v verdict.Done y (file_of h.now.image) a (model.Accepted rs h says ok refl refl)).0)
+  changes_one classes i s t x y (Changed rs h says ok is line) (Changed qs g says' ok' is' line') =
+      let asked : rs ≡ qs = once.requests (script_text classes) rs qs says says' in
+      let both : ◌≡◌ {A = Result History Stop} (Ok h) (Ok g) = sym ok ∙ ap (verdict_in i) asked ∙ ok' in
+      let same : h ≡ g = cc in
+      (is ∙ sym is', line ∙ (λ k. summary classes (length (asked k)) i (same k).now.image) ∙ sym line')
+
+  demos_one : (classes : ℕ) (i : ImageOf (List ℕ)) (s t : Status) (x y : List ℕ) → DemosIn classes i s x → DemosIn classes i t y → SameAnswer s t x y
+  demos_one classes i s t x y (NoExpression f wrong is line) (NoExpression g wrong' is' line') =
+      (is ∙ sym is', line ∙ ap expression_refusal (one_HasFirstFault Second DoIt (expression_text classes) f g wrong wrong') ∙ sym line')
+  demos_one classes i s t x y (NoExpression f wrong is line) (Shown j added c) = absurd (no_fault_DoIt Second (expression_text classes) added.body f added.spelled wrong)
+  demos_one classes i s t x y (Shown j added c) (NoExpression f wrong is line) = absurd (no_fault_DoIt Second (expression_text classes) added.body f added.spelled wrong)
+  demos_one classes i s t x y (Shown j added c) (Shown k added' d) =
+      changes_one classes k s t x y (subst (λ (m : ImageOf (List ℕ)). ChangesIn classes m s x) (with_one (expression_text classes) i j k added added') c) d
+
   form_one : (w : World) (form : Form) (s t : Status) (x y : List ℕ) → IsHonest w (files_of form) → AnswersForm w form s x → AnswersForm w form t y → SameAnswer s t x y
   form_one w (Apply image script) s t x y honest p q =
       loads_one w image image_limit s t x y _ _ honest.told.0 honest.fine
@@ -218,7 +246,7 @@ module _ (once : OnceLaws) where
       loads_one w image image_limit s t x y _ _ honest.told.0 honest.fine (λ i. of_image_one i s t x y _ _ (λ j. searches_one j pattern s t x y)) p q
   form_one w (Rewrite image pattern replacement) s t x y honest p q =
       loads_one w image image_limit s t x y _ _ honest.told.0 honest.fine (λ i. of_image_one i s t x y _ _ (λ j. rewrites_one j pattern replacement s t x y)) p q
-  form_one w (Demo number) s t x y honest p q = (p.0 ∙ sym q.0, p.1 ∙ sym q.1)
+  form_one w (Demo number) s t x y honest p q = of_image_one (image_text number) s t x y _ _ (λ j. demos_one number j s t x y) p q
   form_one w Help s t x y honest p q = (p.0 ∙ sym q.0, p.1 ∙ sym q.1)
   form_one w Version s t x y honest p q = (p.0 ∙ sym q.0, p.1 ∙ sym q.1)
   form_one w Later s t x y honest p q = (p.0 ∙ sym q.0, p.1 ∙ sym q.1)

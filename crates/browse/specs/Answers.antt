@@ -1,5 +1,6 @@
 -- What the words are answered with: a status, and the bytes that are sent.
-use Rattle.std.specs.Prelude.{◌≡◌, ℕ, List, codes, Bool, if◌then◌else◌}
+use Rattle.std.specs.Prelude.{◌≡◌, ◌≢◌, ℕ, List, [], ◌++◌, length, Ok, codes, Bool, if◌then◌else◌}
+use Rattle.std.specs.Fmt.{decimal}
 use Rattle.apply_model.specs.declared.status.Status as applied
 use Rattle.apply_model.specs.declared.status.Status.TheVariants as verdict
 use Rattle.apply_model.specs.Applied as model
@@ -27,6 +28,10 @@ use Rattle.pattern_model.specs.Rewritten.{RuleOf}
 use Rattle.rewrite_model.specs.Saying.{Cause, SaysPattern, SaysRule, IsRefusedPattern, IsRefusedReplacement}
 use Rattle.rewrite_model.specs.Searched.{matches}
 use Rattle.rewrite_model.specs.Rewritten.{rewritten_image}
+use Rattle.session_model.specs.Scripts.{Request, History, verdict_in}
+use Rattle.script_model.specs.Scripts.{Says}
+use Rattle.image_maker.specs.Generated.{image_text, expression_text, script_text}
+use Rattle.run_model.specs.Views.{run_text}
 use Rattle.strip_model.specs.Reach.{ReachOf, reach}
 use Rattle.strip_model.specs.Stripped.{certificate, strip}
 use Rattle.command_words.specs.Forms.{Form, Apply, Format, Run, Find, Strip, Search, Rewrite, Demo, Help, Version, Later, NoForm, form_of}
@@ -49,7 +54,7 @@ usage = line (codes "usage: browse COMMAND ARGUMENTS")
 
 -- the forms as they are typed, each with what it does
 abbrev pub help : List ℕ
-help = line (codes "usage: browse COMMAND ARGUMENTS\napply IMAGE SCRIPT: prints the file-out IMAGE as the commands of SCRIPT change it\nrun IMAGE EXPRESSION [BUDGET]: runs the do-its of IMAGE and then EXPRESSION, for at most BUDGET ticks\nfind IMAGE KIND NAME: lists what sends or implements a selector, or means a class or a variable\nformat IMAGE: prints IMAGE with each source in canonical text\nstrip IMAGE EXPRESSION [sets]: prints IMAGE without what its do-its and EXPRESSION cannot reach, or what they reach\nsearch IMAGE PATTERN: lists the nodes that PATTERN matches\nrewrite IMAGE PATTERN REPLACEMENT: prints IMAGE with each node that PATTERN matches replaced\n--help: prints these lines\n--version: prints the version of the program and of the logic that proves it")
+help = line (codes "usage: browse COMMAND ARGUMENTS\napply IMAGE SCRIPT: prints the file-out IMAGE as the commands of SCRIPT change it\nrun IMAGE EXPRESSION [BUDGET]: runs the do-its of IMAGE and then EXPRESSION, for at most BUDGET ticks\nfind IMAGE KIND NAME: lists what sends or implements a selector, or means a class or a variable\nformat IMAGE: prints IMAGE with each source in canonical text\nstrip IMAGE EXPRESSION [sets]: prints IMAGE without what its do-its and EXPRESSION cannot reach, or what they reach\nsearch IMAGE PATTERN: lists the nodes that PATTERN matches\nrewrite IMAGE PATTERN REPLACEMENT: prints IMAGE with each node that PATTERN matches replaced\ndemo NUMBER: makes an image of NUMBER classes, runs it, renames in it, and runs it again\n--help: prints these lines\n--version: prints the version of the program and of the logic that proves it")
 
 -- the version of the program, of the kit that builds it and of the logic that proves it
 abbrev pub version : List ℕ
@@ -124,6 +129,29 @@ pub data RewritesIn (i : ImageOf (List ℕ)) (pattern replacement : List ℕ) (s
   NoReplacement : (p : PatternOf (List ℕ)) (c : Cause) → SaysPattern pattern p → IsRefusedReplacement p replacement c → s ≡ status.ScriptText → sent ≡ text_refusal (codes "replacement") c → RewritesIn i pattern replacement s sent
   Rewritten : (r : RuleOf (List ℕ)) → SaysRule pattern replacement r → s ≡ status.Done → sent ≡ written.file_of (rewritten_image r i) → RewritesIn i pattern replacement s sent
 
+-- the last line that is printed of a run of `demo`, which has 1,000,000 ticks
+abbrev pub demo_ticks : ℕ
+demo_ticks = 1000000
+
+abbrev pub last_line : ImageOf (List ℕ) → List ℕ
+last_line i = run_text demo_ticks [] (run i demo_ticks).outcome
+
+-- the lines of `demo`: how many classes, methods and commands there are, and the last lines of the runs before and after
+abbrev pub summary : (classes commands : ℕ) → ImageOf (List ℕ) → ImageOf (List ℕ) → List ℕ
+summary classes commands before after =
+    line (codes "classes " ++ decimal classes) ++ line (codes "methods " ++ decimal classes) ++ line (codes "commands " ++ decimal commands)
+    ++ (codes "before " ++ last_line before) ++ (codes "after " ++ last_line after)
+
+-- the script of `demo` changes this image, and what is printed tells how it was run before and is run after; or it is answered as `apply` answers it
+pub data ChangesIn (classes : ℕ) (i : ImageOf (List ℕ)) (s : Status) (sent : List ℕ) : Type 0 where
+  Unchanged : (v : applied.Status) → v ≢ verdict.Done → model.AppliesIn i (script_text classes) v sent → s ≡ status_applied v → ChangesIn classes i s sent
+  Changed : (requests : List Request) (h : History) → Says (script_text classes) requests → verdict_in i requests ≡ Ok h → s ≡ status.Done → sent ≡ summary classes (length requests) i h.now.image → ChangesIn classes i s sent
+
+-- `demo` answers its image of so many classes with the status and the bytes: the image has the expression as its last do-it
+pub data DemosIn (classes : ℕ) (i : ImageOf (List ℕ)) (s : Status) (sent : List ℕ) : Type 0 where
+  NoExpression : (f : Fault) → HasFirstFault Second DoIt (expression_text classes) f → s ≡ status.ScriptText → sent ≡ expression_refusal f → DemosIn classes i s sent
+  Shown : (j : ImageOf (List ℕ)) → IsWithDoIt (expression_text classes) i j → ChangesIn classes j s sent → DemosIn classes i s sent
+
 -- the form is answered with the status and the bytes
 abbrev pub AnswersForm : World → Form → Status → List ℕ → Type 0
 AnswersForm w (Apply image script) s sent = Loads w image image_limit s sent (λ i. Loads w script script_limit s sent (λ c. Applies i c s sent))
@@ -133,7 +161,7 @@ AnswersForm w (Find image question) s sent = Loads w image image_limit s sent (�
 AnswersForm w (Strip image expression sets) s sent = Loads w image image_limit s sent (λ i. Strips i expression sets s sent)
 AnswersForm w (Search image pattern) s sent = Loads w image image_limit s sent (λ t. OfImage t s sent (λ i. SearchesIn i pattern s sent))
 AnswersForm w (Rewrite image pattern replacement) s sent = Loads w image image_limit s sent (λ t. OfImage t s sent (λ i. RewritesIn i pattern replacement s sent))
-AnswersForm w (Demo number) s sent = (s ≡ status.Unbuilt) × (sent ≡ unbuilt)
+AnswersForm w (Demo number) s sent = OfImage (image_text number) s sent (λ i. DemosIn number i s sent)
 AnswersForm w Help s sent = (s ≡ status.Done) × (sent ≡ help)
 AnswersForm w Version s sent = (s ≡ status.Done) × (sent ≡ version)
 AnswersForm w Later s sent = (s ≡ status.Unbuilt) × (sent ≡ unbuilt)

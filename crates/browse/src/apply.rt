@@ -31,7 +31,7 @@ pub fn unbuilt(out: &mut Text) -> Result<Status, Memory>
 }
 
 /// How a call ends whose files are answered so.
-fn status_of(verdict: Verdict) -> Status
+pub(crate) fn status_of(verdict: Verdict) -> Status
     ensures { result ≡ status_applied verdict }
 {
     match verdict {

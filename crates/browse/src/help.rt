@@ -16,6 +16,7 @@ format IMAGE: prints IMAGE with each source in canonical text
 strip IMAGE EXPRESSION [sets]: prints IMAGE without what its do-its and EXPRESSION cannot reach, or what they reach
 search IMAGE PATTERN: lists the nodes that PATTERN matches
 rewrite IMAGE PATTERN REPLACEMENT: prints IMAGE with each node that PATTERN matches replaced
+demo NUMBER: makes an image of NUMBER classes, runs it, renames in it, and runs it again
 --help: prints these lines
 --version: prints the version of the program and of the logic that proves it";
 

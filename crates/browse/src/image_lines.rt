@@ -63,7 +63,7 @@ fn push_cause(cause: ImageCause, out: &mut Text) -> Result<(), Memory>
 }
 
 /// Appends a number in decimal.
-fn push_number(alloc: Global, number: usize, out: &mut Text) -> Result<(), Memory>
+pub(crate) fn push_number(alloc: Global, number: usize, out: &mut Text) -> Result<(), Memory>
     ensures { OnOk result (out.new ≡ out.old ++ decimal number) }
 {
     let digits = format!(in alloc; "{number}")?;

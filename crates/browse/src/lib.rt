@@ -2,6 +2,7 @@
 #![tactic(auto)]
 
 mod apply;
+mod demo;
 mod find;
 mod format;
 mod help;

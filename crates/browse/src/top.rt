@@ -7,6 +7,7 @@ ghost use Rattle.browse.specs.Loads.{World, world, IsHonest};
 ghost use Rattle.browse.specs.Answers.{Answers, usage};
 
 use crate::apply::{apply, unbuilt};
+use crate::demo::demo;
 use crate::find::find;
 use crate::format::format;
 use crate::help::{help, version};
@@ -17,9 +18,11 @@ use crate::search::search;
 use crate::send::send;
 use crate::status::Status;
 use crate::strip::strip;
+use apply_model::has_one_answer_in_image;
 use command_words::{Words, words_of};
 use rb_base::{Memory, Shelf, Sink, SinkError, Text};
 use rewrite_model::{has_one_list_of_lines, has_one_pattern, has_one_rule};
+use script_model::has_one_reading;
 use std::alloc::Global;
 
 /// The answer to words in no form.
@@ -65,7 +68,8 @@ fn answer<F: Shelf>(
         } => rewrite(alloc, shelf, image, pattern, replacement, out),
         Words::Help => help(out),
         Words::Version => version(out),
-        Words::Demo { .. } | Words::Later => unbuilt(out),
+        Words::Demo { number } => demo(alloc, number, out),
+        Words::Later => unbuilt(out),
         Words::NoForm => usage(out),
     }
 }
@@ -116,6 +120,8 @@ pub fn has_one_answer()
         Answers w words s x → Answers w words t y → (s ≡ t) × (x ≡ y) }
 {
     apply_model::has_one_answer();
+    has_one_answer_in_image();
+    has_one_reading();
     has_one_pattern();
     has_one_rule();
     has_one_list_of_lines();

@@ -5,6 +5,8 @@ pub returns : goal.returns
 returns c =
     answers_one (record {
       applies = c.has_one_answer.ensures;
+      applies_in = c.has_one_answer_in_image.ensures;
+      requests = c.has_one_reading.ensures.requests;
       pattern = c.has_one_pattern.ensures.one;
       no_pattern = c.has_one_pattern.ensures.refused;
       pattern_cause = c.has_one_pattern.ensures.one_cause;
