@@ -70,7 +70,7 @@ pushed_down i c meta t rs = record {
 }
 
 -- a method is added
-added : (i : ImageOf Text) (m : EntryOf Text) → IsFiled i → (m.kernel ≡ false → MayStand m.source) → IsFiled (record i { methods = i.methods ++ m ∷ [] })
+pub added : (i : ImageOf Text) (m : EntryOf Text) → IsFiled i → (m.kernel ≡ false → MayStand m.source) → IsFiled (record i { methods = i.methods ++ m ∷ [] })
 added i m f stands = record { methods = λ n h u. by n (in_either i.methods (m ∷ []) n h) u; doits = f.doits; forms = f.forms; heads = f.heads }
   where
     by : (n : EntryOf Text) → In i.methods n ⊎ In (m ∷ []) n → n.kernel ≡ false → MayStand n.source

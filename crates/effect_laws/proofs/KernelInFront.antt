@@ -60,7 +60,7 @@ module _ {X : Type 0} (p : X → Bool) where
           ∙ sym (ap (λ zs. zs ++ (x ∷ filter (λ y. not (p y)) xs)) (filter-none p xs (f.0 q)))
           ∙ sym (ap (λ b. cond b (x ∷ filter p xs) (filter p xs) ++ cond (not b) (x ∷ filter (λ y. not (p y)) xs) (filter (λ y. not (p y)) xs)) q)
 
-  front_both : (xs ys : List X) → IsFront p xs → IsFront p ys → ((x y : X) → In xs x → p x ≡ false → In ys y → p y ≡ false) → IsFront p (xs ++ ys)
+  pub front_both : (xs ys : List X) → IsFront p xs → IsFront p ys → ((x y : X) → In xs x → p x ≡ false → In ys y → p y ≡ false) → IsFront p (xs ++ ys)
   front_both [] ys f g h = g
   front_both (x ∷ xs) ys f g h = ((λ q y k. by y (in_either xs ys y k) q), front_both xs ys f.1 g (λ z y k. h z y (inr k)))
     where
@@ -72,7 +72,7 @@ module _ {X : Type 0} (p : X → Bool) where
   all_front [] h = tt
   all_front (x ∷ xs) h = ((λ q y k. sym (h x y (inl refl) (inr k)) ∙ q), all_front xs (λ y z k l. h y z (inr k) (inr l)))
 
-  front_map : (f : X → X) (xs : List X) → ((x : X) → p (f x) ≡ p x) → IsFront p xs → IsFront p (map f xs)
+  pub front_map : (f : X → X) (xs : List X) → ((x : X) → p (f x) ≡ p x) → IsFront p xs → IsFront p (map f xs)
   front_map f [] h g = tt
   front_map f (x ∷ xs) h g = ((λ q y k. (let r = map_in f xs y k in ap p (sym r.2) ∙ h r.0 ∙ g.0 (sym (h x) ∙ q) r.0 r.1)), front_map f xs h g.1)
 
@@ -84,7 +84,7 @@ module _ {X : Type 0} (p : X → Bool) where
       by true rest = ((λ q y k. g.0 q y (filter_in t xs y k).0), rest)
       by false rest = rest
 
-  front_end : (xs : List X) (x : X) → p x ≡ false → IsFront p xs → IsFront p (xs ++ x ∷ [])
+  pub front_end : (xs : List X) (x : X) → p x ≡ false → IsFront p xs → IsFront p (xs ++ x ∷ [])
   front_end xs x h g = front_both xs (x ∷ []) g ((λ q y k. absurd k), tt) (λ z y k q l. by y l)
     where
       by : (y : X) → In (x ∷ []) y → p y ≡ false
@@ -182,7 +182,7 @@ moved_front : (i : ImageOf Text) (c d x : Text) → AreFronts i → AreFronts (s
 moved_front i c d x f = changed (with_changed text_eq c (without text_eq of_class x) i) d (with_last of_class x) (last_kernel i of_class x) (changed i c (without text_eq of_class x) (without_kernel i of_class x) f)
 
 -- a method with another tree, where there is one
-retreed_front : (i : ImageOf Text) (c : Text) (meta : Bool) (t : Text) (change : EntryOf Text → Option (MethodOf Text)) → AreFronts i → (o : Option (EntryOf Text)) → AreFronts (unwrap_or (option_map (λ tree. with_tree text_eq canonical c meta t tree i) (option_and_then change o)) i)
+pub retreed_front : (i : ImageOf Text) (c : Text) (meta : Bool) (t : Text) (change : EntryOf Text → Option (MethodOf Text)) → AreFronts i → (o : Option (EntryOf Text)) → AreFronts (unwrap_or (option_map (λ tree. with_tree text_eq canonical c meta t tree i) (option_and_then change o)) i)
 retreed_front i c meta t change f None = f
 retreed_front i c meta t change f (Some m) = by (change m)
   where

@@ -29,7 +29,7 @@ use Rattle.effect_laws.proofs.TreeReplaced.{replaced_sound, replaced_filed}
 use Rattle.effect_laws.proofs.TemporaryRenamed.{renamed_well}
 
 -- a method of the user is none of the kernel
-users_mark : (i : ImageOf Text) (c : Text) (meta : Bool) (t : Text) (n : EntryOf Text) → users_method text_eq i c meta t ≡ Some n → n.kernel ≡ false
+pub users_mark : (i : ImageOf Text) (c : Text) (meta : Bool) (t : Text) (n : EntryOf Text) → users_method text_eq i c meta t ≡ Some n → n.kernel ≡ false
 users_mark i c meta t n = by (own_method text_eq i.methods c meta t)
   where
     either : (m : EntryOf Text) (b : Bool) → m.kernel ≡ b → (if b then None else Some m) ≡ Some n → n.kernel ≡ false
