@@ -80,7 +80,7 @@ module _ (i after : ResolvedImage) (u : IsUnfolded i after) (side : Bool) where
         Sim i u.gone u.named side w Anything (go (at_node f (sending (reading (of_word (codes "self"))) s args))) (lines resolved_traces go' f' x body')
     pub drops : {w : World} {g : Context} {t : ResolvedTree} {a : StandIn} (f f' : ResolvedFrame) (k c : ℕ) {cs cs' : List ResolvedClosure} {m m' : Memory} → Frames w g f f' → Actual g t a → IsFixed a → slice_get f.locals k ≡ Some (in_cell c) → Linked i u.gone u.named w cs m cs' m' →
         Drops (go (at_node f (assigning (to_temporary k) t))) f' a c cs m
-    pub firsts : (w0 w : World) {g : Context} {e e' t t' : ResolvedTree} (f f' : ResolvedFrame) (k n : ℕ) → slice_get g.locals k ≡ Some a_dropped → Unfolds i u.gone g e e' → suc n ≤ u.gone.reach → UnfoldsFirst i u.gone (with_local k a_nothing g) k e' (suc n) t t' →
+    pub firsts : (w0 w : World) {g : Context} {e e' t t' : ResolvedTree} (f f' : ResolvedFrame) (k n : ℕ) → slice_get g.locals k ≡ Some a_dropped → Unfolds i u.gone g e e' → n ≤ u.gone.reach → UnfoldsFirst i u.gone (with_local k a_nothing g) k e' n t t' →
         Frames w g f f' → Onward w0 w → DropsFrom w0.cells.limit f.locals g.locals → (cs cs' : List ResolvedClosure) (m m' : Memory) → Linked i u.gone u.named w cs m cs' m' →
         Follows i u.gone u.named side (InFrame (with_local k a_nothing g) f f') w0
         (goes_on_traced (go (at_node f (assigning (to_temporary k) e)) cs m).0.steps (go (at_node f (assigning (to_temporary k) e)) cs m).0.end (go (at_node f (assigning (to_temporary k) e)) cs m).1 (λ y. go (at_node f t))) (go' (at_node f' t') cs' m')

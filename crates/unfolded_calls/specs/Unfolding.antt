@@ -1,7 +1,7 @@
 -- When an image is another one in which the bodies of methods stand in place of some sends to self that run them, and values in place of some temporaries that one statement sets.
 use Rattle.std.specs.Prelude.{◌≡◌, ◌≤◌, ℕ, zero, suc, ◌+◌, Bool, true, false, List, [], ◌∷◌, ◌++◌, map, length, set, slice_get, Option, Some, None, codes, ℤ}
 use Rattle.rb_base.specs.Names.{text_eq}
-use Rattle.tree_model.specs.Tree.{LiteralOf, number, str, symbol, char}
+use Rattle.tree_model.specs.Tree.{LiteralOf, number, str, symbol, char, word}
 use Rattle.image_model.specs.Image.{ClassOf}
 use Rattle.image_model.specs.ImageNames.{OptionNames}
 use Rattle.image_model.specs.Chain.{class_named}
@@ -237,6 +237,11 @@ pub data Actual (g : Context) : ResolvedTree → StandIn → Type 0 where
   far_actual : (k j : ℕ) → slice_get g.locals k ≡ Some (a_far j) → Actual g (reading (of_local k)) (a_lent j)
   argument_actual : (k j : ℕ) → slice_get g.locals k ≡ Some (an_argument j) → Actual g (reading (of_local k)) (an_argument j)
 
+-- a node before that is always the same from then on, and the node after
+pub data Simple (g : Context) : ResolvedTree → ResolvedTree → Type 0 where
+  simple : {t : ResolvedTree} (a : StandIn) → Actual g t a → IsFixed a → Simple g t (stand_in a)
+  simple_word : (n : Name) → Simple g (constant (word n)) (constant (word n))
+
 -- actuals in order
 pub data Actuals (g : Context) : ResolvedTrees → List StandIn → Type 0 where
   no_actuals : Actuals g no_nodes []
@@ -322,11 +327,11 @@ module _ (i : ResolvedImage) (gone : Allowed) where
       -- the one statement that sets a dropped temporary, which is not the last
       dropped_line : {g : Context} {t u : ResolvedTree} {ss rest : ResolvedStatements} (k : ℕ) (a : StandIn) → slice_get g.locals k ≡ Some a_dropped → Actual g t a → IsFixed a →
           UnfoldsLines (with_local k a g) (more_lines u ss) rest → UnfoldsLines g (more_lines (assigning (to_temporary k) t) (more_lines u ss)) rest
-      -- the one statement that sets a dropped temporary, and the next one, which reads it first of all and is not that read alone
-      first_line : {g : Context} {e e' t t' : ResolvedTree} {ss rest : ResolvedStatements} (k n : ℕ) → slice_get g.locals k ≡ Some a_dropped → Unfolds g e e' → suc n ≤ gone.reach →
-          UnfoldsFirst (with_local k a_nothing g) k e' (suc n) t t' → UnfoldsLines (with_local k a_nothing g) ss rest → UnfoldsLines g (more_lines (assigning (to_temporary k) e) (more_lines t ss)) (more_lines t' rest)
+      -- the one statement that sets a dropped temporary, and the next one, which reads it before it does anything else
+      first_line : {g : Context} {e e' t t' : ResolvedTree} {ss rest : ResolvedStatements} (k n : ℕ) → slice_get g.locals k ≡ Some a_dropped → Unfolds g e e' → n ≤ gone.reach →
+          UnfoldsFirst (with_local k a_nothing g) k e' n t t' → UnfoldsLines (with_local k a_nothing g) ss rest → UnfoldsLines g (more_lines (assigning (to_temporary k) e) (more_lines t ss)) (more_lines t' rest)
 
-    -- a node that reads a temporary before it does anything else, n steps down through receivers and through what is assigned or returned, and the node with e in its place
+    -- a node that reads a temporary before it does anything else but look at what is always the same, n steps down through receivers, arguments, items of braces, and what is assigned or returned; and the node with e in its place
     pub data UnfoldsFirst : Context → ℕ → ResolvedTree → ℕ → ResolvedTree → ResolvedTree → Type 0 where
       first_read : {g : Context} {k : ℕ} {e : ResolvedTree} → UnfoldsFirst g k e 0 (reading (of_local k)) e
       first_receiver : {g : Context} {k n : ℕ} {e r r' : ResolvedTree} {s : Name} {args args' : ResolvedTrees} → resolved_shape s r args ≡ as_message → resolved_shape s r' args' ≡ as_message → gone.is_gone s ≡ false →
@@ -336,7 +341,18 @@ module _ (i : ResolvedImage) (gone : Allowed) where
       first_cascade : {g : Context} {k n : ℕ} {e r r' : ResolvedTree} {ms ms' : ResolvedMessages} → UnfoldsFirst g k e n r r' → UnfoldsMessages g ms ms' → UnfoldsFirst g k e (suc n) (cascading r ms) (cascading r' ms')
       first_temporary : {g : Context} {k n : ℕ} {e t t' : ResolvedTree} (h j : ℕ) → slice_get g.locals h ≡ Some (a_temporary j) → UnfoldsFirst g k e n t t' → UnfoldsFirst g k e (suc n) (assigning (to_temporary h) t) (assigning (to_temporary j) t')
       first_assignment : {g : Context} {k n : ℕ} {e t t' : ResolvedTree} (x : Target) → IsOuterTarget x → UnfoldsFirst g k e n t t' → UnfoldsFirst g k e (suc n) (assigning x t) (assigning x t')
+      first_steady : {g : Context} {k n : ℕ} {e t t' : ResolvedTree} (h j : ℕ) → slice_get g.locals h ≡ Some (a_steady j) → UnfoldsFirst g k e n t t' → UnfoldsFirst g k e (suc n) (assigning (to_temporary h) t) (assigning (to_temporary j) t')
       first_return : {g : Context} {k n : ℕ} {e t t' : ResolvedTree} → g.returns ≡ true → UnfoldsFirst g k e n t t' → UnfoldsFirst g k e (suc n) (returning t) (returning t')
+      first_argument : {g : Context} {k n : ℕ} {e r r' : ResolvedTree} {s : Name} {args args' : ResolvedTrees} → resolved_shape s r args ≡ as_message → resolved_shape s r' args' ≡ as_message → gone.is_gone s ≡ false →
+          Simple g r r' → UnfoldsFirstAmong g k e n args args' → UnfoldsFirst g k e (suc n) (sending r s args) (sending r' s args')
+      first_of_cascade : {g : Context} {k n : ℕ} {e r r' : ResolvedTree} {s : Name} {args args' : ResolvedTrees} {ms ms' : ResolvedMessages} → gone.is_gone s ≡ false →
+          Simple g r r' → UnfoldsFirstAmong g k e n args args' → UnfoldsMessages g ms ms' → UnfoldsFirst g k e (suc n) (cascading r (more_sends s args ms)) (cascading r' (more_sends s args' ms'))
+      first_item : {g : Context} {k n : ℕ} {e : ResolvedTree} {ts ts' : ResolvedTrees} → UnfoldsFirstAmong g k e n ts ts' → UnfoldsFirst g k e (suc n) (brace_of ts) (brace_of ts')
+
+    -- nodes of which one reads it so, n steps down, and those before are always the same
+    pub data UnfoldsFirstAmong : Context → ℕ → ResolvedTree → ℕ → ResolvedTrees → ResolvedTrees → Type 0 where
+      first_here : {g : Context} {k n : ℕ} {e t t' : ResolvedTree} {ts ts' : ResolvedTrees} → UnfoldsFirst g k e n t t' → UnfoldsAll g ts ts' → UnfoldsFirstAmong g k e n (more_nodes t ts) (more_nodes t' ts')
+      first_later : {g : Context} {k n : ℕ} {e t t' : ResolvedTree} {ts ts' : ResolvedTrees} → Simple g t t' → UnfoldsFirstAmong g k e n ts ts' → UnfoldsFirstAmong g k e n (more_nodes t ts) (more_nodes t' ts')
 
     -- the statements of a method that stand unfolded: a return may stand in the last, and then its value stands there
     pub data UnfoldsBody : Context → ResolvedStatements → ResolvedStatements → Type 0 where
