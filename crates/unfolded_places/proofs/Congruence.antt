@@ -11,7 +11,7 @@ use Rattle.image_model.specs.Means.{of_instance, of_class_side, of_class, Meanin
 use Rattle.run_model.specs.Values.{Name}
 use Rattle.run_model.specs.Shapes.{Shape, two_ways, loops, a_message, is_message, shape_of}
 use Rattle.run_model.proofs.RenamingLemmas.{text-same}
-use Rattle.resolved_model.specs.ResolvedTrees.{of_word, ResolvedTree, reading, assigning, block_of, ResolvedStatements, ResolvedCode}
+use Rattle.resolved_model.specs.ResolvedTrees.{of_word, ResolvedTree, reading, assigning, block_of, ResolvedStatements}
 use Rattle.resolved_model.specs.ResolvedImages.{ResolvedImage}
 use Rattle.resolved_model.specs.ResolvedEval.{reads_super}
 use Rattle.resolved_model.specs.ResolvedShapes.{plain_code, as_message, resolved_shape}
@@ -20,7 +20,7 @@ use Rattle.resolved_model.proofs.ShapeLemmas.{shape_in, shape-in}
 use Rattle.unfolded_calls.specs.Unfolding.{Allowed, shared, staying, Context, scoped, in_closure, Unfolds, same_constant, same_cascade, same_block, same_brace, same_return, UnfoldsAll, same_none, same_more, UnfoldsMessages, same_end, same_next, UnfoldsLines, same_stop, same_line, UnfoldsCode, same_code}
 use Rattle.unfolded_calls.proofs.Untouched.{staying-all}
 use Rattle.unfolded_places.specs.Becoming.{Change, MakesNoControl, Becomes, at_part, at_literal, at_store, in_send, in_cascade, in_assign, in_block, in_brace, in_return, BecomeAll, all_none, all_more, BecomeMessages, messages_none, messages_more, BecomeLines, lines_none, lines_more}
-use Rattle.unfolded_places.proofs.ShapePairs.{CodePair, neither, comes, both, CodePairs, no_pairs, more_pairs, sending-pair}
+use Rattle.unfolded_places.proofs.ShapePairs.{CodePair, neither, both, CodePairs, no_pairs, more_pairs, sending-pair}
 
 -- a send is a message exactly where it is no control send
 abbrev pub ControlLaw : Type 0
@@ -65,19 +65,19 @@ module _ (control : ControlLaw) (f f' : Name → MeaningOf Name) (A B : List Dec
   so-message (loops sense a b) e = absurd (cc)
   so-message a_message e = refl
 
-  still-message : (s : Name) (r r' : TreeOf Name) (args args' : TreesOf Name) → MakesNoControl (send r s args) (send r' s args') →
+  pub still-message : (s : Name) (r r' : TreeOf Name) (args args' : TreesOf Name) → MakesNoControl (send r s args) (send r' s args') →
       resolved_shape s (tree_in f A r) (trees_in f A args) ≡ as_message → resolved_shape s (tree_in f' B r') (trees_in f' B args') ≡ as_message
   still-message s r r' args args' h e =
       shape-in f' B s r' args' ∙ so-message (shape_of s r' args')
       (control s r' args' ∙ ap not (h (not-true (meets (control_form s) r args) (sym (control s r args) ∙ message-so (shape_of s r args) (sym (shape-in f A s r args) ∙ e)))))
 
 module _ (control : ControlLaw) (i : ResolvedImage) (gone : Allowed) (c : Change) (f f' : Name → MeaningOf Name) (Fits : Context → List Declared → List Declared → Type 0) where
-  -- The contexts that fit two lists of declarations: entering a scope and a closure keeps them; and in them parts unfold, assignments do, and returns and `super` may stand as said.
+  -- The contexts that fit two lists of declarations: entering a scope and a closure keeps them; and in them parts unfold, also where they are blocks that may be run in place, assignments do, and returns and `super` may stand as said.
   pub record IsKept : Type 0 where
     pub scope : (g : Context) (A B : List Declared) (ps ts : List Name) → Fits g A B → Fits (scoped (length ps) (replicate (length ts) shared) g) (opened ps ts A) (opened ps ts B)
     pub closure : (g : Context) (A B : List Declared) → Fits g A B → Fits (in_closure g) A B
     pub part : (g : Context) (A B : List Declared) (t u : TreeOf Name) → Fits g A B → c.part A B t u → Unfolds i gone g (tree_in f A t) (tree_in f' B u)
-    pub unblocked : (A B : List Declared) (t u : TreeOf Name) → c.part A B t u → plain_code (tree_in f A t) ≡ None
+    pub blocked : (g : Context) (A B : List Declared) (t u : TreeOf Name) → Fits g A B → c.part A B t u → CodePair i gone g (plain_code (tree_in f A t)) (plain_code (tree_in f' B u))
     pub sent : (s : Name) → c.sends s → gone.is_gone s ≡ false
     pub assigned : (g : Context) (A B : List Declared) (n : Name) (x x' : ResolvedTree) → Fits g A B → c.assigns A B n → Unfolds i gone g x x' → Unfolds i gone g (assigning (target_in A (f n) n) x) (assigning (target_in B (f' n) n) x')
     pub stored : (g : Context) (A B : List Declared) (s n : Name) (t : TreeOf Name) (x' : ResolvedTree) → Fits g A B → c.stores A B s n → is_control control_form (send (var (codes "self")) s (more_trees t no_trees)) ≡ false →
@@ -86,18 +86,13 @@ module _ (control : ControlLaw) (i : ResolvedImage) (gone : Allowed) (c : Change
     pub above : (g : Context) (A B : List Declared) → Fits g A B → c.supers → g.supers ≡ true
 
 module _ (control : ControlLaw) (i : ResolvedImage) (gone : Allowed) (c : Change) (f f' : Name → MeaningOf Name) (Fits : Context → List Declared → List Declared → Type 0) (k : IsKept control i gone c f f' Fits) where
-  open-pair : {g : Context} (o o' : Option ResolvedCode) → o ≡ None → CodePair i gone g o o'
-  open-pair None None e = neither
-  open-pair None (Some x) e = comes x
-  open-pair (Some x) o' e = absurd (cc)
-
   -- the number of temporaries
   count-block : {g : Context} (p n : ℕ) (ss ss' : ResolvedStatements) → UnfoldsLines i gone (scoped p (replicate n shared) (in_closure g)) ss ss' → Unfolds i gone g (block_of p n ss) (block_of p n ss')
   count-block {g} p n ss ss' h =
       subst (λ m. Unfolds i gone g (block_of p n ss) (block_of p m ss')) (staying-all n)
       (subst (λ m. Unfolds i gone g (block_of p m ss) (block_of p (staying (replicate n shared)) ss')) (length-replicate n shared) (same_block p (replicate n shared) h))
 
-  count-code : {g : Context} (p n : ℕ) (ss ss' : ResolvedStatements) → UnfoldsLines i gone (scoped p (replicate n shared) g) ss ss' →
+  pub count-code : {g : Context} (p n : ℕ) (ss ss' : ResolvedStatements) → UnfoldsLines i gone (scoped p (replicate n shared) g) ss ss' →
       UnfoldsCode i gone g (record { parameters = p; temporaries = n; statements = ss }) (record { parameters = p; temporaries = n; statements = ss' })
   count-code {g} p n ss ss' h =
       subst (λ m. UnfoldsCode i gone g (record { parameters = p; temporaries = n; statements = ss }) (record { parameters = p; temporaries = m; statements = ss' })) (staying-all n)
@@ -119,11 +114,11 @@ module _ (control : ControlLaw) (i : ResolvedImage) (gone : Allowed) (c : Change
     tree-becomes g A B _ _ h (in_brace {ts = ts} {ts' = ts'} p) = same_brace (trees-become g A B ts ts' h p)
     tree-becomes g A B _ _ h (in_return {t = t} {t' = t'} r p) = same_return (k.returned g A B h r) (tree-becomes g A B t t' h p)
 
-    trees-become : (g : Context) (A B : List Declared) (ts ts' : TreesOf Name) → Fits g A B → BecomeAll c A B ts ts' → UnfoldsAll i gone g (trees_in f A ts) (trees_in f' B ts')
+    pub trees-become : (g : Context) (A B : List Declared) (ts ts' : TreesOf Name) → Fits g A B → BecomeAll c A B ts ts' → UnfoldsAll i gone g (trees_in f A ts) (trees_in f' B ts')
     trees-become g A B _ _ h all_none = same_none
     trees-become g A B _ _ h (all_more {t = t} {t' = t'} {ts = ts} {ts' = ts'} p q) = same_more (tree-becomes g A B t t' h p) (trees-become g A B ts ts' h q)
 
-    messages-become : (g : Context) (A B : List Declared) (ms ms' : MessagesOf Name) → Fits g A B → BecomeMessages c A B ms ms' → UnfoldsMessages i gone g (messages_in f A ms) (messages_in f' B ms')
+    pub messages-become : (g : Context) (A B : List Declared) (ms ms' : MessagesOf Name) → Fits g A B → BecomeMessages c A B ms ms' → UnfoldsMessages i gone g (messages_in f A ms) (messages_in f' B ms')
     messages-become g A B _ _ h messages_none = same_end
     messages-become g A B _ _ h (messages_more {args = args} {args' = args'} {ms = ms} {ms' = ms'} s m p q) = same_next s (k.sent s m) (trees-become g A B args args' h p) (messages-become g A B ms ms' h q)
 
@@ -133,7 +128,7 @@ module _ (control : ControlLaw) (i : ResolvedImage) (gone : Allowed) (c : Change
 
     -- a block without parameters that may be run in place
     plain-becomes : (g : Context) (A B : List Declared) (t t' : TreeOf Name) → Fits g A B → Becomes c A B t t' → CodePair i gone g (plain_code (tree_in f A t)) (plain_code (tree_in f' B t'))
-    plain-becomes g A B t t' h (at_part p) = open-pair _ _ (k.unblocked A B t t' p)
+    plain-becomes g A B t t' h (at_part p) = k.blocked g A B t t' h p
     plain-becomes g A B _ _ h (at_literal l) = neither
     plain-becomes g A B _ _ h (at_store s n m e p) = neither
     plain-becomes g A B _ _ h (in_send s m u n p q) = neither
@@ -146,7 +141,7 @@ module _ (control : ControlLaw) (i : ResolvedImage) (gone : Allowed) (c : Change
     plain-becomes g A B _ _ h (in_brace p) = neither
     plain-becomes g A B _ _ h (in_return r p) = neither
 
-    plains-become : (g : Context) (A B : List Declared) (ts ts' : TreesOf Name) → Fits g A B → BecomeAll c A B ts ts' → CodePairs i gone g (trees_in f A ts) (trees_in f' B ts')
+    pub plains-become : (g : Context) (A B : List Declared) (ts ts' : TreesOf Name) → Fits g A B → BecomeAll c A B ts ts' → CodePairs i gone g (trees_in f A ts) (trees_in f' B ts')
     plains-become g A B _ _ h all_none = no_pairs
     plains-become g A B _ _ h (all_more {t = t} {t' = t'} {ts = ts} {ts' = ts'} p q) = more_pairs (plain-becomes g A B t t' h p) (plains-become g A B ts ts' h q)
 

@@ -22,7 +22,7 @@ use Rattle.unfolded_places.proofs.Refilled.{tree-fills}
 use Rattle.unfolded_places.proofs.SelfFilled.{themselves, tree-itself}
 
 module _ (j : ImageOf Name) (t : Name) (here : PartsOf) (stores : StoresOf) where
-  method-kept : (m : EntryOf Name) → IsSentNowhereIn t m → MethodBecomes j (one_gone t) here stores m m
+  pub method-kept : (m : EntryOf Name) → IsSentNowhereIn t m → MethodBecomes j (one_gone t) here stores m m
   method-kept m k = record {
     class = refl;
     meta = refl;
@@ -43,7 +43,7 @@ module _ (j : ImageOf Name) (t : Name) (here : PartsOf) (stores : StoresOf) wher
   all-kept [] a = methods_end
   all-kept (x ∷ xs) a = method_next (method-kept x a.0) (all-kept xs a.1)
 
-  doits-kept : (ds : List (DoItOf Name)) → AllByRecursion (IsSentNowhereBy t) ds → DoItsStay j (one_gone t) here stores ds ds
+  pub doits-kept : (ds : List (DoItOf Name)) → AllByRecursion (IsSentNowhereBy t) ds → DoItsStay j (one_gone t) here stores ds ds
   doits-kept [] a = doits_end
   doits-kept (d ∷ ds) a = doit_next refl a.0 (doits-kept ds a.1)
 

@@ -1,90 +1,24 @@
 -- A body with what is passed in place of its arguments is what it unfolds to.
-use Rattle.std.proofs.Common.{◌≡◌, ℕ, zero, suc, ◌+◌, List, [], ◌∷◌, ◌++◌, length, map, Some, None, refl, sym, ap, ◌∙◌, subst, arith, append_assoc}
-use Rattle.std.specs.Prelude.{Bool, true, false, replicate, slice_get, codes}
+use Rattle.std.proofs.Common.{◌≡◌, ℕ, ◌+◌, List, [], ◌++◌, length, map, Some, None, refl, sym, ap, ◌∙◌, subst, arith, append_assoc}
+use Rattle.std.specs.Prelude.{Bool, true, false, replicate, slice_get}
 use Rattle.std.proofs.lemmas.List.{map-append, append_cancel_right}
-use Rattle.tree_model.specs.Tree.{TreeOf, TreesOf}
-use Rattle.scope_model.specs.SpecialNames.{is_pseudo_variable}
-use Rattle.image_model.specs.Means.{of_instance, of_class_side, of_class, MeaningOf, pseudo, argument, temporary, variable, a_class, transcript, undeclared}
+use Rattle.tree_model.specs.Tree.{TreeOf}
+use Rattle.image_model.specs.Means.{MeaningOf}
 use Rattle.image_model.proofs.Ends.{slice_get-front}
 use Rattle.run_model.specs.Values.{Name}
 use Rattle.resolved_model.specs.ResolvedTrees.{of_word, of_local, ResolvedTree, reading, assigning}
 use Rattle.resolved_model.specs.ResolvedImages.{ResolvedImage}
 use Rattle.resolved_model.specs.ResolvedShapes.{plain_code}
 use Rattle.resolved_model.specs.Resolving.{reference_of, target_of}
-use Rattle.resolved_model.specs.Environments.{Declared, as_temporary, opened, kind_in, place_in, target_by, reference_in, target_in, tree_in}
-use Rattle.unfolded_calls.specs.Unfolding.{Allowed, shared, staying, StandIn, an_argument, a_temporary, stand_in, moved, farther, IsRead, arguments_from, temporaries_from, Context, scoped, in_closure, opened as opened_context, Unfolds, same_local, same_reading, same_temporary, same_assignment}
+use Rattle.resolved_model.specs.Environments.{Declared, opened, kind_in, place_in, target_by, reference_in, target_in, tree_in}
+use Rattle.unfolded_calls.specs.Unfolding.{Allowed, shared, staying, StandIn, an_argument, a_temporary, moved, farther, arguments_from, temporaries_from, Context, scoped, in_closure, opened as opened_context, Unfolds, same_local, same_reading, same_temporary, same_assignment}
 use Rattle.unfolded_calls.specs.SameContexts.{same_local_at, same_locals, IsOutside}
-use Rattle.unfolded_calls.proofs.Untouched.{staying-all, locals-farther, locals-opened, local-at}
-use Rattle.unfolded_places.specs.Inlining.{PlainActual, plain_self, plain_nil, plain_true, plain_false, plain_number, plain_string, plain_symbol, plain_char, plain_argument, plain_class, PlainActuals, plain_none, plain_more, Filling, IsFreeOf, FilledPart, filled_word, filled_inner, filled_formal, filled_outer, FilledTarget, target_inner, target_outer, filling}
+use Rattle.unfolded_calls.proofs.Untouched.{locals-farther, locals-opened, local-at}
+use Rattle.unfolded_places.specs.Inlining.{PlainActuals, Filling, FilledPart, filled_word, filled_inner, filled_formal, filled_outer, FilledTarget, target_inner, target_outer, filling}
+use Rattle.unfolded_places.proofs.ShapePairs.{open-pair}
 use Rattle.unfolded_places.proofs.Congruence.{ControlLaw, IsKept}
-use Rattle.unfolded_places.proofs.NamesThere.{word-read, local-read, outer-read, known-target, kind-first, kind-behind, get-behind, passed-at, opened-append}
-
--- plain stand-ins are the same in a closure, and where they stand
-plain-far : (f : Name → MeaningOf Name) (A : List Declared) (t : TreeOf Name) (a : StandIn) (n : ℕ) → PlainActual f A t a → farther (moved n a) ≡ moved n a
-plain-far f A _ _ n plain_self = refl
-plain-far f A _ _ n plain_nil = refl
-plain-far f A _ _ n plain_true = refl
-plain-far f A _ _ n plain_false = refl
-plain-far f A _ _ n (plain_number t z e) = refl
-plain-far f A _ _ n (plain_string t) = refl
-plain-far f A _ _ n (plain_symbol t) = refl
-plain-far f A _ _ n (plain_char b) = refl
-plain-far f A _ _ n (plain_argument x p e) = refl
-plain-far f A _ _ n (plain_class x c p e q) = refl
-
-plains-far : (f : Name → MeaningOf Name) (A : List Declared) (ts : TreesOf Name) (actuals : List StandIn) (n : ℕ) → PlainActuals f A ts actuals → map farther (map (moved n) actuals) ≡ map (moved n) actuals
-plains-far f A _ _ n plain_none = refl
-plains-far f A _ _ n (plain_more {t = t} {ts = ts} {a = a} {rest = rest} p r) = λ i. plain-far f A t a n p i ∷ plains-far f A ts rest n r i
-
-plain-moved : (f : Name → MeaningOf Name) (A : List Declared) (t : TreeOf Name) (a : StandIn) (n k : ℕ) → PlainActual f A t a → moved n (moved k a) ≡ moved (n + k) a
-plain-moved f A _ _ n k plain_self = refl
-plain-moved f A _ _ n k plain_nil = refl
-plain-moved f A _ _ n k plain_true = refl
-plain-moved f A _ _ n k plain_false = refl
-plain-moved f A _ _ n k (plain_number t z e) = refl
-plain-moved f A _ _ n k (plain_string t) = refl
-plain-moved f A _ _ n k (plain_symbol t) = refl
-plain-moved f A _ _ n k (plain_char b) = refl
-plain-moved f A _ _ n k (plain_argument x p e) = ap an_argument (sum n k (place_in A x))
-  where
-    sum : (n k j : ℕ) → n + (k + j) ≡ n + k + j
-    sum n k j = omega arith
-plain-moved f A _ _ n k (plain_class x c p e q) = refl
-
-plains-moved : (f : Name → MeaningOf Name) (A : List Declared) (ts : TreesOf Name) (actuals : List StandIn) (n k : ℕ) → PlainActuals f A ts actuals → map (moved n) (map (moved k) actuals) ≡ map (moved (n + k)) actuals
-plains-moved f A _ _ n k plain_none = refl
-plains-moved f A _ _ n k (plain_more {t = t} {ts = ts} {a = a} {rest = rest} p r) = λ i. plain-moved f A t a n k p i ∷ plains-moved f A ts rest n k r i
-
-plain-still : (f : Name → MeaningOf Name) (A : List Declared) (t : TreeOf Name) (a : StandIn) → PlainActual f A t a → moved 0 a ≡ a
-plain-still f A _ _ plain_self = refl
-plain-still f A _ _ plain_nil = refl
-plain-still f A _ _ plain_true = refl
-plain-still f A _ _ plain_false = refl
-plain-still f A _ _ (plain_number t z e) = refl
-plain-still f A _ _ (plain_string t) = refl
-plain-still f A _ _ (plain_symbol t) = refl
-plain-still f A _ _ (plain_char b) = refl
-plain-still f A _ _ (plain_argument x p e) = ap an_argument (none (place_in A x))
-  where
-    none : (k : ℕ) → 0 + k ≡ k
-    none k = omega arith
-plain-still f A _ _ (plain_class x c p e q) = refl
-
-plains-still : (f : Name → MeaningOf Name) (A : List Declared) (ts : TreesOf Name) (actuals : List StandIn) → PlainActuals f A ts actuals → map (moved 0) actuals ≡ actuals
-plains-still f A _ _ plain_none = refl
-plains-still f A _ _ (plain_more {t = t} {ts = ts} {a = a} {rest = rest} p r) = λ i. plain-still f A t a p i ∷ plains-still f A ts rest r i
-
-locals-count : (env : List Declared) (k : ℕ) → length (same_locals env k) ≡ length env
-locals-count [] k = refl
-locals-count (d ∷ env) k = ap suc (locals-count env (suc k))
-
-get-moved : (n : ℕ) (actuals : List StandIn) (k : ℕ) (a : StandIn) → slice_get actuals k ≡ Some a → slice_get (map (moved n) actuals) k ≡ Some (moved n a)
-get-moved n [] k a e = absurd (cc)
-get-moved n (x ∷ xs) zero a e = ap (λ y. Some (moved n y)) (some e)
-  where
-    some : {x y : StandIn} → Some x ≡ Some y → x ≡ y
-    some z = cc
-get-moved n (x ∷ xs) (suc k) a e = get-moved n xs k a e
+use Rattle.unfolded_places.proofs.PlainThere.{plains-far, plains-moved, plains-still, plain-inside, read-outer, target-outer}
+use Rattle.unfolded_places.proofs.NamesThere.{word-read, local-read, outer-read, known-target, kind-first, kind-behind, get-behind, locals-count, get-moved, opened-count, passed-at, opened-append}
 
 module _ (i : ResolvedImage) (gone : Allowed) (z : Filling) (supers : Bool) (outside : (n : Name) → IsOutside (z.before n)) (actuals : List StandIn) (plains : PlainActuals z.after z.round z.passed actuals) where
   abbrev Formals : List Declared
@@ -97,29 +31,6 @@ module _ (i : ResolvedImage) (gone : Allowed) (z : Filling) (supers : Bool) (out
     pub after : B ≡ inner ++ z.round
     pub locals : g.locals ≡ same_locals inner 0 ++ map (moved (length inner)) actuals
     pub above : g.supers ≡ supers
-
-  opened-count : (ps ts : List Name) (inner : List Declared) → (length ps + staying (replicate (length ts) shared)) + length inner ≡ length (opened ps ts inner)
-  opened-count ps ts inner = ap (λ n. (length ps + n) + length inner) (staying-all (length ts)) ∙ sum ps
-    where
-      inside : (ts : List Name) → length ts + length inner ≡ length (map as_temporary ts ++ inner)
-      inside [] = none (length inner)
-        where
-          none : (k : ℕ) → 0 + k ≡ k
-          none k = omega arith
-      inside (t ∷ ts) = next (length ts) (length inner) ∙ ap suc (inside ts)
-        where
-          next : (l k : ℕ) → suc l + k ≡ suc (l + k)
-          next l k = omega arith
-
-      sum : (ps : List Name) → (length ps + length ts) + length inner ≡ length (opened ps ts inner)
-      sum [] = none (length ts) (length inner) ∙ inside ts
-        where
-          none : (l k : ℕ) → (0 + l) + k ≡ l + k
-          none l k = omega arith
-      sum (p ∷ ps) = next (length ps) (length ts) (length inner) ∙ ap suc (sum ps)
-        where
-          next : (l k j : ℕ) → (suc l + k) + j ≡ suc ((l + k) + j)
-          next l k j = omega arith
 
   filled-scoped : (g : Context) (A B : List Declared) (ps ts : List Name) → IsFilled g A B → IsFilled (scoped (length ps) (replicate (length ts) shared) g) (opened ps ts A) (opened ps ts B)
   filled-scoped g A B ps ts h = record {
@@ -158,44 +69,6 @@ module _ (i : ResolvedImage) (gone : Allowed) (z : Filling) (supers : Bool) (out
   read-inner g k true e = same_local k (a_temporary k) e tt
   read-inner g k false e = same_local k (an_argument k) e tt
 
-  read-outer : (g : Context) (m : MeaningOf Name) (k j : ℕ) (n : Name) → IsOutside m → Unfolds i gone g (reading (reference_of m k n)) (reading (reference_of m j n))
-  read-outer g pseudo k j n t = same_reading _ tt
-  read-outer g (argument scope) k j n t = absurd t
-  read-outer g (temporary scope) k j n t = absurd t
-  read-outer g (variable of_instance c) k j n t = same_reading _ tt
-  read-outer g (variable of_class_side c) k j n t = same_reading _ tt
-  read-outer g (variable of_class c) k j n t = same_reading _ tt
-  read-outer g (a_class c) k j n t = same_reading _ tt
-  read-outer g transcript k j n t = same_reading _ tt
-  read-outer g undeclared k j n t = same_reading _ tt
-
-  target-outer : (g : Context) (m : MeaningOf Name) (k j : ℕ) (n : Name) {x x' : ResolvedTree} → IsOutside m → Unfolds i gone g x x' → Unfolds i gone g (assigning (target_of m k n) x) (assigning (target_of m j n) x')
-  target-outer g pseudo k j n t r = same_assignment _ tt r
-  target-outer g (argument scope) k j n t r = absurd t
-  target-outer g (temporary scope) k j n t r = absurd t
-  target-outer g (variable of_instance c) k j n t r = same_assignment _ tt r
-  target-outer g (variable of_class_side c) k j n t r = same_assignment _ tt r
-  target-outer g (variable of_class c) k j n t r = same_assignment _ tt r
-  target-outer g (a_class c) k j n t r = same_assignment _ tt r
-  target-outer g transcript k j n t r = same_assignment _ tt r
-  target-outer g undeclared k j n t r = same_assignment _ tt r
-
-  -- what is passed, inside blocks of the body
-  passed-inside : (inner : List Declared) (t : TreeOf Name) (a : StandIn) → PlainActual z.after z.round t a → IsFreeOf inner t → (tree_in z.after (inner ++ z.round) t ≡ stand_in (moved (length inner) a)) × IsRead (moved (length inner) a)
-  unfolding is_pseudo_variable
-  passed-inside inner _ _ plain_self h = (ap reading (word-read (inner ++ z.round) (z.after (codes "self")) (codes "self") refl), tt)
-  passed-inside inner _ _ plain_nil h = (ap reading (word-read (inner ++ z.round) (z.after (codes "nil")) (codes "nil") refl), tt)
-  passed-inside inner _ _ plain_true h = (ap reading (word-read (inner ++ z.round) (z.after (codes "true")) (codes "true") refl), tt)
-  passed-inside inner _ _ plain_false h = (ap reading (word-read (inner ++ z.round) (z.after (codes "false")) (codes "false") refl), tt)
-  passed-inside inner _ _ (plain_number t x e) h = (refl, tt)
-  passed-inside inner _ _ (plain_string t) h = (refl, tt)
-  passed-inside inner _ _ (plain_symbol t) h = (refl, tt)
-  passed-inside inner _ _ (plain_char b) h = (refl, tt)
-  passed-inside inner _ _ (plain_argument n p e) h =
-      (ap reading (local-read (inner ++ z.round) (z.after n) n false p ((kind-behind inner z.round n h).0 ∙ e) ∙ ap of_local (kind-behind inner z.round n h).1), tt)
-  passed-inside inner _ _ (plain_class n c p e q) h =
-      (ap reading (outer-read (inner ++ z.round) (z.after n) n p ((kind-behind inner z.round n h).0 ∙ e) ∙ ap (λ m. reference_of m (place_in (inner ++ z.round) n) n) q), tt)
-
   -- a part
   part-filled : (g : Context) (A B : List Declared) (t u : TreeOf Name) → IsFilled g A B → FilledPart z A B t u → Unfolds i gone g (tree_in z.before A t) (tree_in z.after B u)
   part-filled g A B _ _ h (filled_word n e) =
@@ -210,7 +83,7 @@ module _ (i : ResolvedImage) (gone : Allowed) (z : Filling) (supers : Bool) (out
   part-filled g _ _ _ _ h (filled_formal inner n t e k p free) =
       let at = passed-at z.after z.round z.arguments z.passed actuals n t plains p in
       let behind = kind-behind inner Formals n k in
-      let inside = passed-inside inner t at.stand_in at.plain free in
+      let inside = plain-inside z.after z.round inner t at.stand_in at.plain free in
       subst (λ r. Unfolds i gone g (reading r) (tree_in z.after (inner ++ z.round) t)) (sym (local-read (inner ++ Formals) (z.before n) n false e (behind.0 ∙ at.kind) ∙ ap of_local behind.1))
       (subst (λ r. Unfolds i gone g (reading (of_local (length inner + place_in Formals n))) r) (sym inside.0)
       (same_local (length inner + place_in Formals n) (moved (length inner) at.stand_in)
@@ -220,7 +93,7 @@ module _ (i : ResolvedImage) (gone : Allowed) (z : Filling) (supers : Bool) (out
       subst (λ r. Unfolds i gone g (reading r) (reading (reference_in (inner ++ z.round) (z.after n) n))) (sym (outer-read (inner ++ Formals) (z.before n) n e ((kind-behind inner Formals n free.inside).0 ∙ free.formal)))
       (subst (λ r. Unfolds i gone g (reading (reference_of (z.before n) (place_in (inner ++ Formals) n) n)) (reading r))
       (sym (outer-read (inner ++ z.round) (z.after n) n e ((kind-behind inner z.round n free.inside).0 ∙ free.there) ∙ ap (λ m. reference_of m (place_in (inner ++ z.round) n) n) (sym free.same)))
-      (read-outer g (z.before n) (place_in (inner ++ Formals) n) (place_in (inner ++ z.round) n) n (outside n)))
+      (read-outer i gone g (z.before n) (place_in (inner ++ Formals) n) (place_in (inner ++ z.round) n) n (outside n)))
 
   part-unblocked : (A B : List Declared) (t u : TreeOf Name) → FilledPart z A B t u → plain_code (tree_in z.before A t) ≡ None
   part-unblocked A B _ _ (filled_word n e) = refl
@@ -244,14 +117,14 @@ module _ (i : ResolvedImage) (gone : Allowed) (z : Filling) (supers : Bool) (out
       subst (λ y. Unfolds i gone g (assigning y x) (assigning (target_in (inner ++ z.round) (z.after n) n) x')) (sym (known-target (inner ++ Formals) (z.before n) n None e ((kind-behind inner Formals n free.inside).0 ∙ free.formal)))
       (subst (λ y. Unfolds i gone g (assigning (target_of (z.before n) (place_in (inner ++ Formals) n) n) x) (assigning y x'))
       (sym (known-target (inner ++ z.round) (z.after n) n None e ((kind-behind inner z.round n free.inside).0 ∙ free.there) ∙ ap (λ m. target_of m (place_in (inner ++ z.round) n) n) (sym free.same)))
-      (target-outer g (z.before n) (place_in (inner ++ Formals) n) (place_in (inner ++ z.round) n) n (outside n) r))
+      (target-outer i gone g (z.before n) (place_in (inner ++ Formals) n) (place_in (inner ++ z.round) n) n (outside n) r))
 
   pub kept-filled : (control : ControlLaw) → IsKept control i gone (filling z supers gone.is_gone) z.before z.after IsFilled
   kept-filled control = record {
     scope = filled-scoped;
     closure = filled-closed;
     part = part-filled;
-    unblocked = part-unblocked;
+    blocked = λ g A B t u h p. open-pair i gone _ _ (part-unblocked A B t u p);
     sent = λ s e. e;
     assigned = target-filled;
     stored = λ g A B s n t x' h e m u. absurd e;

@@ -20,7 +20,7 @@ use Rattle.unfolded_places.specs.PartsReplaced.{parts_stored}
 use Rattle.unfolded_places.specs.ImagesChanged.{PartsOf, StoresOf, MethodBecomes, MethodsBecome, methods_end, method_next, method_gone, DoItsStay, doits_end, doit_next, ImageBecomes}
 use Rattle.unfolded_places.proofs.Congruence.{ControlLaw, code-becomes}
 use Rattle.unfolded_places.specs.Standing.{outer_of, IsHere, AllPartsUnfold, AllPartsNoBlocks, AllStoresUnfold}
-use Rattle.unfolded_places.proofs.Unchanged.{kept-here}
+use Rattle.unfolded_places.proofs.Unchanged.{none-paired, kept-here}
 
 module _ (control : ControlLaw) (i j : ImageOf Name) (gone : Allowed) (here : PartsOf) (stores : StoresOf) where
   module _ (p : AllPartsUnfold i gone here stores) (q : AllPartsNoBlocks i gone here stores) (r : AllStoresUnfold i gone here stores) (classes : i.classes ≡ j.classes) where
@@ -29,7 +29,7 @@ module _ (control : ControlLaw) (i j : ImageOf Name) (gone : Allowed) (here : Pa
         subst (λ c. UnfoldsCode (resolved_image i) gone (outermost_context h.place) c (resolved_method j m')) (sym (method-resolved i m))
         (subst (λ c. UnfoldsCode (resolved_image i) gone (outermost_context h.place) (code_in (outer_of i m) [] m.tree.arguments m.tree.body) c) (outer-same ∙ sym (method-resolved j m'))
         (code-becomes control (resolved_image i) gone (parts_stored (here m h.place) (stores m h.place) gone.is_gone) (outer_of i m) (outer_of i m) (IsHere h.place)
-        (kept-here (resolved_image i) gone (outer_of i m) (λ n. means-outside i.classes (chain text_eq i.classes m.class) m.meta n) (here m h.place) (stores m h.place) h.place control (p m h.place) (q m h.place) (r m h.place))
+        (kept-here (resolved_image i) gone (outer_of i m) (λ n. means-outside i.classes (chain text_eq i.classes m.class) m.meta n) (here m h.place) (stores m h.place) h.place control (p m h.place) (none-paired (resolved_image i) gone (outer_of i m) (λ n. means-outside i.classes (chain text_eq i.classes m.class) m.meta n) (here m h.place) (stores m h.place) h.place (q m h.place)) (r m h.place))
         (outermost_context h.place) [] [] m.tree.arguments m.tree.body m'.tree.body (record { same = refl; keeps = record { locals = refl; returns = refl; supers = refl }; standing = refl }) h.temporaries h.statements))
       where
         outer-same : code_in (outer_of i m) [] m.tree.arguments m'.tree.body ≡ code_in (outer_of j m') [] m'.tree.arguments m'.tree.body

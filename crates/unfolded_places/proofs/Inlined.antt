@@ -48,7 +48,7 @@ actual-there f g A same _ _ (plain_argument n p e) =
 actual-there f g A same _ _ (plain_class n c p e q) =
     subst (λ r. Actual g (reading r) (a_class c)) (sym (outer-read A (f n) n p e ∙ ap (λ m. reference_of m (place_in A n) n) q)) (class_actual c)
 
-actuals-there : (f : Name → MeaningOf Name) (g : Context) (A : List Declared) → g.locals ≡ same_locals A 0 → (ts : TreesOf Name) (actuals : List StandIn) → PlainActuals f A ts actuals → Actuals g (trees_in f A ts) actuals
+pub actuals-there : (f : Name → MeaningOf Name) (g : Context) (A : List Declared) → g.locals ≡ same_locals A 0 → (ts : TreesOf Name) (actuals : List StandIn) → PlainActuals f A ts actuals → Actuals g (trees_in f A ts) actuals
 actuals-there f g A same _ _ plain_none = no_actuals
 actuals-there f g A same _ _ (plain_more {t = t} {ts = ts} {a = a} {rest = rest} p r) = more_actuals (actual-there f g A same t a p) (actuals-there f g A same ts rest r)
 

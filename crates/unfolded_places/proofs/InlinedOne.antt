@@ -46,7 +46,7 @@ argument-again (more_messages s args ms) k c e = by (nat_lt k (count args)) refl
     by true q ih = ap (λ x. more_messages s x ms) (nth-again args k c (sym (nth-front args (all_arguments ms) k q) ∙ e))
     by false q ih = ap (more_messages s args) (ih (sym (nth-append_right args (all_arguments ms) k (k - count args) (rest q)) ∙ e))
 
-child-again : (t : TreeOf Name) (k : ℕ) (c : TreeOf Name) → child t k ≡ Some c → with_child t k c ≡ t
+pub child-again : (t : TreeOf Name) (k : ℕ) (c : TreeOf Name) → child t k ≡ Some c → with_child t k c ≡ t
 child-again (var n) k c e = refl
 child-again (literal l) k c e = refl
 child-again (send r s args) zero c e = ap (λ x. send x s args) (sym (some-same e))
@@ -84,7 +84,7 @@ module _ (i : ImageOf Name) (here : PartsOf) (stores : StoresOf) where
   all-kept : (ss : StatementsOf Name) → Rattle.unfolded_calls.specs.SendsOnly.StatementsSendOnly (λ s. none_gone.is_gone s ≡ false) ss
   all-kept ss = all-statements (λ s. none_gone.is_gone s ≡ false) (λ s. refl) ss
 
-  method-stays : (m : EntryOf Name) → MethodBecomes i none_gone here stores m m
+  pub method-stays : (m : EntryOf Name) → MethodBecomes i none_gone here stores m m
   method-stays m = record {
     class = refl;
     meta = refl;
@@ -105,7 +105,7 @@ module _ (i : ImageOf Name) (here : PartsOf) (stores : StoresOf) where
   one-of-many m m' [] ys h = method_next h (methods-stay ys)
   one-of-many m m' (x ∷ xs) ys h = method_next (method-stays x) (one-of-many m m' xs ys h)
 
-  doits-stay : (ds : List (DoItOf Name)) → DoItsStay i none_gone here stores ds ds
+  pub doits-stay : (ds : List (DoItOf Name)) → DoItsStay i none_gone here stores ds ds
   doits-stay [] = doits_end
   doits-stay (d ∷ ds) = doit_next refl (all-kept d.body.statements) (doits-stay ds)
 

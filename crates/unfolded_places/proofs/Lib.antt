@@ -4,6 +4,7 @@ pub mod Unchanged
 pub mod Replaced
 pub mod Images
 pub mod NamesThere
+pub mod PlainThere
 pub mod Filled
 pub mod Inlined
 pub mod OnePart

@@ -1,6 +1,6 @@
 -- What names mean inside further declarations.
-use Rattle.std.proofs.Common.{◌≡◌, ℕ, suc, ◌+◌, List, [], ◌∷◌, ◌++◌, length, Option, Some, None, refl, sym, ap, ◌∙◌, subst, arith, append_assoc}
-use Rattle.std.specs.Prelude.{Bool, true, false, not, cond, if◌then◌else◌, find, slice_get, option_map, map}
+use Rattle.std.proofs.Common.{◌≡◌, ℕ, zero, suc, ◌+◌, List, [], ◌∷◌, ◌++◌, length, Option, Some, None, refl, sym, ap, ◌∙◌, subst, arith, append_assoc}
+use Rattle.std.specs.Prelude.{Bool, true, false, not, cond, if◌then◌else◌, find, slice_get, option_map, map, replicate}
 use Rattle.std.proofs.Math.Numerals.{one-add}
 use Rattle.rb_base.specs.Names.{text_eq}
 use Rattle.scope_model.specs.SpecialNames.{is_pseudo_variable}
@@ -10,7 +10,9 @@ use Rattle.run_model.specs.Values.{Name}
 use Rattle.resolved_model.specs.ResolvedTrees.{of_word, of_local, Target}
 use Rattle.resolved_model.specs.Resolving.{reference_of}
 use Rattle.resolved_model.specs.Environments.{Declared, as_argument, opened, kind_in, place_in, reference_by, target_by, reference_in, target_in, as_temporary}
-use Rattle.unfolded_calls.specs.Unfolding.{StandIn}
+use Rattle.unfolded_calls.specs.Unfolding.{shared, staying, StandIn, moved}
+use Rattle.unfolded_calls.specs.SameContexts.{same_locals}
+use Rattle.unfolded_calls.proofs.Untouched.{staying-all}
 use Rattle.unfolded_places.specs.Inlining.{passed_for, PlainActual, PlainActuals, plain_none, plain_more}
 
 -- references by what is known
@@ -68,6 +70,43 @@ get-behind (x ∷ xs) ys l k e = ap (λ n. slice_get (x ∷ (xs ++ ys)) (n + k))
   where
     next : (l k : ℕ) → suc l + k ≡ suc (l + k)
     next l k = omega arith
+
+-- how many locals there are, and one of them inside further scopes
+pub locals-count : (env : List Declared) (k : ℕ) → length (same_locals env k) ≡ length env
+locals-count [] k = refl
+locals-count (d ∷ env) k = ap suc (locals-count env (suc k))
+
+pub get-moved : (n : ℕ) (actuals : List StandIn) (k : ℕ) (a : StandIn) → slice_get actuals k ≡ Some a → slice_get (map (moved n) actuals) k ≡ Some (moved n a)
+get-moved n [] k a e = absurd (cc)
+get-moved n (x ∷ xs) zero a e = ap (λ y. Some (moved n y)) (some e)
+  where
+    some : {x y : StandIn} → Some x ≡ Some y → x ≡ y
+    some z = cc
+get-moved n (x ∷ xs) (suc k) a e = get-moved n xs k a e
+
+-- how many are declared inside further scopes
+pub opened-count : (ps ts : List Name) (inner : List Declared) → (length ps + staying (replicate (length ts) shared)) + length inner ≡ length (opened ps ts inner)
+opened-count ps ts inner = ap (λ n. (length ps + n) + length inner) (staying-all (length ts)) ∙ sum ps
+  where
+    inside : (ts : List Name) → length ts + length inner ≡ length (map as_temporary ts ++ inner)
+    inside [] = none (length inner)
+      where
+        none : (k : ℕ) → 0 + k ≡ k
+        none k = omega arith
+    inside (t ∷ ts) = next (length ts) (length inner) ∙ ap suc (inside ts)
+      where
+        next : (l k : ℕ) → suc l + k ≡ suc (l + k)
+        next l k = omega arith
+
+    sum : (ps : List Name) → (length ps + length ts) + length inner ≡ length (opened ps ts inner)
+    sum [] = none (length ts) (length inner) ∙ inside ts
+      where
+        none : (l k : ℕ) → (0 + l) + k ≡ l + k
+        none l k = omega arith
+    sum (p ∷ ps) = next (length ps) (length ts) (length inner) ∙ ap suc (sum ps)
+      where
+        next : (l k j : ℕ) → (suc l + k) + j ≡ suc ((l + k) + j)
+        next l k j = omega arith
 
 -- what is passed for a formal argument
 pub record PassedAt (f : Name → MeaningOf Name) (A : List Declared) (ps : List Name) (actuals : List StandIn) (n : Name) (t : TreeOf Name) : Type 0 where

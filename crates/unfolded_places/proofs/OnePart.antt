@@ -1,5 +1,5 @@
 -- Statements of which one part unfolds to another.
-use Rattle.std.proofs.Common.{◌≡◌, ℕ, List, Option, None, refl, sym, ap, ◌∙◌, subst}
+use Rattle.std.proofs.Common.{◌≡◌, ℕ, List, Option, refl, sym, subst}
 use Rattle.std.specs.Prelude.{Bool, false}
 use Rattle.tree_model.specs.Tree.{TreeOf, StatementsOf}
 use Rattle.tree_model.specs.Path.{statements_replaced}
@@ -12,9 +12,10 @@ use Rattle.unfolded_calls.specs.Unfolding.{Allowed, Context, Unfolds, UnfoldsLin
 use Rattle.unfolded_calls.specs.SendsOnly.{StatementsSendOnly}
 use Rattle.unfolded_calls.specs.SameContexts.{IsOutside}
 use Rattle.unfolded_places.specs.PartsReplaced.{no_stores, parts_changed, declared_among, StaysMessageAmong}
-use Rattle.unfolded_places.specs.Standing.{IsHere, PartsUnfold, PartsNoBlocks}
+use Rattle.unfolded_places.specs.Standing.{IsHere, PartsUnfold}
+use Rattle.unfolded_places.proofs.ShapePairs.{CodePair}
 use Rattle.unfolded_places.proofs.Congruence.{ControlLaw, lines-become}
-use Rattle.unfolded_places.proofs.Unchanged.{kept-here}
+use Rattle.unfolded_places.proofs.Unchanged.{PartsPaired, kept-here}
 use Rattle.unfolded_places.proofs.Replaced.{statements-become}
 
 -- the one part
@@ -25,12 +26,13 @@ record IsPart (E : List Declared) (v u : TreeOf Name) (A : List Declared) (t w :
 
 module _ (control : ControlLaw) (i : ResolvedImage) (gone : Allowed) (outer : Name → MeaningOf Name) (outside : (n : Name) → IsOutside (outer n)) (place : Option (Name × Bool)) where
   pub one-part : (around : List Declared) (ss : StatementsOf Name) (path : List ℕ) (v u : TreeOf Name) →
-      StatementsSendOnly (λ s. gone.is_gone s ≡ false) ss → StaysMessageAmong ss path v u → plain_code (tree_in outer (declared_among around ss path) v) ≡ None →
+      StatementsSendOnly (λ s. gone.is_gone s ≡ false) ss → StaysMessageAmong ss path v u →
+      ((g : Context) → IsHere place g (declared_among around ss path) (declared_among around ss path) → CodePair i gone g (plain_code (tree_in outer (declared_among around ss path) v)) (plain_code (tree_in outer (declared_among around ss path) u))) →
       ((g : Context) → IsHere place g (declared_among around ss path) (declared_among around ss path) → Unfolds i gone g (tree_in outer (declared_among around ss path) v) (tree_in outer (declared_among around ss path) u)) →
       (g : Context) → IsHere place g around around →
       UnfoldsLines i gone g (statements_in outer around (statements_replaced ss path v)) (statements_in outer around (statements_replaced ss path u))
-  one-part around ss path v u sent still blocked unfolds g h =
-      lines-become control i gone (parts_changed here gone.is_gone) outer outer (IsHere place) (kept-here i gone outer outside here no_stores place control parts blocks (λ g A s n t x h e. absurd e))
+  one-part around ss path v u sent still paired unfolds g h =
+      lines-become control i gone (parts_changed here gone.is_gone) outer outer (IsHere place) (kept-here i gone outer outside here no_stores place control parts pairs (λ g A s n t x h e. absurd e))
       g around around (statements_replaced ss path v) (statements_replaced ss path u) h (statements-become here no_stores gone.is_gone around ss path v u sent still (record { around = refl; before = refl; after = refl }))
     where
       E : List Declared
@@ -46,5 +48,9 @@ module _ (control : ControlLaw) (i : ResolvedImage) (gone : Allowed) (outer : Na
           (subst (λ y. Unfolds i gone g (tree_in outer A v) (tree_in outer A y)) (sym x.after)
           (subst (λ C. Unfolds i gone g (tree_in outer C v) (tree_in outer C u)) (sym x.around) (unfolds g k)))
 
-      blocks : PartsNoBlocks outer (IsPart (declared_among around ss path) v u)
-      blocks A t w x = ap (λ y. plain_code (tree_in outer A y)) x.before ∙ ap (λ C. plain_code (tree_in outer C v)) x.around ∙ blocked
+      pairs : PartsPaired i gone outer outside (IsPart (declared_among around ss path) v u) no_stores place
+      pairs g A t w h x =
+          let k : IsHere place g (declared_among around ss path) (declared_among around ss path) = subst (λ C. IsHere place g C C) x.around h in
+          subst (λ y. CodePair i gone g (plain_code (tree_in outer A y)) (plain_code (tree_in outer A w))) (sym x.before)
+          (subst (λ y. CodePair i gone g (plain_code (tree_in outer A v)) (plain_code (tree_in outer A y))) (sym x.after)
+          (subst (λ C. CodePair i gone g (plain_code (tree_in outer C v)) (plain_code (tree_in outer C u))) (sym x.around) (paired g k)))

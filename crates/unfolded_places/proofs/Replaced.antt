@@ -25,11 +25,11 @@ module _ (P : Name → Type 0) where
   sends-arguments no_messages a = tt
   sends-arguments (more_messages s args ms) a = sends-append args (all_arguments ms) a.1 (sends-arguments ms a.2)
 
-  sends-statements : (ss : StatementsOf Name) → StatementsSendOnly P ss → AllSendOnly P (statement_trees ss)
+  pub sends-statements : (ss : StatementsOf Name) → StatementsSendOnly P ss → AllSendOnly P (statement_trees ss)
   sends-statements no_statements a = tt
   sends-statements (more_statements c t ss) a = (a.0, sends-statements ss a.1)
 
-  sends-children : (t : TreeOf Name) → SendsOnly P t → AllSendOnly P (children t)
+  pub sends-children : (t : TreeOf Name) → SendsOnly P t → AllSendOnly P (children t)
   sends-children (var n) a = tt
   sends-children (literal l) a = tt
   sends-children (send r s args) a = (a.1, a.2)
@@ -39,7 +39,7 @@ module _ (P : Name → Type 0) where
   sends-children (brace ts) a = a
   sends-children (return t) a = (a, tt)
 
-  sends-nth : (ts : TreesOf Name) (k : ℕ) (c : TreeOf Name) → AllSendOnly P ts → nth ts k ≡ Some c → SendsOnly P c
+  pub sends-nth : (ts : TreesOf Name) (k : ℕ) (c : TreeOf Name) → AllSendOnly P ts → nth ts k ≡ Some c → SendsOnly P c
   sends-nth no_trees k c a e = absurd (cc)
   sends-nth (more_trees t ts) zero c a e = subst (SendsOnly P) (some e) a.0
     where
@@ -65,7 +65,7 @@ meets-same Loop r r' args args' p q h = λ i. p i && (q i == 1 && h i)
 meets-same NoControl r r' args args' p q h = refl
 
 -- a node stays a control send, or stays none
-control-child : (t : TreeOf Name) (k : ℕ) (x y : TreeOf Name) → is_plain_block x ≡ is_plain_block y → is_control control_form (with_child t k x) ≡ is_control control_form (with_child t k y)
+pub control-child : (t : TreeOf Name) (k : ℕ) (x y : TreeOf Name) → is_plain_block x ≡ is_plain_block y → is_control control_form (with_child t k x) ≡ is_control control_form (with_child t k y)
 control-child (var n) k x y e = refl
 control-child (literal l) k x y e = refl
 control-child (send r s args) zero x y e = meets-same (control_form s) x y args args e refl refl
@@ -94,7 +94,7 @@ block-child (brace ts) k x y = refl
 block-child (return t) zero x y = refl
 block-child (return t) (suc k) x y = refl
 
-block-replaced : (t : TreeOf Name) (k : ℕ) (ks : List ℕ) (v u : TreeOf Name) → is_plain_block (replaced t (k ∷ ks) v) ≡ is_plain_block (replaced t (k ∷ ks) u)
+pub block-replaced : (t : TreeOf Name) (k : ℕ) (ks : List ℕ) (v u : TreeOf Name) → is_plain_block (replaced t (k ∷ ks) v) ≡ is_plain_block (replaced t (k ∷ ks) u)
 block-replaced t k ks v u = by (child t k)
   where
     by : (o : Option (TreeOf Name)) → is_plain_block (unwrap_or (option_map (λ c. with_child t k (replaced c ks v)) o) t) ≡ is_plain_block (unwrap_or (option_map (λ c. with_child t k (replaced c ks u)) o) t)

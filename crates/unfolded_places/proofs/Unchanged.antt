@@ -1,5 +1,5 @@
 -- Contexts in which nothing is declared otherwise, and code that becomes itself.
-use Rattle.std.proofs.Common.{◌≡◌, List, Option, None, refl, ap, subst}
+use Rattle.std.proofs.Common.{◌≡◌, List, Option, refl, ap, subst}
 use Rattle.std.specs.Prelude.{Bool, false}
 use Rattle.std.specs.Prelude.{codes}
 use Rattle.tree_model.specs.Tree.{TreeOf, var, literal, send, cascade, assign, block, brace, return, TreesOf, no_trees, more_trees, MessagesOf, no_messages, more_messages, StatementsOf, no_statements, more_statements}
@@ -16,6 +16,7 @@ use Rattle.unfolded_calls.proofs.Untouched.{same-scoped, same-closed, reading-sa
 use Rattle.unfolded_places.specs.Becoming.{Becomes, at_part, at_literal, in_send, in_cascade, in_assign, in_block, in_brace, in_return, BecomeAll, all_none, all_more, BecomeMessages, messages_none, messages_more, BecomeLines, lines_none, lines_more}
 use Rattle.unfolded_places.specs.PartsReplaced.{PartOf, same_name, other_part, parts_stored}
 use Rattle.unfolded_places.specs.Standing.{IsHere, PartsUnfold, PartsNoBlocks, StoresUnfold}
+use Rattle.unfolded_places.proofs.ShapePairs.{CodePair, neither, open-pair}
 use Rattle.unfolded_places.proofs.Congruence.{ControlLaw, IsKept}
 
 module _ (here : List Declared → TreeOf Name → TreeOf Name → Type 0) (stores : List Declared → Name → Name → Type 0) (gone : Name → Bool) where
@@ -50,16 +51,23 @@ module _ (i : ResolvedImage) (gone : Allowed) (outer : Name → MeaningOf Name) 
   part-unfolds p g A _ _ _ h (same_name n) = reading-same i gone outer outside g A n h.keeps
   part-unfolds p g A _ t u h (other_part x) = p g A t u h x
 
-  part-open : PartsNoBlocks outer here → (A B : List Declared) (t u : TreeOf Name) → PartOf here A B t u → plain_code (tree_in outer A t) ≡ None
-  part-open p A _ _ _ (same_name n) = refl
-  part-open p A _ t u (other_part x) = p A t u x
+  -- parts are blocks that may be run in place, and unfold as such, or are none
+  abbrev pub PartsPaired : Type 0
+  PartsPaired = (g : Context) (A : List Declared) (t u : TreeOf Name) → IsHere place g A A → here A t u → CodePair i gone g (plain_code (tree_in outer A t)) (plain_code (tree_in outer A u))
 
-  pub kept-here : (control : ControlLaw) → PartsUnfold i gone outer here place → PartsNoBlocks outer here → StoresUnfold i gone outer stores place → IsKept control i gone (parts_stored here stores gone.is_gone) outer outer (IsHere place)
+  pub none-paired : PartsNoBlocks outer here → PartsPaired
+  none-paired p g A t u h x = open-pair i gone _ _ (p A t u x)
+
+  part-paired : PartsPaired → (g : Context) (A B : List Declared) (t u : TreeOf Name) → IsHere place g A B → PartOf here A B t u → CodePair i gone g (plain_code (tree_in outer A t)) (plain_code (tree_in outer B u))
+  part-paired p g A _ _ _ h (same_name n) = neither
+  part-paired p g A _ t u h (other_part x) = p g A t u h x
+
+  pub kept-here : (control : ControlLaw) → PartsUnfold i gone outer here place → PartsPaired → StoresUnfold i gone outer stores place → IsKept control i gone (parts_stored here stores gone.is_gone) outer outer (IsHere place)
   kept-here control p q r = record {
     scope = λ g A B ps ts h. record { same = ap (opened ps ts) h.same; keeps = same-scoped i gone outer outside g A ps ts h.keeps; standing = h.standing };
     closure = λ g A B h. record { same = h.same; keeps = same-closed i gone outer outside g A h.keeps; standing = h.standing };
     part = part-unfolds p;
-    unblocked = part-open q;
+    blocked = part-paired q;
     sent = λ s e. e;
     assigned = λ g A B n x x' h e r. subst (λ C. Unfolds i gone g (assigning (target_in A (outer n) n) x) (assigning (target_in C (outer n) n) x')) h.same (assigning-same i gone outer outside g A n h.keeps r);
     stored = λ g A B s n t x' h e m u. subst (λ C. Unfolds i gone g (tree_in outer A (send (var (codes "self")) s (more_trees t no_trees))) (assigning (target_in C (outer n) n) x')) h.same (r g A s n t x' (record { same = refl; keeps = h.keeps; standing = h.standing }) e.1 m u);

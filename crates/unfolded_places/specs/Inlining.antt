@@ -38,9 +38,9 @@ pub data PlainActuals (f : Name → MeaningOf Name) (A : List Declared) : TreesO
   plain_none : PlainActuals f A no_trees []
   plain_more : {t : TreeOf Name} {ts : TreesOf Name} {a : StandIn} {rest : List StandIn} → PlainActual f A t a → PlainActuals f A ts rest → PlainActuals f A (more_trees t ts) (a ∷ rest)
 
--- a node that is no name of these declarations
+-- a node that is no name of these declarations; a pseudo-variable is none, also where it is declared
 abbrev pub IsFreeOf : List Declared → TreeOf Name → Type 0
-IsFreeOf inner (var n) = kind_in inner n ≡ None
+IsFreeOf inner (var n) = is_pseudo_variable n ≡ false → kind_in inner n ≡ None
 IsFreeOf inner (literal l) = Unit {0}
 IsFreeOf inner (send r s args) = Unit {0}
 IsFreeOf inner (cascade r ms) = Unit {0}
