@@ -54,7 +54,7 @@ example-extracted = record {
     (
       refl,
       (λ e. refl),
-      (refl, (λ e. refl), (λ p k. absurd (cc)), ((λ p k. record { passed = λ t e. subst (IsFreeOf inner) (some-same e) refl; free = λ e. absurd (cc) }), tt)),
+      (refl, (λ e. refl), (λ p k. absurd (cc)), ((λ p k. record { passed = λ t e. subst (IsFreeOf inner) (some-same e) (λ q. refl); free = λ e. absurd (cc) }), tt)),
       ((λ p k. record { passed = λ t e. absurd (cc); free = λ e. (refl, refl) }), tt),
     ),
     tt,

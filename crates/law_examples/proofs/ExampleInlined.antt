@@ -63,7 +63,7 @@ block-filled =
     in_block (codes "k" ∷ []) [] [] []
     (lines_more [] []
     (in_send (codes "+") refl (λ e. absurd (cc)) (λ e. refl)
-    (in_send (codes "+") refl (λ e. no-super e) (λ e. refl) (at_part (filled_inner inner (codes "k") false refl refl)) (all_more (at_part (filled_formal inner (codes "x") (var (codes "y")) refl refl refl refl)) all_none))
+    (in_send (codes "+") refl (λ e. no-super e) (λ e. refl) (at_part (filled_inner inner (codes "k") false refl refl)) (all_more (at_part (filled_formal inner (codes "x") (var (codes "y")) refl refl refl (λ e. refl))) all_none))
     (all_more (at_part (filled_outer inner (codes "balance") refl (record { inside = refl; formal = refl; there = refl; same = refl }))) all_none))
     lines_none)
   where
