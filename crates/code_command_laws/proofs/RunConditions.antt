@@ -18,7 +18,7 @@ use Rattle.code_command_laws.proofs.Round.{LeadsTo, ToBody, ToBlock, last-step, 
 use Rattle.code_command_laws.proofs.PutBackRun.{part_in-append, statements_of}
 
 -- where nothing that passes one test passes another, an item that passes the one does not pass the other
-filtered-none : {X : Type 0} (test p : X → Bool) (xs : List X) (x : X) → list_any p (filter test xs) ≡ false → Contains xs x → test x ≡ true → p x ≡ false
+pub filtered-none : {X : Type 0} (test p : X → Bool) (xs : List X) (x : X) → list_any p (filter test xs) ≡ false → Contains xs x → test x ≡ true → p x ≡ false
 filtered-none test p [] x none (k, lt, e) passes = absurd (omega arith)
 filtered-none {X} test p (y ∷ ys) x none (zero, lt, e) passes = subst (λ (z : X). p z ≡ false) e (by (test y) none (subst (λ (z : X). test z ≡ true) (sym e) passes))
   where
@@ -40,7 +40,7 @@ filtered-none test p (y ∷ ys) x none (suc k, lt, e) passes = filtered-none tes
     by false n = n
 
 -- the path of a statement of a run leads into the run
-same-path : (path : List ℕ) → pointwise nat_eq path path ≡ true
+pub same-path : (path : List ℕ) → pointwise nat_eq path path ≡ true
 same-path [] = refl
 same-path (j ∷ js) = λ i. eq-eqb j j refl i && same-path js i
 
