@@ -2,6 +2,6 @@ mod Spelled
 mod KernelWords
 mod KernelAbove
 mod KernelReached
-mod AritiesSpelled
+pub mod AritiesSpelled
 mod ArgumentsPassed
 mod KernelStays

@@ -57,7 +57,7 @@ lines-normal g ps ts b = by b.statements
     by no_statements = refl
     by (more_statements c t ss) = refl
 
-code-normal : (g : Name → MeaningOf Name) (m : MethodOf Name) (ts : List Name) → code_in g [] (normal_by ts m).arguments (normal_by ts m).body ≡ code_in g [] m.arguments m.body
+pub code-normal : (g : Name → MeaningOf Name) (m : MethodOf Name) (ts : List Name) → code_in g [] (normal_by ts m).arguments (normal_by ts m).body ≡ code_in g [] m.arguments m.body
 code-normal g m [] = lines-normal g m.arguments m.body.temporaries m.body
 code-normal g m (n ∷ ns) = refl
 

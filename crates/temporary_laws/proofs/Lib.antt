@@ -1,3 +1,3 @@
 mod Declarations
 mod Walk
-mod Images
+pub mod Images
