@@ -1,0 +1,13 @@
+pub mod OtherNames
+pub mod Kept
+pub mod FirstReads
+pub mod Sequences
+pub mod Methods
+pub mod Images
+pub mod Unnamed
+pub mod PlainPlaces
+pub mod FirstEvaluated
+pub mod ScopesRound
+pub mod Extracted
+pub mod ExtractCommand
+pub mod ValidImages

@@ -1,0 +1,3 @@
+pub mod ReadsFirst
+pub mod Lets
+pub mod LetOnce
