@@ -1,4 +1,4 @@
-mod LawfulRequests
+mod SpelledRequests
 mod SpelledLiterals
 mod Kept
 mod SomeAnswer

@@ -5,7 +5,8 @@ use Rattle.file_model.specs.Causes.{Refusal as ImageRefusal}
 use Rattle.apply_model.specs.declared.status.Status as applied
 use Rattle.apply_model.specs.declared.status.Status.TheVariants as verdict
 use Rattle.apply_model.specs.Applied as model
-use Rattle.apply_model.specs.Promised.{IsChangedFile, IsRefusalOf}
+use Rattle.apply_model.specs.Promised.{IsRefusalOf}
+use Rattle.apply_laws.specs.FileOuts.{IsValidFileOut}
 use Rattle.browse.specs.declared.status.Status.{Status}
 use Rattle.browse.specs.declared.status.Status.TheVariants as status
 use Rattle.browse.specs.Loads.{World, Loads, Given, Refused, Refuses}
@@ -43,10 +44,10 @@ condition-is verdict.Condition e = refl
 condition-is verdict.ImageText e = absurd (cc)
 condition-is verdict.ScriptText e = absurd (cc)
 
-pub changed : ((line : ImageRefusal → List ℕ) (text script : List ℕ) (v : applied.Status) (sent : List ℕ) → model.Applies line text script v sent → v ≡ verdict.Done → IsChangedFile text script sent)
-    → (w : World) (image script sent : List ℕ) → Answers w (apply_words image script) status.Done sent → AreGiven w image script (λ text commands. IsChangedFile text commands sent)
+pub changed : ((line : ImageRefusal → List ℕ) (text script : List ℕ) (v : applied.Status) (sent : List ℕ) → model.Applies line text script v sent → v ≡ verdict.Done → IsValidFileOut text script sent)
+    → (w : World) (image script sent : List ℕ) → Answers w (apply_words image script) status.Done sent → AreGiven w image script (λ text commands. IsValidFileOut text commands sent)
 changed law w image script sent answers =
-    given-of w image script sent status.Done ((λ e. cc), (λ e. cc)) (λ text commands. IsChangedFile text commands sent)
+    given-of w image script sent status.Done ((λ e. cc), (λ e. cc)) (λ text commands. IsValidFileOut text commands sent)
     (λ text commands a. law image_refusal text commands a.verdict sent a.applies (done-is a.verdict a.status)) answers
 
 pub refused : ((line : ImageRefusal → List ℕ) (text script : List ℕ) (v : applied.Status) (sent : List ℕ) → model.Applies line text script v sent → v ≡ verdict.Condition → IsRefusalOf text script sent)

@@ -6,7 +6,8 @@ returns-clause-done c = λ image_line text script s sent applies e.
     done text script
     (λ i rs h is lawful v. c.law_script_files.ensures.matched text i rs h is lawful v)
     (λ i rs h v. c.law_nil_admitted.ensures i rs h v)
-    (λ i rs h is lawful v within. c.law_script_files.ensures.read_again text i rs h is lawful v within)
+    (λ i rs h is spelled v. c.law_script_texts.ensures.valid text i rs h is spelled v)
+    (λ i rs h is spelled v within. c.law_script_texts.ensures.read_again text i rs h is spelled v within)
     (λ i rs h is lawful v. c.law_script_files.ensures.runs_again text i rs h is lawful v)
     (λ i rs h x is lawful v a. c.law_script_files.ensures.admitted text i rs h x is lawful v a)
     image_line s sent applies e

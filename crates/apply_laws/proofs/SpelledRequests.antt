@@ -1,4 +1,4 @@
--- What a script asks for is lawful.
+-- What a script asks for is well spelled, and lawful where it moves no code.
 use Rattle.std.proofs.Common.{◌≡◌, ◌≢◌, ℕ, zero, suc, ◌+◌, ◌&&◌, Bool, true, false, not, if◌then◌else◌, List, [], ◌∷◌, length, take, drop, find, Option, Some, None, Result, Ok, Err, refl, sym, ap, subst, ◌∙◌}
 use Rattle.std.specs.Prelude.{◌==◌, cond}
 use Rattle.std.specs.List.{AllByRecursion}
@@ -13,10 +13,12 @@ use Rattle.grammar_model.specs.Spelling.{SpellsDoItAt}
 use Rattle.text_model.specs.Literals.{is_identifier}
 use Rattle.image_model.specs.ImageNames.{OptionNames}
 use Rattle.image_model.proofs.Lists.{find-all}
-use Rattle.history_model.specs.Rules.{Asks}
+use Rattle.history_model.specs.Rules.{Asks, Perform, Undo, Redo}
 use Rattle.file_model.specs.Fileable.{MayStand}
+use Rattle.code_effect_laws.specs.Moved.{IsWellSpelledAction}
 use Rattle.command_model.specs.Commands.{AddMethod, AddParameter}
 use Rattle.session_model.specs.Scripts.{Request}
+use Rattle.session_model.specs.Actions.{ActionOf, Single, CreateAccessors, ExtractSuperclass, PushUpWithMethods}
 use Rattle.session_model.specs.Lawful.{IsLawfulAction, LeavesCode}
 use Rattle.script_model.specs.Lines.{words_of, lines_of, spoken}
 use Rattle.script_model.specs.Arguments.{Argument, name, side, number, side_of, arguments_of}
@@ -27,9 +29,9 @@ use Rattle.script_model.specs.Parameters.{Parameter, literal_in, passing, Read, 
 use Rattle.script_model.specs.Scripts.{LineSays, InWords, InText, InLiteral, EachSays, Says}
 use Rattle.apply_laws.proofs.SpelledLiterals.{literal-spelled}
 
--- a request that is lawful, if it moves no code
+-- a request whose commands are well spelled
 abbrev IsFit : Request → Type 0
-IsFit r = Asks LeavesCode r → Asks IsLawfulAction r
+IsFit r = Asks IsWellSpelledAction r
 
 abbrev MakesFit : Maker → Type 0
 MakesFit m = (arguments : List Argument) (r : Request) → m arguments ≡ Some r → IsFit r
@@ -93,37 +95,37 @@ joined (suc n) (r ∷ rs) first rest = (first.0, joined n rs first.1 rest)
 
 -- the commands of classes, of the variables of each kind, of selectors and methods, those that move code, and the other ones
 classes-fit : Fits (take 3 table)
-classes-fit = (classes _ (λ d p under leaves. (tt, tt, tt)), (two _ (λ c x leaves. (tt, tt, tt)), (one _ (λ c leaves. (tt, tt, tt)), tt)))
+classes-fit = (classes _ (λ d p under. (tt, tt, tt)), (two _ (λ c x. (tt, tt, tt)), (one _ (λ c. (tt, tt, tt)), tt)))
 
 instance-fit : Fits (take 5 (drop 3 table))
-instance-fit = (two _ (λ c x leaves. (tt, tt, tt)), (three _ (λ c x y leaves. (tt, tt, tt)), (two _ (λ c x leaves. (tt, tt, tt)), (two _ (λ c x leaves. (tt, tt, tt)), (two _ (λ c x leaves. (tt, tt, tt)), tt)))))
+instance-fit = (two _ (λ c x. (tt, tt, tt)), (three _ (λ c x y. (tt, tt, tt)), (two _ (λ c x. (tt, tt, tt)), (two _ (λ c x. (tt, tt, tt)), (two _ (λ c x. (tt, tt, tt)), tt)))))
 
 shared-fit : Fits (take 5 (drop 8 table))
-shared-fit = (two _ (λ c x leaves. (tt, tt, tt)), (three _ (λ c x y leaves. (tt, tt, tt)), (two _ (λ c x leaves. (tt, tt, tt)), (two _ (λ c x leaves. (tt, tt, tt)), (three _ (λ c x y leaves. (tt, tt, tt)), tt)))))
+shared-fit = (two _ (λ c x. (tt, tt, tt)), (three _ (λ c x y. (tt, tt, tt)), (two _ (λ c x. (tt, tt, tt)), (two _ (λ c x. (tt, tt, tt)), (three _ (λ c x y. (tt, tt, tt)), tt)))))
 
 class_side-fit : Fits (take 3 (drop 13 table))
-class_side-fit = (two _ (λ c x leaves. (tt, tt, tt)), (three _ (λ c x y leaves. (tt, tt, tt)), (two _ (λ c x leaves. (tt, tt, tt)), tt)))
+class_side-fit = (two _ (λ c x. (tt, tt, tt)), (three _ (λ c x y. (tt, tt, tt)), (two _ (λ c x. (tt, tt, tt)), tt)))
 
 methods-fit : Fits (take 6 (drop 16 table))
 methods-fit = (
-  two _ (λ c x leaves. (tt, tt, tt)),
+  two _ (λ c x. (tt, tt, tt)),
   (
-    method _ (λ c meta s leaves. (tt, tt, tt)),
-    (method _ (λ c meta s leaves. (tt, tt, tt)), (method _ (λ c meta s leaves. (tt, tt, tt)), (parameter _ (λ s k t leaves. (tt, tt, tt)), (local_to _ (λ c meta s x y leaves. (tt, tt, tt)), tt)))),
+    method _ (λ c meta s. (tt, tt, tt)),
+    (method _ (λ c meta s. (tt, tt, tt)), (method _ (λ c meta s. (tt, tt, tt)), (parameter _ (λ s k t. (tt, tt, tt)), (local_to _ (λ c meta s x y. (tt, tt, tt)), tt)))),
   ),
 )
 
 code-fit : Fits (take 5 (drop 22 table))
 code-fit = (
-  two _ (λ c x leaves. absurd leaves),
+  two _ (λ c x. (tt, tt, record { selector = refl; parameter_is = refl })),
   (
-    part_to _ (λ c meta s from to t leaves. absurd leaves),
-    (part _ (λ c meta s from to leaves. absurd leaves), (part_to _ (λ c meta s from to x leaves. absurd leaves), (local _ (λ c meta s x leaves. absurd leaves), tt))),
+    part_to _ (λ c meta s from to t. (tt, tt, tt)),
+    (part _ (λ c meta s from to. (tt, tt, tt)), (part_to _ (λ c meta s from to x. (tt, tt, tt)), (local _ (λ c meta s x. (tt, tt, tt)), tt))),
   ),
 )
 
 others-fit : Fits (drop 27 table)
-others-fit = (two _ (λ c x leaves. record { selector = refl; parameter_is = refl }), (classes _ (λ d p under leaves. tt), (two _ (λ c x leaves. tt), (none _ (λ leaves. tt), (none _ (λ leaves. tt), tt)))))
+others-fit = (two _ (λ c x. record { selector = refl; parameter_is = refl }), (classes _ (λ d p under. tt), (two _ (λ c x. tt), (none _ tt, (none _ tt, tt)))))
 
 -- all commands that are performed
 all-fit : Fits table
@@ -194,14 +196,14 @@ parameter-fit : (p : Parameter) (tree : SpannedSequence) (r : Request) → Spell
 parameter-fit p tree r spells None is e = absurd (cc)
 parameter-fit p tree r spells (Some l) is e =
     let same : single (AddParameter p.selector p.to p.name l) ≡ r = cc in
-    subst IsFit same (λ leaves. (tt, literal-spelled p.passed tree l spells is, tt))
+    subst IsFit same (literal-spelled p.passed tree l spells is, tt, tt)
 
 -- what a line asks for
 line-fit : (line : Text) (r : Request) → LineSays line (Ok r) → IsFit r
 line-fit line r (InWords plain too answer) = words-fit (words_of line) r (sym answer)
 line-fit line r (InText adds (Spelled a tree is spells answer)) =
     let same : single (AddMethod a.class a.meta a.protocol a.text tree) ≡ r = cc in
-    subst IsFit same (λ leaves. (tt, spells, may-stand (behind_word line) a is))
+    subst IsFit same (spells, may-stand (behind_word line) a is, tt)
 line-fit line r (InText adds (Incomplete none answer)) = absurd (cc)
 line-fit line r (InText adds (Faulty a fault is wrong answer)) = absurd (cc)
 line-fit line r (InLiteral adds (Read p tree is spells answer)) = parameter-fit p tree r spells (literal_in p.passed tree) refl (sym answer)
@@ -209,12 +211,29 @@ line-fit line r (InLiteral adds (Wordless none answer)) = absurd (cc)
 line-fit line r (InLiteral adds (Unreadable p fault is wrong answer)) = absurd (cc)
 
 -- what lines ask for
-lines-fit : (lines : List Text) (requests : List Request) → EachSays lines requests → AllByRecursion (Asks LeavesCode) requests → AllByRecursion (Asks IsLawfulAction) requests
-lines-fit [] [] each leaves = tt
-lines-fit [] (r ∷ rs) each leaves = absurd each
-lines-fit (l ∷ ls) [] each leaves = absurd each
-lines-fit (l ∷ ls) (r ∷ rs) each leaves = (line-fit l r each.0 leaves.0, lines-fit ls rs each.1 leaves.1)
+lines-fit : (lines : List Text) (requests : List Request) → EachSays lines requests → AllByRecursion (Asks IsWellSpelledAction) requests
+lines-fit [] [] each = tt
+lines-fit [] (r ∷ rs) each = absurd each
+lines-fit (l ∷ ls) [] each = absurd each
+lines-fit (l ∷ ls) (r ∷ rs) each = (line-fit l r each.0, lines-fit ls rs each.1)
 
--- what a script asks for that moves no code
-pub requests-lawful : (script : Text) (requests : List Request) → Says script requests → AllByRecursion (Asks LeavesCode) requests → AllByRecursion (Asks IsLawfulAction) requests
-requests-lawful script requests says leaves = lines-fit (spoken (lines_of script)) requests says.each leaves
+-- what a script asks for, whatever its commands are
+pub requests-spelled : (script : Text) (requests : List Request) → Says script requests → AllByRecursion (Asks IsWellSpelledAction) requests
+requests-spelled script requests says = lines-fit (spoken (lines_of script)) requests says.each
+
+-- what moves no code is lawful
+action-lawful : (x : ActionOf Text) → IsWellSpelledAction x → LeavesCode x → IsLawfulAction x
+action-lawful (Single command) spelled leaves = (leaves, spelled.0, spelled.1)
+action-lawful (CreateAccessors c x setter parameter) spelled leaves = spelled
+action-lawful (ExtractSuperclass d p under) spelled leaves = tt
+action-lawful (PushUpWithMethods c x) spelled leaves = tt
+
+request-lawful : (r : Request) → Asks IsWellSpelledAction r → Asks LeavesCode r → Asks IsLawfulAction r
+request-lawful (Perform x) spelled leaves = action-lawful x spelled leaves
+request-lawful Undo spelled leaves = tt
+request-lawful Redo spelled leaves = tt
+
+-- so is each script of such requests
+pub all-lawful : (requests : List Request) → AllByRecursion (Asks IsWellSpelledAction) requests → AllByRecursion (Asks LeavesCode) requests → AllByRecursion (Asks IsLawfulAction) requests
+all-lawful [] spelled leaves = tt
+all-lawful (r ∷ rs) spelled leaves = (request-lawful r spelled.0 leaves.0, all-lawful rs spelled.1 leaves.1)
