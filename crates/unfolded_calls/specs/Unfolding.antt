@@ -370,10 +370,20 @@ module _ (i : ResolvedImage) (gone : Allowed) where
       same_way : {g : Context} {c c' : ResolvedCode} → UnfoldsCode g c c' → UnfoldsBranch g (runs_code c) (runs_code c')
       same_value : {g : Context} (v : Value) → UnfoldsBranch g (gives_just v) (gives_just v)
 
+  -- The statements of a method, which answers self and not what the last one gives: there a send may be the last one, too, where the statements of the method that it runs stand.
+  pub data UnfoldsOwn : Context → ResolvedStatements → ResolvedStatements → Type 0 where
+    own_lines : {g : Context} {ss ss' : ResolvedStatements} → UnfoldsLines g ss ss' → UnfoldsOwn g ss ss'
+    own_line : {g : Context} {t t' : ResolvedTree} {ss ss' : ResolvedStatements} → Unfolds g t t' → UnfoldsOwn g ss ss' → UnfoldsOwn g (more_lines t ss) (more_lines t' ss')
+    own_run : {g : Context} {s : Name} {args : ResolvedTrees} {body body' ss rest : ResolvedStatements} (actuals : List StandIn) (supers : Bool) →
+        IsPlace g s args (record { parameters = length actuals; temporaries = 0; statements = body }) supers → Actuals g args actuals →
+        UnfoldsBody (opened actuals supers) body body' → UnfoldsOwn g ss rest → UnfoldsOwn g (more_lines (sending (reading (of_word (codes "self"))) s args) ss) (joined body' rest)
+
   -- what a method does
   pub data UnfoldsDoing (place : Option (Name × Bool)) : Doing → Doing → Type 0 where
     same_primitive : (n : ℕ) → UnfoldsDoing place (by_primitive n) (by_primitive n)
     unfolds_code : {c c' : ResolvedCode} → UnfoldsCode (outermost_context place) c c' → UnfoldsDoing place (by_code c) (by_code c')
+    unfolds_own : {ss ss' : ResolvedStatements} (p : ℕ) (ms : List Mode) → UnfoldsOwn (scoped p ms (outermost_context place)) ss ss' →
+        UnfoldsDoing place (by_code (record { parameters = p; temporaries = length ms; statements = ss })) (by_code (record { parameters = p; temporaries = staying ms; statements = ss' }))
 
   -- the class and side of a method in which sends may be unfolded; that is not the class of classes or one above it
   pub record IsOpen (m : ResolvedMethod) (p : Name × Bool) : Type 0 where

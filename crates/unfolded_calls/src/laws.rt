@@ -14,8 +14,8 @@ ghost use Rattle.unfolded_calls.specs.Unfolding.{IsBelow, IsUnfolded};
 use resolved_traces::law_matched_traces;
 
 /// An image in which the bodies of methods stand in place of some sends to self that run them, and values in place of some
-/// temporaries, as `IsUnfolded` says, and the one before match each other. A send that ends the statements of a method or
-/// block is unfolded only where the method that it runs answers one expression or assigns its argument.
+/// temporaries, as `IsUnfolded` says, and the one before match each other. A send that ends the statements of a block or do-it
+/// is unfolded only where the method that it runs answers one expression or assigns its argument.
 pub fn law_unfolded_call()
     ensures unfolded { (i j : ImageOf Name) → IsUnfolded (resolved_image i) (resolved_image j) → AreMatched i j no_renaming }
     ensures folded { (i j : ImageOf Name) → IsUnfolded (resolved_image i) (resolved_image j) → AreMatched j i no_renaming }
