@@ -87,7 +87,7 @@ module _ (control : ControlLaw) (i : ResolvedImage) (gone : Allowed) (c : Change
 
 module _ (control : ControlLaw) (i : ResolvedImage) (gone : Allowed) (c : Change) (f f' : Name → MeaningOf Name) (Fits : Context → List Declared → List Declared → Type 0) (k : IsKept control i gone c f f' Fits) where
   -- the number of temporaries
-  count-block : {g : Context} (p n : ℕ) (ss ss' : ResolvedStatements) → UnfoldsLines i gone (scoped p (replicate n shared) (in_closure g)) ss ss' → Unfolds i gone g (block_of p n ss) (block_of p n ss')
+  pub count-block : {g : Context} (p n : ℕ) (ss ss' : ResolvedStatements) → UnfoldsLines i gone (scoped p (replicate n shared) (in_closure g)) ss ss' → Unfolds i gone g (block_of p n ss) (block_of p n ss')
   count-block {g} p n ss ss' h =
       subst (λ m. Unfolds i gone g (block_of p n ss) (block_of p m ss')) (staying-all n)
       (subst (λ m. Unfolds i gone g (block_of p m ss) (block_of p (staying (replicate n shared)) ss')) (length-replicate n shared) (same_block p (replicate n shared) h))

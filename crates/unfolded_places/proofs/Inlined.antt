@@ -16,7 +16,7 @@ use Rattle.resolved_model.specs.ResolvedImages.{by_code, doing_of, resolved_entr
 use Rattle.resolved_model.specs.ResolvedEval.{reads_super}
 use Rattle.resolved_model.specs.ResolvedShapes.{plain_code, resolved_shape}
 use Rattle.resolved_model.specs.Resolving.{reference_of}
-use Rattle.resolved_model.specs.Environments.{Declared, opened, place_in, tree_in, trees_in, statements_in, code_in}
+use Rattle.resolved_model.specs.Environments.{Declared, opened, kind_in, place_in, tree_in, trees_in, statements_in, code_in}
 use Rattle.resolved_model.proofs.ResolvingLemmas.{method-resolved}
 use Rattle.resolved_model.proofs.ShapeLemmas.{shape-in}
 use Rattle.unfolded_calls.specs.Unfolding.{Allowed, StandIn, an_argument, a_self, a_nil, a_true, a_false, a_class, Context, opened as opened_context, Actual, self_actual, nil_actual, true_actual, false_actual, number_actual, string_actual, symbol_actual, char_actual, class_actual, argument_actual, Actuals, no_actuals, more_actuals, Unfolds, unfolded_value}
@@ -28,29 +28,32 @@ use Rattle.unfolded_places.proofs.NamesThere.{word-read, local-read, outer-read}
 use Rattle.unfolded_places.specs.Standing.{AllPartsUnfold, AllPartsNoBlocks}
 use Rattle.unfolded_places.proofs.Filled.{IsFilled, kept-filled, filled-first}
 
--- actuals at the place
-actual-there : (f : Name → MeaningOf Name) (g : Context) (A : List Declared) → g.locals ≡ same_locals A 0 → (t : TreeOf Name) (a : StandIn) → PlainActual f A t a → Actual g (tree_in f A t) a
+-- actuals at the place, where arguments stand at theirs
+abbrev pub HasArguments : Context → List Declared → Type 0
+HasArguments g A = (n : Name) → is_pseudo_variable n ≡ false → kind_in A n ≡ Some false → slice_get g.locals (place_in A n) ≡ Some (an_argument (place_in A n))
+
+pub actual-there : (f : Name → MeaningOf Name) (g : Context) (A : List Declared) → HasArguments g A → (t : TreeOf Name) (a : StandIn) → PlainActual f A t a → Actual g (tree_in f A t) a
 unfolding is_pseudo_variable
-actual-there f g A same _ _ plain_self = subst (λ r. Actual g (reading r) a_self) (sym (word-read A (f (codes "self")) (codes "self") refl)) self_actual
-actual-there f g A same _ _ plain_nil = subst (λ r. Actual g (reading r) a_nil) (sym (word-read A (f (codes "nil")) (codes "nil") refl)) nil_actual
-actual-there f g A same _ _ plain_true = subst (λ r. Actual g (reading r) a_true) (sym (word-read A (f (codes "true")) (codes "true") refl)) true_actual
-actual-there f g A same _ _ plain_false = subst (λ r. Actual g (reading r) a_false) (sym (word-read A (f (codes "false")) (codes "false") refl)) false_actual
-actual-there f g A same _ _ (plain_number t z e) = number_actual t z e
-actual-there f g A same _ _ (plain_string t) = string_actual t
-actual-there f g A same _ _ (plain_symbol t) = symbol_actual t
-actual-there f g A same _ _ (plain_char b) = char_actual b
-actual-there f g A same _ _ (plain_argument n p e) =
-    subst (λ r. Actual g (reading r) (an_argument (place_in A n))) (sym (local-read A (f n) n false p e))
-    (argument_actual (place_in A n) (place_in A n) (ap (λ l. slice_get l (place_in A n)) same ∙ local-at A n false 0 e ∙ ap (λ k. Some (an_argument k)) (none (place_in A n))))
-  where
-    none : (k : ℕ) → 0 + k ≡ k
-    none k = omega arith
-actual-there f g A same _ _ (plain_class n c p e q) =
+actual-there f g A there _ _ plain_self = subst (λ r. Actual g (reading r) a_self) (sym (word-read A (f (codes "self")) (codes "self") refl)) self_actual
+actual-there f g A there _ _ plain_nil = subst (λ r. Actual g (reading r) a_nil) (sym (word-read A (f (codes "nil")) (codes "nil") refl)) nil_actual
+actual-there f g A there _ _ plain_true = subst (λ r. Actual g (reading r) a_true) (sym (word-read A (f (codes "true")) (codes "true") refl)) true_actual
+actual-there f g A there _ _ plain_false = subst (λ r. Actual g (reading r) a_false) (sym (word-read A (f (codes "false")) (codes "false") refl)) false_actual
+actual-there f g A there _ _ (plain_number t z e) = number_actual t z e
+actual-there f g A there _ _ (plain_string t) = string_actual t
+actual-there f g A there _ _ (plain_symbol t) = symbol_actual t
+actual-there f g A there _ _ (plain_char b) = char_actual b
+actual-there f g A there _ _ (plain_argument n p e) =
+    subst (λ r. Actual g (reading r) (an_argument (place_in A n))) (sym (local-read A (f n) n false p e)) (argument_actual (place_in A n) (place_in A n) (there n p e))
+actual-there f g A there _ _ (plain_class n c p e q) =
     subst (λ r. Actual g (reading r) (a_class c)) (sym (outer-read A (f n) n p e ∙ ap (λ m. reference_of m (place_in A n) n) q)) (class_actual c)
 
 pub actuals-there : (f : Name → MeaningOf Name) (g : Context) (A : List Declared) → g.locals ≡ same_locals A 0 → (ts : TreesOf Name) (actuals : List StandIn) → PlainActuals f A ts actuals → Actuals g (trees_in f A ts) actuals
 actuals-there f g A same _ _ plain_none = no_actuals
-actuals-there f g A same _ _ (plain_more {t = t} {ts = ts} {a = a} {rest = rest} p r) = more_actuals (actual-there f g A same t a p) (actuals-there f g A same ts rest r)
+actuals-there f g A same _ _ (plain_more {t = t} {ts = ts} {a = a} {rest = rest} p r) =
+    more_actuals (actual-there f g A (λ n q e. ap (λ l. slice_get l (place_in A n)) same ∙ local-at A n false 0 e ∙ ap (λ k. Some (an_argument k)) (none (place_in A n))) t a p) (actuals-there f g A same ts rest r)
+  where
+    none : (k : ℕ) → 0 + k ≡ k
+    none k = omega arith
 
 -- `self`
 pub self-there : (f : Name → MeaningOf Name) (A : List Declared) → tree_in f A (var (codes "self")) ≡ reading (of_word (codes "self"))

@@ -29,7 +29,7 @@ statement-again no_statements k c e = refl
 statement-again (more_statements n t ss) zero c e = ap (λ x. more_statements n x ss) (sym (some-same e))
 statement-again (more_statements n t ss) (suc k) c e = ap (more_statements n t) (statement-again ss k c e)
 
-nth-front : (ts us : TreesOf Name) (k : ℕ) → nat_lt k (count ts) ≡ true → nth (append ts us) k ≡ nth ts k
+pub nth-front : (ts us : TreesOf Name) (k : ℕ) → nat_lt k (count ts) ≡ true → nth (append ts us) k ≡ nth ts k
 nth-front no_trees us k e = let h = ltb-true k 0 e in absurd (omega arith)
 nth-front (more_trees t ts) us zero e = refl
 nth-front (more_trees t ts) us (suc k) e = nth-front ts us k (lt-ltb k (count ts) (let h = ltb-true (suc k) (count ts + 1) e in omega arith))
@@ -61,7 +61,7 @@ child-again (return t) zero c e = ap return (sym (some-same e))
 child-again (return t) (suc k) c e = refl
 
 -- what stands at a path put there again
-replaced-again : (t : TreeOf Name) (path : List ℕ) (v : TreeOf Name) → part_at t path ≡ Some v → replaced t path v ≡ t
+pub replaced-again : (t : TreeOf Name) (path : List ℕ) (v : TreeOf Name) → part_at t path ≡ Some v → replaced t path v ≡ t
 replaced-again t [] v e = sym (some-same e)
 replaced-again t (k ∷ ks) v e = by (child t k) refl e (λ c. replaced-again c ks v)
   where

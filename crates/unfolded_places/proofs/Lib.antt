@@ -4,9 +4,18 @@ pub mod Unchanged
 pub mod Replaced
 pub mod Images
 pub mod NamesThere
+pub mod UsesApart
+pub mod SendsKept
+pub mod Moves
+pub mod Slots
+pub mod StandsThere
+pub mod MovesAlong
+pub mod LentFilled
+pub mod MethodMoves
 pub mod PlainThere
 pub mod Filled
 pub mod Inlined
+pub mod PassedThere
 pub mod OnePart
 pub mod InlinedOne
 pub mod Refilled
@@ -14,3 +23,4 @@ pub mod SelfFilled
 pub mod ExtractedOne
 pub mod Stored
 pub mod AccessedBecomes
+pub mod BlockMoves

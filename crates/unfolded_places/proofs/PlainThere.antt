@@ -1,7 +1,7 @@
 -- What is always the same, and what is no local, inside further scopes.
 use Rattle.std.proofs.Common.{◌≡◌, ℕ, ◌+◌, List, ◌∷◌, ◌++◌, length, map, refl, ap, ◌∙◌, arith}
 use Rattle.std.specs.Prelude.{false, codes}
-use Rattle.tree_model.specs.Tree.{TreeOf, var, literal, send, cascade, assign, block, brace, return, TreesOf}
+use Rattle.tree_model.specs.Tree.{TreeOf, TreesOf}
 use Rattle.scope_model.specs.SpecialNames.{is_pseudo_variable}
 use Rattle.image_model.specs.Means.{of_instance, of_class_side, of_class, MeaningOf, pseudo, argument, temporary, variable, a_class, transcript, undeclared}
 use Rattle.run_model.specs.Values.{Name}

@@ -1,5 +1,5 @@
 -- A body that may be put elsewhere becomes itself with what is passed in place of its arguments.
-use Rattle.std.proofs.Common.{◌≡◌, suc, ◌+◌, List, [], ◌∷◌, ◌++◌, length, Option, Some, None, refl, sym, ap, ◌∙◌, subst}
+use Rattle.std.proofs.Common.{◌≡◌, ◌+◌, List, [], ◌∷◌, ◌++◌, length, Option, Some, None, refl, sym, ap, ◌∙◌, subst, arith}
 use Rattle.std.specs.Prelude.{◌&&◌, Bool, true, false, cond, find, if◌then◌else◌, option_map, unwrap_or}
 use Rattle.rb_base.specs.Names.{text_eq}
 use Rattle.scope_model.specs.SpecialNames.{is_pseudo_variable, control_form}
@@ -17,7 +17,7 @@ use Rattle.unfolded_places.proofs.NamesThere.{passed-at, opened-append}
 use Rattle.unfolded_places.proofs.Replaced.{meets-same}
 
 -- what is passed is no block
-plain-open : (f : Name → MeaningOf Name) (A : List Declared) (t : TreeOf Name) (a : StandIn) → PlainActual f A t a → is_plain_block t ≡ false
+pub plain-open : (f : Name → MeaningOf Name) (A : List Declared) (t : TreeOf Name) (a : StandIn) → PlainActual f A t a → is_plain_block t ≡ false
 plain-open f A _ _ plain_self = refl
 plain-open f A _ _ plain_nil = refl
 plain-open f A _ _ plain_true = refl
@@ -30,20 +30,23 @@ plain-open f A _ _ (plain_argument x p e) = refl
 plain-open f A _ _ (plain_class x c p e q) = refl
 
 -- a name for which nothing is passed is no argument
-not-passed : (f : Name → MeaningOf Name) (A : List Declared) (ps : List Name) (args : TreesOf Name) (actuals : List StandIn) (n : Name) → PlainActuals f A args actuals → length ps ≡ length actuals → passed_for ps args n ≡ None → kind_in (opened ps [] []) n ≡ None
-not-passed f A [] args actuals n h c e = refl
-not-passed f A (p ∷ ps) _ _ n plain_none c e = absurd (cc)
-not-passed f A (p ∷ ps) _ _ n (plain_more {t = u} {ts = ts} {a = a} {rest = rest} h r) c e = by (text_eq n p) (not-passed f A ps ts rest n r (count-so c)) e
+not-passed : (ps : List Name) (args : TreesOf Name) (n : Name) → length ps ≡ count args → passed_for ps args n ≡ None → kind_in (opened ps [] []) n ≡ None
+not-passed [] args n c e = refl
+not-passed (p ∷ ps) no_trees n c e = absurd (omega (arith, c))
+not-passed (p ∷ ps) (more_trees t ts) n c e = by (text_eq n p) (not-passed ps ts n (omega (arith, c))) e
   where
-    count-so : suc (length ps) ≡ suc (length rest) → length ps ≡ length rest
-    count-so q = cc
-
-    by : (b : Bool) → (passed_for ps ts n ≡ None → kind_in (opened ps [] []) n ≡ None) → (if b then Some u else passed_for ps ts n) ≡ None →
+    by : (b : Bool) → (passed_for ps ts n ≡ None → kind_in (opened ps [] []) n ≡ None) → (if b then Some t else passed_for ps ts n) ≡ None →
         option_map (λ (d : Declared). d.is_temporary) (cond b (Some (as_argument p)) (find (λ (d : Declared). text_eq n d.name) (opened ps [] []))) ≡ None
     by true ih q = absurd (cc)
     by false ih q = ih q
 
-module _ (z : Filling) (supers : Bool) (gone : Name → Bool) (actuals : List StandIn) (plains : PlainActuals z.after z.round z.passed actuals) (counted : length z.arguments ≡ length actuals) where
+-- as many actuals as are passed
+plain-count : (f : Name → MeaningOf Name) (A : List Declared) (ts : TreesOf Name) (actuals : List StandIn) → PlainActuals f A ts actuals → count ts ≡ length actuals
+plain-count f A _ _ plain_none = refl
+plain-count f A _ _ (plain_more {ts = ts} {rest = rest} h r) = let q = plain-count f A ts rest r in omega (arith, q)
+
+-- what is passed is no block, and as much as there are arguments
+module _ (z : Filling) (supers : Bool) (gone : Name → Bool) (unblocked : (n : Name) (t : TreeOf Name) → passed_for z.arguments z.passed n ≡ Some t → is_plain_block t ≡ false) (counted : length z.arguments ≡ count z.passed) where
   abbrev Formals : List Declared
   Formals = opened z.arguments [] []
 
@@ -56,7 +59,7 @@ module _ (z : Filling) (supers : Bool) (gone : Name → Bool) (actuals : List St
     where
       by-passed : (o : Option (TreeOf Name)) → passed_for z.arguments z.passed n ≡ o → is_pseudo_variable n ≡ false → kind_in inner n ≡ None → Fills inner (var n) (unwrap_or o (var n))
       by-passed (Some t) q p k = at_part (filled_formal inner n t p k q ((h p k).passed t q))
-      by-passed None q p k = at_part (filled_outer inner n p (record { inside = k; formal = not-passed z.after z.round z.arguments z.passed actuals n plains counted q; there = ((h p k).free q).0; same = ((h p k).free q).1 }))
+      by-passed None q p k = at_part (filled_outer inner n p (record { inside = k; formal = not-passed z.arguments z.passed n counted q; there = ((h p k).free q).0; same = ((h p k).free q).1 }))
 
       by-kind : (o : Option Bool) → kind_in inner n ≡ o → is_pseudo_variable n ≡ false → Fills inner (var n) (filled_by z.arguments z.passed o n)
       by-kind (Some b) k p = at_part (filled_inner inner n b p k)
@@ -71,7 +74,7 @@ module _ (z : Filling) (supers : Bool) (gone : Name → Bool) (actuals : List St
   block-filled inner (var n) = by (is_pseudo_variable n)
     where
       by-passed : (o : Option (TreeOf Name)) → passed_for z.arguments z.passed n ≡ o → false ≡ is_plain_block (unwrap_or o (var n))
-      by-passed (Some t) q = let x = passed-at z.after z.round z.arguments z.passed actuals n t plains q in sym (plain-open z.after z.round t x.stand_in x.plain)
+      by-passed (Some t) q = sym (unblocked n t q)
       by-passed None q = refl
 
       by-kind : (o : Option Bool) → false ≡ is_plain_block (filled_by z.arguments z.passed o n)
@@ -102,26 +105,26 @@ module _ (z : Filling) (supers : Bool) (gone : Name → Bool) (actuals : List St
       sym (meets-same (control_form s) r (filled_tree z.arguments z.passed inner r) us (filled_trees z.arguments z.passed inner us) (block-filled inner r) (count-filled inner us) (blocks-filled inner us)) ∙ e
 
   mutual
-    pub tree-fills : (inner : List Declared) (t : TreeOf Name) → MayFill z supers gone inner t → Fills inner t (filled_tree z.arguments z.passed inner t)
-    tree-fills inner (var n) h = name-fills inner n h
-    tree-fills inner (literal l) h = at_literal l
-    tree-fills inner (send r s us) h = in_send s h.0 h.1 (still inner r s us) (tree-fills inner r h.2) (trees-fill inner us h.3)
-    tree-fills inner (cascade r ms) h = in_cascade (tree-fills inner r h.0) (messages-fill inner ms h.1)
-    tree-fills inner (assign n t) h = in_assign n (by (kind_in inner n) refl) (tree-fills inner t h.2)
+    pub tree-fills-with : (inner : List Declared) (t : TreeOf Name) → MayFill z supers gone inner t → Fills inner t (filled_tree z.arguments z.passed inner t)
+    tree-fills-with inner (var n) h = name-fills inner n h
+    tree-fills-with inner (literal l) h = at_literal l
+    tree-fills-with inner (send r s us) h = in_send s h.0 h.1 (still inner r s us) (tree-fills-with inner r h.2) (trees-fill inner us h.3)
+    tree-fills-with inner (cascade r ms) h = in_cascade (tree-fills-with inner r h.0) (messages-fill inner ms h.1)
+    tree-fills-with inner (assign n t) h = in_assign n (by (kind_in inner n) refl) (tree-fills-with inner t h.2)
       where
         by : (o : Option Bool) → kind_in inner n ≡ o → Rattle.unfolded_places.specs.Inlining.FilledTarget z (inner ++ Formals) (inner ++ z.round) n
         by (Some b) k = target_inner inner n b h.0 k
-        by None k = let x = h.1 k in target_outer inner n h.0 (record { inside = k; formal = not-passed z.after z.round z.arguments z.passed actuals n plains counted x.0; there = x.1; same = x.2 })
-    tree-fills inner (block ps ts ss e) h =
+        by None k = let x = h.1 k in target_outer inner n h.0 (record { inside = k; formal = not-passed z.arguments z.passed n counted x.0; there = x.1; same = x.2 })
+    tree-fills-with inner (block ps ts ss e) h =
         in_block ps ts e e
         (subst (λ C. BecomeLines (filling z supers gone) C (opened ps ts (inner ++ z.round)) ss (filled_statements z.arguments z.passed (opened ps ts inner) ss)) (sym (opened-append ps ts inner Formals))
         (subst (λ C. BecomeLines (filling z supers gone) (opened ps ts inner ++ Formals) C ss (filled_statements z.arguments z.passed (opened ps ts inner) ss)) (sym (opened-append ps ts inner z.round)) (lines-fill (opened ps ts inner) ss h)))
-    tree-fills inner (brace us) h = in_brace (trees-fill inner us h)
-    tree-fills inner (return t) h = absurd h
+    tree-fills-with inner (brace us) h = in_brace (trees-fill inner us h)
+    tree-fills-with inner (return t) h = absurd h
 
     trees-fill : (inner : List Declared) (us : TreesOf Name) → AllMayFill z supers gone inner us → BecomeAll (filling z supers gone) (inner ++ Formals) (inner ++ z.round) us (filled_trees z.arguments z.passed inner us)
     trees-fill inner no_trees h = all_none
-    trees-fill inner (more_trees t us) h = all_more (tree-fills inner t h.0) (trees-fill inner us h.1)
+    trees-fill inner (more_trees t us) h = all_more (tree-fills-with inner t h.0) (trees-fill inner us h.1)
 
     messages-fill : (inner : List Declared) (ms : MessagesOf Name) → MessagesMayFill z supers gone inner ms → BecomeMessages (filling z supers gone) (inner ++ Formals) (inner ++ z.round) ms (filled_messages z.arguments z.passed inner ms)
     messages-fill inner no_messages h = messages_none
@@ -129,4 +132,10 @@ module _ (z : Filling) (supers : Bool) (gone : Name → Bool) (actuals : List St
 
     lines-fill : (inner : List Declared) (ss : StatementsOf Name) → StatementsMayFill z supers gone inner ss → BecomeLines (filling z supers gone) (inner ++ Formals) (inner ++ z.round) ss (filled_statements z.arguments z.passed inner ss)
     lines-fill inner no_statements h = lines_none
-    lines-fill inner (more_statements c t ss) h = lines_more c c (tree-fills inner t h.0) (lines-fill inner ss h.1)
+    lines-fill inner (more_statements c t ss) h = lines_more c c (tree-fills-with inner t h.0) (lines-fill inner ss h.1)
+
+-- the same where what is passed is plain
+module _ (z : Filling) (supers : Bool) (gone : Name → Bool) (actuals : List StandIn) (plains : PlainActuals z.after z.round z.passed actuals) (counted : length z.arguments ≡ length actuals) where
+  pub tree-fills : (inner : List Declared) (t : TreeOf Name) → MayFill z supers gone inner t → Becomes (filling z supers gone) (inner ++ opened z.arguments [] []) (inner ++ z.round) t (filled_tree z.arguments z.passed inner t)
+  tree-fills inner t h =
+      tree-fills-with z supers gone (λ n u q. let x = passed-at z.after z.round z.arguments z.passed actuals n u plains q in plain-open z.after z.round u x.stand_in x.plain) (counted ∙ sym (plain-count z.after z.round z.passed actuals plains)) inner t h

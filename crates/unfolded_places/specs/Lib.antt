@@ -3,6 +3,7 @@ pub mod PartsReplaced
 pub mod ImagesChanged
 pub mod Standing
 pub mod Inlining
+pub mod Passed
 pub mod InlinedOnce
 pub mod Fillings
 pub mod ExtractedOnce
