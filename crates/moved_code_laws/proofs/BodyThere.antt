@@ -39,7 +39,7 @@ use Rattle.moved_code_laws.proofs.FilledThere.{Fills, tree-filled}
 use Rattle.moved_code_laws.proofs.MayStand.{IsKeptName, IsFine, tree-may}
 
 -- a test that each node passes
-node-passes : (p : Placed Name → Bool) (b : SequenceOf Name) → list_all p (nodes b) ≡ true → (path : List ℕ) (u : TreeOf Name) → part_in b path ≡ Some u → p (path, u) ≡ true
+pub node-passes : (p : Placed Name → Bool) (b : SequenceOf Name) → list_all p (nodes b) ≡ true → (path : List ℕ) (u : TreeOf Name) → part_in b path ≡ Some u → p (path, u) ≡ true
 node-passes p b e path u q = fact-of (λ x. p x ≡ true) (nodes b) (path, u) (each-passes p (nodes b) e) (Contains-part_in b path u q)
 
 -- what is not fixed is neither a pseudo-variable nor an argument

@@ -4,7 +4,7 @@ use Rattle.std.specs.Prelude.{Bool, true, false, not, ◌&&◌, if◌then◌else
 use Rattle.std.specs.Option.{option_map_or, option_or}
 use Rattle.std.proofs.Math.Bool.{beq}
 use Rattle.rb_base.specs.Names.{text_eq}
-use Rattle.tree_model.specs.Tree.{TreeOf, send, return, no_statements, more_statements, Notes}
+use Rattle.tree_model.specs.Tree.{send}
 use Rattle.image_model.specs.Image.{ClassOf, EntryOf, ImageOf}
 use Rattle.image_model.specs.ImageNames.{OptionNames}
 use Rattle.image_model.specs.Words.{text_words}
@@ -27,16 +27,13 @@ use Rattle.command_model.specs.Asked.{text_asked}
 use Rattle.command_model.specs.CodeAllowed.{MayInlineMethod}
 use Rattle.command_model.specs.Commands.{InlineMethod}
 use Rattle.command_model.specs.Places.{users_method, SendOf}
-use Rattle.command_model.specs.Inlined.{answered}
 use Rattle.command_model.specs.CodeEffects.{send_at, target_of}
-use Rattle.command_model.specs.InlineConditions.{is_self_send, is_inlinable, captures_nothing, makes_no_control}
+use Rattle.command_model.specs.InlineConditions.{is_self_send, is_inlinable, are_actuals_plain, captures_nothing, makes_no_control}
 use Rattle.moved_code_laws.specs.WellWritten.{IsWellWritten}
-use Rattle.moved_code_laws.specs.InlinesExpression.{PassesNoTemporary, InlinesExpression}
 use Rattle.moved_code_laws.proofs.UsersThere.{UsersMethod, users-there}
-use Rattle.moved_code_laws.proofs.PlainThere.{some-there}
 use Rattle.moved_code_laws.proofs.Targets.{test-there}
-use Rattle.moved_code_laws.proofs.SendFound.{self-receiver, answered-so, StandsAt, send-there}
-use Rattle.moved_code_laws.proofs.InlinedHere.{Scene}
+use Rattle.moved_code_laws.proofs.SendFound.{self-receiver, StandsAt, send-there}
+use Rattle.moved_code_laws.proofs.InlinedHere.{Scene, no-primitive}
 
 -- what follows from each of two follows from one or the other
 from-either : {X : Type 0} (R : Type 0) (o p : Option X) (x : X) → (o ≡ Some x → R) → (p ≡ Some x → R) → option_or o p ≡ Some x → R
@@ -97,8 +94,8 @@ module _ (i : ImageOf Name) (sound : IsWellWritten i) (c : Name) (meta : Bool) (
   sent_formed : WellFormed (send sent.0.1.receiver sent.0.1.selector sent.0.1.arguments)
   sent_formed = node-formed sent.0.0.tree.body mine.formed.body.statements sent.0.1.path (send sent.0.1.receiver sent.0.1.selector sent.0.1.arguments) stands.there
 
-  pub scene : PassesNoTemporary i sent.0.0 sent.0.1 → Scene i c meta sent.0.0 sent.0.1 runs.0
-  scene passed = record {
+  pub scene : Scene i c meta sent.0.0 sent.0.1 runs.0
+  scene = record {
     user = hold.user_class;
     class = mine.class;
     side = mine.side;
@@ -109,18 +106,14 @@ module _ (i : ImageOf Name) (sound : IsWellWritten i) (c : Name) (meta : Bool) (
     own = denied runs.0.kernel runs.2;
     inlinable = of-both (is_inlinable text_asked i c) (hold.inlinable sent.0 sent.1 runs.0 runs.1 owner.0 owner.1);
     captures = of-both (captures_nothing text_asked i) (hold.no_capture sent.0 sent.1 runs.0 runs.1);
-    passed = passed;
+    plain = of-both (are_actuals_plain text_asked i) (hold.plain_actuals sent.0 sent.1 runs.0 runs.1);
     formed = sent_formed;
     counted = pattern-count runs.0.tree.selector target_formed.pattern ∙ ap arity (sym (selector-found i (Some c) meta sent.0.1.selector runs.0 runs.1)) ∙ sym (fits-count sent.0.1.selector sent_formed.2);
   }
 
+  -- it is no primitive
+  pub plain : sent.0.0.tree.primitive ≡ None
+  plain = no-primitive sent.0.0.tree.primitive sent.0.0.tree.body.temporaries sent.0.0.tree.body.statements mine.formed.primitive
+
   pub control : makes_no_control text_asked i sent.0.0 sent.0.1 runs.0 ≡ true
   control = of-both (makes_no_control text_asked i) (hold.no_new_control sent.0 sent.1 runs.0 runs.1)
-
-  -- the expression that the method answers, where it answers one
-  module _ (kind : InlinesExpression i c meta s from to) where
-    pub answer : (t : TreeOf Name) × (answered runs.0.tree.body.statements ≡ Some t)
-    answer = some-there (answered runs.0.tree.body.statements) ((kind sent.0 sent.1).1 runs.0 runs.1)
-
-    pub answers : (note : Notes) × (runs.0.tree.body.statements ≡ more_statements note (return answer.0) no_statements)
-    answers = answered-so runs.0.tree.body.statements answer.0 answer.1

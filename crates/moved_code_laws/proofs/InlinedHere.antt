@@ -1,16 +1,17 @@
 -- What `inlineMethod` makes of an image is the image with a message to self inlined.
-use Rattle.std.proofs.Common.{◌≡◌, ℕ, List, [], ◌∷◌, length, Option, Some, None, refl, sym, ap, ◌∙◌, subst}
-use Rattle.std.specs.Prelude.{Bool, true, false, not, ◌&&◌, ◌||◌, ◌≢◌, nat_lt, IsTrue, map, codes}
+use Rattle.std.proofs.Common.{◌≡◌, ◌≤◌, ℕ, List, [], ◌∷◌, ◌++◌, length, Option, Some, None, refl, sym, ap, ◌∙◌, subst, arith, inl}
+use Rattle.std.specs.Prelude.{Bool, true, false, not, ◌&&◌, ◌||◌, ◌≢◌, if◌then◌else◌, nat_lt, IsTrue, map, codes, option_map, unwrap_or}
 use Rattle.std.specs.List.{AllByRecursion, list_any}
 use Rattle.std.specs.Option.{option_map_or}
 use Rattle.std.proofs.lemmas.Bool.{false≢true}
 use Rattle.rb_base.specs.Names.{text_eq}
 use Rattle.tree_model.specs.Tree.{TreeOf, var, send, return, StatementsOf, no_statements, more_statements, Notes}
-use Rattle.tree_model.specs.Path.{count, method_replaced, statements_replaced}
+use Rattle.tree_model.specs.Path.{count, nth, statement_trees, part_among, part_in, method_replaced, statements_replaced}
 use Rattle.tree_model.specs.Nodes.{Placed, nodes}
 use Rattle.scope_model.specs.SpecialNames.{control_form}
-use Rattle.scope_model.specs.Control.{is_empty}
-use Rattle.scope_model.specs.Scope.{method_scope, scopes_round}
+use Rattle.scope_model.specs.declared.local.Local.TheVariants.{Argument, Temporary, NotLocal}
+use Rattle.scope_model.specs.Control.{is_empty, is_closure_at}
+use Rattle.scope_model.specs.Scope.{PlacedScope, method_scope, entered, scopes_round, is_among, local_by}
 use Rattle.image_model.specs.Image.{ClassOf, EntryOf, ImageOf}
 use Rattle.image_model.specs.ImageNames.{OptionNames}
 use Rattle.image_model.specs.Words.{text_words}
@@ -23,7 +24,7 @@ use Rattle.run_model.proofs.Finite.{by_cases, and-true_left, and-true_right}
 use Rattle.run_model.proofs.RenamingLemmas.{text-same}
 use Rattle.image_model.proofs.Lists.{all-implies}
 use Rattle.resolved_model.specs.ResolvedImages.{plain_class, resolved_entry, resolved_image}
-use Rattle.resolved_model.specs.Environments.{Declared, opened, declared_in}
+use Rattle.resolved_model.specs.Environments.{opened, declared_in, tree_in, statements_in}
 use Rattle.mapped_model.proofs.RenamedVariableLemmas.{all-at}
 use Rattle.rename_model.specs.Conditions.{is_user_class}
 use Rattle.rename_laws.specs.BehindKernel.{AssignsNothingFixed}
@@ -32,33 +33,35 @@ use Rattle.agreement_laws.proofs.MethodsFound.{IsIn, lookup-in}
 use Rattle.reread_law.specs.WellFormed.{IsValue, WellFormed, WellFormedStatements}
 use Rattle.reread_law.specs.WholeTrees.{FitsPrimitive, WellFormedMethod}
 use Rattle.rename_model.specs.ClassRenamed.{WritingOf}
-use Rattle.unfolded_calls.specs.Unfolding.{IsBelow, IsOpen}
+use Rattle.unfolded_calls.specs.Unfolding.{Context, IsBelow, IsOpen, Unfolds, UnfoldsLines, unfolds_code, IsUnfolded}
 use Rattle.unfolded_calls.proofs.Running.{class-there}
 use Rattle.unfolded_calls.proofs.Itself.{all-statements}
 use Rattle.unfolded_calls.proofs.Untouched.{means-outside}
-use Rattle.unfolded_places.specs.Becoming.{Becomes, BecomeLines}
-use Rattle.unfolded_places.specs.PartsReplaced.{parts_stored, StaysMessageAmong}
-use Rattle.unfolded_places.specs.ImagesChanged.{ImageBecomes}
-use Rattle.unfolded_places.specs.Inlining.{filling, IsInlined, IsStored}
+use Rattle.unfolded_places.specs.Becoming.{Becomes}
+use Rattle.unfolded_places.specs.PartsReplaced.{StaysMessageAmong}
+use Rattle.unfolded_places.specs.Inlining.{passed_for, Filling, filling}
+use Rattle.unfolded_places.specs.Fillings.{filled_tree, MayFill}
 use Rattle.unfolded_places.specs.InlinedOnce.{none_gone}
-use Rattle.unfolded_places.proofs.Refilled.{tree-fills}
-use Rattle.unfolded_places.proofs.Replaced.{statements-become}
-use Rattle.unfolded_places.proofs.InlinedOne.{part-again, method-stays, doits-stay}
+use Rattle.unfolded_places.proofs.Congruence.{ControlLaw}
+use Rattle.unfolded_places.proofs.Refilled.{tree-fills-with}
+use Rattle.unfolded_places.proofs.InlinedOne.{part-again}
+use Rattle.unfolded_places.proofs.PassedThere.{outer-outside, IsPassing, IsNear, call-unfolds}
+use Rattle.unfolded_places.proofs.MovesAlong.{Ends}
+use Rattle.unfolded_places.proofs.MethodMoves.{inside as inside_of, code-moves, lines-with}
 use Rattle.command_model.specs.Asked.{text_asked}
 use Rattle.command_model.specs.SameMethods.{has_super}
 use Rattle.command_model.specs.Hierarchy.{is_method_of}
-use Rattle.command_model.specs.Places.{users_method, is_return, SendOf}
+use Rattle.command_model.specs.Places.{users_method, is_return, is_closure_in, SendOf}
 use Rattle.command_model.specs.Sequences.{with_tree}
-use Rattle.command_model.specs.InlineConditions.{is_one_target, is_inlinable, captures_nothing, makes_no_control, makes_control}
+use Rattle.command_model.specs.InlineConditions.{is_one_target, is_inlinable, are_actuals_plain, captures_nothing, makes_no_control, makes_control}
 use Rattle.moved_code_laws.specs.WellWritten.{IsWellWritten}
-use Rattle.moved_code_laws.specs.InlinesExpression.{PassesNoTemporary}
-use Rattle.moved_code_laws.proofs.LocalsThere.{among-scopes}
 use Rattle.moved_code_laws.proofs.NodeAbove.{stays-among}
-use Rattle.moved_code_laws.proofs.OneMethod.{method-retold, methods-retold}
-use Rattle.moved_code_laws.proofs.PlainThere.{ArePlain, all-plain, no-control}
+use Rattle.moved_code_laws.proofs.PlainThere.{no-control}
+use Rattle.moved_code_laws.proofs.PassedSteady.{IsPassed, ArePassed, all-passed, passed-one, passed-for, near-at}
 use Rattle.moved_code_laws.proofs.Targets.{user-apart, one-target, one-side}
 use Rattle.moved_code_laws.proofs.SendFound.{StandsAt, expression_of, unfolded-so}
 use Rattle.moved_code_laws.proofs.BodyThere.{answer-filled, answer-may}
+use Rattle.moved_code_laws.proofs.MethodImages.{outer_of, image-onward}
 
 -- of two of which one holds, the second does where the first does not
 pub second-holds : (a b : Bool) → (a || b) ≡ true → a ≡ false → b ≡ true
@@ -82,7 +85,7 @@ pub record Scene (i : ImageOf Name) (c : Name) (meta : Bool) (m : EntryOf Name) 
   pub own : target.kernel ≡ false
   pub inlinable : is_inlinable text_asked i c m e target ≡ true
   pub captures : captures_nothing text_asked i m e target ≡ true
-  pub passed : PassesNoTemporary i m e
+  pub plain : are_actuals_plain text_asked i m e target ≡ true
   pub formed : WellFormed (send e.receiver e.selector e.arguments)
   pub counted : length target.tree.arguments ≡ count e.arguments
 
@@ -131,85 +134,101 @@ module _ (i : ImageOf Name) (sound : IsWellWritten i) (c : Name) (meta : Bool) (
   above = and-true_left above_fits _ (and-true_right (not returns_inside) _ (and-true_right (is_empty target.tree.body.temporaries) _ (and-true_right (not target.kernel) _ scene.inlinable)))
 
   -- what is passed
-  pub passes : ArePlain i m e.path e.arguments
-  passes = all-plain i m e.path e.arguments scene.passed scene.formed.3
+  pub passes : ArePassed i m e target e.arguments
+  passes = all-passed i m e target target.tree.arguments e.arguments scene.counted (passed-one i m e target (send e.receiver e.selector e.arguments) scene.stands.there scene.plain) scene.formed.3
 
-  pub as-many : length target.tree.arguments ≡ length passes.actuals
-  as-many = scene.counted ∙ passes.counted
+  pub for-name : (n : Name) (t : TreeOf Name) → passed_for target.tree.arguments e.arguments n ≡ Some t → (is_among text_eq target.tree.arguments n ≡ true) × IsPassed i m e.path target n t
+  for-name = passed-for i m e target (send e.receiver e.selector e.arguments) scene.stands.there scene.plain scene.formed.3
 
   -- the method opens the place
   pub opens : IsOpen (resolved_image i) none_gone (resolved_entry i m) (c, meta)
   opens = record { class = scene.class; meta = scene.side; user = not-class i sound c scene.user }
 
-  -- where the method answers an expression
-  module _ (note : Notes) (answer : TreeOf Name) (answers : target.tree.body.statements ≡ more_statements note (return answer) no_statements) (control : makes_no_control text_asked i m e target ≡ true) where
-    -- the expression there
-    abbrev pub expression : TreeOf Name
-    expression = expression_of target e answer
+  abbrev pub around : List (PlacedScope Name)
+  around = scopes_round (method_scope m.tree) e.path
 
-    abbrev around : List Declared
-    around = declared_in (scopes_round (method_scope m.tree) e.path)
+  abbrev pub supers : Bool
+  supers = has_super (text_eq (codes "super")) target
 
-    no-super : answer ≡ var (codes "super") → ⊥
-    no-super q =
-        let answering = subst WellFormedStatements answers formed.body.statements in
-        let value : IsValue (var (codes "super")) = subst IsValue q answering.1.1 in
-        false≢true (sym value)
+  -- the names of the method, where its body is put
+  abbrev pub moved : Filling
+  moved = record { arguments = target.tree.arguments; passed = e.arguments; before = λ n. means_outside text_words i target.class target.meta n; after = λ n. means_outside text_words i m.class m.meta n; round = declared_in around }
 
-    inlined-in : IsInlined i none_gone m (Some (c, meta)) around (send e.receiver e.selector e.arguments) expression
-    inlined-in = record {
-      class = c;
-      meta = meta;
-      here = refl;
-      selector = e.selector;
-      passed = e.arguments;
-      sends = ap (λ r. send r e.selector e.arguments) scene.to_self;
+  -- a part of its body that may stand there
+  pub part-fills : (t : TreeOf Name) → MayFill moved supers (λ s. false) [] t → Becomes (filling moved supers (λ s. false)) (opened target.tree.arguments [] []) (declared_in around) t (filled_tree target.tree.arguments e.arguments [] t)
+  part-fills t may = tree-fills-with moved supers (λ s. false) (λ n u q. (for-name n u q).1.unblocked) scene.counted [] t may
+
+  module _ (control : ControlLaw) where
+    -- the message
+    abbrev pub passing : IsPassing control i none_gone m c meta around e.selector e.arguments
+    passing = record {
       message = no-control (control_form e.selector) (var (codes "self")) e.arguments passes.unblocked;
       target = target;
       found = one-target i sound.behind.ordered c meta e.selector target scene.user scene.one scene.finds none_gone;
       primitive = plain-code;
       temporaries = none;
-      note = note;
-      answer = answer;
-      answers = answers;
-      supers = has_super (text_eq (codes "super")) target;
+      supers = supers;
       above = λ t.
           let own = class-there c target.class (second-holds (not (has_super (text_eq (codes "super")) target)) (is_method_of text_eq c target) above (ap not t)) in
           (own, one-side i sound.behind.ordered c meta e.selector target scene.user scene.one scene.finds (not-class i sound c scene.user) own);
-      no_super = no-super;
       actuals = passes.actuals;
-      plain = passes.plain;
-      count = as-many;
-      filled =
-          subst (λ w. Becomes (filling (record { arguments = target.tree.arguments; passed = e.arguments; before = λ n. means_outside text_words i target.class target.meta n; after = λ n. means_outside text_words i m.class m.meta n; round = around }) (has_super (text_eq (codes "super")) target) (λ s. false)) (opened target.tree.arguments [] []) around answer w)
-          (sym (answer-filled i m e target scene.captures inside fixed note answer answers))
-          (tree-fills (record { arguments = target.tree.arguments; passed = e.arguments; before = λ n. means_outside text_words i target.class target.meta n; after = λ n. means_outside text_words i m.class m.meta n; round = around }) (has_super (text_eq (codes "super")) target) (λ s. false) passes.actuals passes.plain as-many [] answer
-          (answer-may i m e target scene.captures inside fixed note answer answers (λ n. means-outside i.classes (chain text_eq i.classes target.class) target.meta n) none scene.counted));
+      passes = passes.passes;
+      count = scene.counted ∙ passes.counted;
     }
 
-    -- its statements become those after
-    abbrev own : List Declared
-    own = opened m.tree.arguments m.tree.body.temporaries []
+    -- no closure in a part of the body reads an argument for which a temporary is passed
+    pub part-near : (base : List ℕ) (w : TreeOf Name) → part_in target.tree.body base ≡ Some w → ((r : List ℕ) → is_closure_in control_form target.tree.body (base ++ r) ≡ is_closure_at control_form false w r) → 1 ≤ length base → scopes_round (method_scope target.tree) base ≡ (0, method_scope target.tree) ∷ [] →
+        IsNear control i none_gone m c meta around e.selector e.arguments passing w
+    part-near base w found closed deep own n y p q o k =
+        let at = for-name n (var y) q in
+        near-at target.tree base w found closed deep n p (ap (λ ps. local_by text_eq ps n) own ∙ ap (λ b. if b then Argument 0 else if is_among text_eq target.tree.body.temporaries n then Temporary 0 else NotLocal) at.0) (at.1.near y refl o k)
 
-    still : StaysMessageAmong m.tree.body.statements e.path (send e.receiver e.selector e.arguments) expression
-    still =
-        stays-among expression m.tree e.path (send e.receiver e.selector e.arguments) scene.stands.there
-        (denied (makes_control control_form m.tree e.path expression) (ap (λ o. not (option_map_or (makes_control control_form m.tree e.path) o false)) (sym (unfolded-so target e.arguments note answer answers)) ∙ control))
+    abbrev pub inside_method : Context
+    inside_method = inside_of control (resolved_image i) none_gone (outer_of i m) (outer-outside control i none_gone m c meta around) (Some (c, meta)) m.tree
 
-    pub lines : BecomeLines (parts_stored (IsInlined i none_gone m (Some (c, meta))) (IsStored i none_gone m (Some (c, meta))) none_gone.is_gone) own own m.tree.body.statements (statements_replaced m.tree.body.statements e.path expression)
-    lines =
-        subst (λ ss. BecomeLines (parts_stored (IsInlined i none_gone m (Some (c, meta))) (IsStored i none_gone m (Some (c, meta))) none_gone.is_gone) own own ss (statements_replaced m.tree.body.statements e.path expression))
-        (part-again m e.path (send e.receiver e.selector e.arguments) scene.stands.there)
-        (statements-become (IsInlined i none_gone m (Some (c, meta))) (IsStored i none_gone m (Some (c, meta))) none_gone.is_gone own m.tree.body.statements e.path (send e.receiver e.selector e.arguments) expression
-        (all-statements (λ s. false ≡ false) (λ s. refl) m.tree.body.statements) still
-        (subst (λ A. IsInlined i none_gone m (Some (c, meta)) A (send e.receiver e.selector e.arguments) expression) (sym (among-scopes m.tree e.path (send e.receiver e.selector e.arguments) scene.stands.there)) inlined-in))
+    -- where the method answers an expression
+    module _ (note : Notes) (answer : TreeOf Name) (answers : target.tree.body.statements ≡ more_statements note (return answer) no_statements) (stays : makes_no_control text_asked i m e target ≡ true) where
+      -- the expression there
+      abbrev pub expression : TreeOf Name
+      expression = expression_of target e answer
 
-    -- so does the image
-    pub image-inlined : (writing : WritingOf Name) (s : Name) → users_method text_eq i c meta s ≡ Some m → ImageBecomes i none_gone (IsInlined i none_gone) (IsStored i none_gone) (with_tree text_eq writing c meta s (method_replaced m.tree e.path expression) i)
-    image-inlined writing s found = record {
-      classes = refl;
-      methods =
-          methods-retold i none_gone (IsInlined i none_gone) (IsStored i none_gone) writing c meta s m (method_replaced m.tree e.path expression) sound.once found (λ n j at. method-stays i (IsInlined i none_gone) (IsStored i none_gone) n)
-          (method-retold i none_gone (IsInlined i none_gone) (IsStored i none_gone) writing m (method_replaced m.tree e.path expression) (c, meta) opens refl refl refl refl lines (method-stays i (IsInlined i none_gone) (IsStored i none_gone) m));
-      doits = doits-stay i (IsInlined i none_gone) (IsStored i none_gone) i.doits;
-    }
+      no-super : answer ≡ var (codes "super") → ⊥
+      no-super q =
+          let answering = subst WellFormedStatements answers formed.body.statements in
+          let value : IsValue (var (codes "super")) = subst IsValue q answering.1.1 in
+          false≢true (sym value)
+
+      near : IsNear control i none_gone m c meta around e.selector e.arguments passing answer
+      near =
+          part-near (0 ∷ 0 ∷ []) answer (ap (λ ss. part_among (statement_trees ss) (0 ∷ 0 ∷ [])) answers) (λ r. ap (λ ss. option_map_or (λ t. is_closure_at control_form false t (0 ∷ r)) (nth (statement_trees ss) 0) false) answers) (omega arith)
+          (ap (λ ss. unwrap_or (option_map (λ t. entered 1 t (0 ∷ [])) (nth (statement_trees ss) 0)) [] ++ (0, method_scope target.tree) ∷ []) answers)
+
+      becomes : Becomes (filling moved supers (λ s. false)) (opened target.tree.arguments [] []) (declared_in around) answer expression
+      becomes =
+          subst (λ w. Becomes (filling moved supers (λ s. false)) (opened target.tree.arguments [] []) (declared_in around) answer w) (sym (answer-filled i m e target scene.captures inside fixed note answer answers))
+          (part-fills answer (answer-may i m e target scene.captures inside fixed note answer answers (λ n. means-outside i.classes (chain text_eq i.classes target.class) target.meta n) none scene.counted))
+
+      -- its statements unfold to those after
+      still : StaysMessageAmong m.tree.body.statements e.path (send e.receiver e.selector e.arguments) expression
+      still =
+          stays-among expression m.tree e.path (send e.receiver e.selector e.arguments) scene.stands.there
+          (denied (makes_control control_form m.tree e.path expression) (ap (λ o. not (option_map_or (makes_control control_form m.tree e.path) o false)) (sym (unfolded-so target e.arguments note answer answers)) ∙ stays))
+
+      ends : Ends control (resolved_image i) none_gone (outer_of i m) (outer-outside control i none_gone m c meta around) (Some (c, meta)) (send e.receiver e.selector e.arguments) expression refl around
+      ends z h =
+          subst (λ r. Unfolds (resolved_image i) none_gone z (tree_in (outer_of i m) (declared_in around) (send r e.selector e.arguments)) (tree_in (outer_of i m) (declared_in around) expression)) (sym scene.to_self)
+          (call-unfolds control i none_gone m c meta around e.selector e.arguments passing z [] h note answer expression answers no-super near becomes)
+
+      pub lines : UnfoldsLines (resolved_image i) none_gone inside_method (statements_in (outer_of i m) (opened m.tree.arguments m.tree.body.temporaries []) m.tree.body.statements)
+          (statements_in (outer_of i m) (opened m.tree.arguments m.tree.body.temporaries []) (statements_replaced m.tree.body.statements e.path expression))
+      lines =
+          subst (λ ss. UnfoldsLines (resolved_image i) none_gone inside_method (statements_in (outer_of i m) (opened m.tree.arguments m.tree.body.temporaries []) ss) (statements_in (outer_of i m) (opened m.tree.arguments m.tree.body.temporaries []) (statements_replaced m.tree.body.statements e.path expression)))
+          (part-again m e.path (send e.receiver e.selector e.arguments) scene.stands.there)
+          (lines-with control (resolved_image i) none_gone (outer_of i m) (outer-outside control i none_gone m c meta around) (Some (c, meta)) m.tree (send e.receiver e.selector e.arguments) expression (send e.receiver e.selector e.arguments) e.path refl scene.stands.there (inl refl)
+          (all-statements (λ s. false ≡ false) (λ s. refl) m.tree.body.statements) still ends)
+
+      -- so does the image
+      pub image-inlined : (writing : WritingOf Name) (s : Name) → users_method text_eq i c meta s ≡ Some m → m.tree.primitive ≡ None → IsUnfolded (resolved_image i) (resolved_image (with_tree text_eq writing c meta s (method_replaced m.tree e.path expression) i))
+      image-inlined writing s found plain =
+          image-onward writing i sound c meta s m found (method_replaced m.tree e.path expression) (record { selector = refl; primitive = plain; no_primitive = plain; arguments = refl; temporaries = refl }) opens (named-classes i sound)
+          (unfolds_code (code-moves control (resolved_image i) none_gone (outer_of i m) (outer-outside control i none_gone m c meta around) (Some (c, meta)) m.tree m.tree.body.statements (statements_replaced m.tree.body.statements e.path expression) lines))

@@ -1,12 +1,8 @@
 -- A new method of a fresh selector behind the last one of its class and side: it is found there, and it is gone before.
 use Rattle.std.proofs.Common.{◌≡◌, List, [], ◌∷◌, Some, None, refl, ap, ◌∙◌}
-use Rattle.std.specs.Prelude.{Bool, true, false, not, ◌&&◌, ◌||◌, cond, if◌then◌else◌, find, map}
+use Rattle.std.specs.Prelude.{Bool, true, false, not, ◌&&◌, ◌||◌, cond, if◌then◌else◌, find}
 use Rattle.std.specs.List.{AllByRecursion, list_any}
 use Rattle.std.proofs.lemmas.Bool.{false≢true}
-use Rattle.image_model.specs.Image.{EntryOf, ImageOf}
-use Rattle.run_model.specs.Values.{Name}
-use Rattle.unfolded_calls.specs.Unfolding.{Allowed}
-use Rattle.unfolded_places.specs.ImagesChanged.{PartsOf, StoresOf, MethodBecomes, MethodsBecome, methods_end, method_next, method_gone}
 use Rattle.command_model.specs.Extracted.{put_behind_last}
 
 -- what fails last
@@ -40,23 +36,3 @@ module _ {X : Type 0} (passes : X → Bool) (x : X) (p : X → Bool) where
       by : (b : Bool) → find p (put_behind_last passes x ys) ≡ None → find p (if b then y ∷ x ∷ ys else y ∷ put_behind_last passes x ys) ≡ None
       by true ih = ap (λ b. cond b (Some y) (find p (x ∷ ys))) a.0 ∙ ap (λ b. cond b (Some x) (find p ys)) t ∙ fails ys a.1
       by false ih = ap (λ b. cond b (Some y) (find p (put_behind_last passes x ys))) a.0 ∙ ih
-
-module _ (i : ImageOf Name) (gone : Allowed) (here : PartsOf) (stores : StoresOf) where
-  -- a method that is gone stands behind one that becomes another
-  pub put-gone : (passes : EntryOf Name → Bool) (x : EntryOf Name) → gone.is_gone x.tree.selector ≡ true → (xs ms : List (EntryOf Name)) → MethodsBecome i gone here stores xs ms → MethodsBecome i gone here stores (put_behind_last passes x xs) ms
-  put-gone passes x g _ _ methods_end = methods_end
-  put-gone passes x g _ _ (method_next {m = m} {m' = m'} {ms = xs} {ms' = ys} p rest) = by (passes m && not (list_any passes xs)) (put-gone passes x g xs ys rest)
-    where
-      by : (b : Bool) → MethodsBecome i gone here stores (put_behind_last passes x xs) ys → MethodsBecome i gone here stores (if b then m ∷ x ∷ xs else m ∷ put_behind_last passes x xs) (m' ∷ ys)
-      by true ih = method_next p (method_gone g rest)
-      by false ih = method_next p ih
-  put-gone passes x g _ ms (method_gone {m = m} {ms = xs} h rest) = by (passes m && not (list_any passes xs)) (put-gone passes x g xs ms rest)
-    where
-      by : (b : Bool) → MethodsBecome i gone here stores (put_behind_last passes x xs) ms → MethodsBecome i gone here stores (if b then m ∷ x ∷ xs else m ∷ put_behind_last passes x xs) ms
-      by true ih = method_gone h (method_gone g rest)
-      by false ih = method_gone h ih
-
-  -- each method is what another one becomes
-  pub methods-back : (f : EntryOf Name → EntryOf Name) (ms : List (EntryOf Name)) → AllByRecursion (λ m. MethodBecomes i gone here stores (f m) m) ms → MethodsBecome i gone here stores (map f ms) ms
-  methods-back f [] a = methods_end
-  methods-back f (m ∷ ms) a = method_next a.0 (methods-back f ms a.1)

@@ -1,5 +1,5 @@
 -- What a message passes is plain where the command says so and it is no temporary.
-use Rattle.std.proofs.Common.{◌≡◌, ℕ, suc, ◌+◌, List, [], ◌∷◌, length, Option, Some, None, refl, sym, ap, ◌∙◌, subst, arith}
+use Rattle.std.proofs.Common.{◌≡◌, ℕ, ◌+◌, List, Option, Some, None, refl, sym, ap, ◌∙◌, subst}
 use Rattle.std.specs.Prelude.{Bool, true, false, ◌&&◌, ◌||◌, ◌==◌, is_some, if◌then◌else◌, codes}
 use Rattle.std.proofs.lemmas.Bool.{false≢true}
 use Rattle.rb_base.specs.Names.{text_eq}
@@ -22,11 +22,11 @@ use Rattle.run_model.proofs.Finite.{by_cases}
 use Rattle.run_model.proofs.RenamingLemmas.{text-same}
 use Rattle.resolved_model.specs.Environments.{kind_in, declared_in}
 use Rattle.resolved_model.proofs.Environments.{kind_of, kind-scopes}
-use Rattle.reread_law.specs.WellFormed.{NoWord, WellFormed, WellFormedTrees}
+use Rattle.reread_law.specs.WellFormed.{NoWord, WellFormed}
 use Rattle.unfolded_calls.specs.Unfolding.{StandIn, an_argument, a_self, a_nil, a_true, a_false, a_number, a_string, a_symbol, a_char}
 use Rattle.unfolded_calls.specs.SameContexts.{IsOutside}
 use Rattle.unfolded_calls.proofs.Untouched.{means-outside}
-use Rattle.unfolded_places.specs.Inlining.{PlainActual, plain_self, plain_nil, plain_true, plain_false, plain_number, plain_string, plain_symbol, plain_char, plain_argument, plain_class, PlainActuals, plain_none, plain_more}
+use Rattle.unfolded_places.specs.Inlining.{PlainActual, plain_self, plain_nil, plain_true, plain_false, plain_number, plain_string, plain_symbol, plain_char, plain_argument, plain_class}
 use Rattle.resolved_model.specs.Environments.{place_in}
 use Rattle.command_model.specs.Asked.{is_constant_text, text_asked}
 use Rattle.command_model.specs.Plain.{is_atom_literal, is_plain_name, is_plain}
@@ -123,7 +123,7 @@ module _ (i : ImageOf Name) (m : EntryOf Name) (path : List ℕ) where
           by (Temporary scope) k h = absurd (false≢true h)
           by NotLocal k h = outer (after n) refl (means-outside i.classes (chain text_eq i.classes m.class) m.meta n) k h
 
-  tree-plain : (t : TreeOf Name) → is_plain text_asked i m path t ≡ true → WellFormed t → IsPlain t
+  pub tree-plain : (t : TreeOf Name) → is_plain text_asked i m path t ≡ true → WellFormed t → IsPlain t
   tree-plain (var n) e w = name-plain n e
   tree-plain (literal l) e w = literal-plain l e w.1
   tree-plain (send r s args) e w = absurd (false≢true e)
@@ -132,25 +132,3 @@ module _ (i : ImageOf Name) (m : EntryOf Name) (path : List ℕ) where
   tree-plain (block ps ts ss c) e w = absurd (false≢true e)
   tree-plain (brace ts) e w = absurd (false≢true e)
   tree-plain (return t) e w = absurd (false≢true e)
-
-  -- all that is passed
-  pub record ArePlain (ts : TreesOf Name) : Type 0 where
-    pub actuals : List StandIn
-    pub plain : PlainActuals after (declared_in round) ts actuals
-    pub counted : count ts ≡ length actuals
-    pub unblocked : (t : TreeOf Name) → nth ts 0 ≡ Some t → is_plain_block t ≡ false
-
-  pub all-plain : (ts : TreesOf Name) → ((k : ℕ) (t : TreeOf Name) → nth ts k ≡ Some t → is_plain text_asked i m path t ≡ true) → WellFormedTrees ts → ArePlain ts
-  all-plain no_trees h w = record { actuals = []; plain = plain_none; counted = refl; unblocked = λ t q. absurd (cc) }
-  all-plain (more_trees t ts) h w =
-      let first = tree-plain t (h 0 t refl) w.0 in
-      let rest = all-plain ts (λ k u q. h (suc k) u q) w.2 in
-      record {
-        actuals = first.stand_in ∷ rest.actuals;
-        plain = plain_more first.plain rest.plain;
-        counted = (let n = rest.counted in omega (arith, n));
-        unblocked = λ u q. subst (λ v. is_plain_block v ≡ false) (some q) first.unblocked;
-      }
-    where
-      some : {u v : TreeOf Name} → Some u ≡ Some v → u ≡ v
-      some q = cc

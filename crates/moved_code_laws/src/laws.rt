@@ -20,9 +20,6 @@ ghost use Rattle.command_model.specs.Commands.{AbstractInstVar, ExtractMethod, I
 ghost use Rattle.command_model.specs.Effects.{effect};
 ghost use Rattle.command_model.specs.Judged.{first_false};
 ghost use Rattle.moved_code_laws.specs.WellWritten.{IsWellWritten};
-ghost use Rattle.moved_code_laws.specs.InlinesExpression.{InlinesExpression};
-ghost use Rattle.moved_code_laws.specs.InlinesStatements.{InlinesStatements};
-ghost use Rattle.moved_code_laws.specs.ExtractsExpression.{ExtractsExpression};
 ghost use Rattle.moved_code_laws.specs.AccessorNames.{AreAccessorNames};
 ghost use Rattle.moved_code_laws.specs.VariableAbstracted.{IsVariableAbstracted};
 
@@ -43,21 +40,10 @@ pub fn every_image_is_well_written()
     tells_which_trees_have_a_text();
 }
 
-/// Where no condition of `inlineMethod` is false, the message runs a method that answers an expression, and what it passes is no
-/// temporary, the image after and the one before match each other, with nothing renamed, however methods are written.
-pub fn law_inlined_method()
-    ensures { (writing : WritingOf Name) (i : ImageOf Name) (c : Name) (meta : Bool) (s : Name) (from to : ℕ) → IsWellWritten i →
-        first_false text_asked i (InlineMethod c meta s from to) ≡ None → InlinesExpression i c meta s from to →
-        AreMatched i (effect text_asked writing (InlineMethod c meta s from to) i) no_renaming × AreMatched (effect text_asked writing (InlineMethod c meta s from to) i) i no_renaming }
-{
-    law_inlined_values();
-}
-
-/// So it is where the message is a statement of the method itself, before a further one, and the method that it runs answers in its
-/// last statement alone, if it answers: its statements stand in place of the message.
-pub fn law_inlined_statements()
-    ensures { (writing : WritingOf Name) (i : ImageOf Name) (c : Name) (meta : Bool) (s : Name) (from to : ℕ) → IsWellWritten i →
-        first_false text_asked i (InlineMethod c meta s from to) ≡ None → InlinesStatements i c meta s from to →
+/// Where no condition of `inlineMethod` is false, the image after and the one before match each other, with nothing renamed, however
+/// methods are written.
+pub fn law_message_inlined()
+    ensures { (writing : WritingOf Name) (i : ImageOf Name) (c : Name) (meta : Bool) (s : Name) (from to : ℕ) → IsWellWritten i → first_false text_asked i (InlineMethod c meta s from to) ≡ None →
         AreMatched i (effect text_asked writing (InlineMethod c meta s from to) i) no_renaming × AreMatched (effect text_asked writing (InlineMethod c meta s from to) i) i no_renaming }
 {
     law_control_sends();
@@ -67,46 +53,39 @@ pub fn law_inlined_statements()
 /// So it is of each valid image behind the kernel, in either dialect, and of the image of each file-out.
 pub fn law_inlined_images()
     ensures image { (dialect : Dialect) (kernel image : ImageOf Text) (c : Text) (meta : Bool) (s : Text) (from to : ℕ) → IsKernelOf dialect prelude_text kernel →
-        IsValid text_words (reading_of dialect kernel) image → first_false text_asked image (InlineMethod c meta s from to) ≡ None → InlinesExpression image c meta s from to →
+        IsValid text_words (reading_of dialect kernel) image → first_false text_asked image (InlineMethod c meta s from to) ≡ None →
         AreMatched image (effect text_asked canonical (InlineMethod c meta s from to) image) no_renaming × AreMatched (effect text_asked canonical (InlineMethod c meta s from to) image) image no_renaming }
     ensures file { (dialect : Dialect) (text : Text) (image : ImageOf Text) (c : Text) (meta : Bool) (s : Text) (from to : ℕ) → IsImageOf dialect prelude_text text image →
-        first_false text_asked image (InlineMethod c meta s from to) ≡ None → InlinesExpression image c meta s from to →
-        AreMatched image (effect text_asked canonical (InlineMethod c meta s from to) image) no_renaming × AreMatched (effect text_asked canonical (InlineMethod c meta s from to) image) image no_renaming }
-    ensures image_statements { (dialect : Dialect) (kernel image : ImageOf Text) (c : Text) (meta : Bool) (s : Text) (from to : ℕ) → IsKernelOf dialect prelude_text kernel →
-        IsValid text_words (reading_of dialect kernel) image → first_false text_asked image (InlineMethod c meta s from to) ≡ None → InlinesStatements image c meta s from to →
-        AreMatched image (effect text_asked canonical (InlineMethod c meta s from to) image) no_renaming × AreMatched (effect text_asked canonical (InlineMethod c meta s from to) image) image no_renaming }
-    ensures file_statements { (dialect : Dialect) (text : Text) (image : ImageOf Text) (c : Text) (meta : Bool) (s : Text) (from to : ℕ) → IsImageOf dialect prelude_text text image →
-        first_false text_asked image (InlineMethod c meta s from to) ≡ None → InlinesStatements image c meta s from to →
+        first_false text_asked image (InlineMethod c meta s from to) ≡ None →
         AreMatched image (effect text_asked canonical (InlineMethod c meta s from to) image) no_renaming × AreMatched (effect text_asked canonical (InlineMethod c meta s from to) image) image no_renaming }
 {
     every_image_is_valid();
     every_image_is_well_written();
-    law_inlined_method();
-    law_inlined_statements();
+    law_message_inlined();
 }
 
-/// Where no condition of `extractMethod` is false, the part is an expression, and it names no temporary that is declared outside
-/// it, the image after and the one before match each other, with nothing renamed, however methods are written.
-pub fn law_extracted_method()
-    ensures { (writing : WritingOf Name) (i : ImageOf Name) (c : Name) (meta : Bool) (s : Name) (from to : ℕ) (t : Name) → IsWellWritten i →
-        first_false text_asked i (ExtractMethod c meta s from to t) ≡ None → ExtractsExpression i c meta s from to →
+/// Where no condition of `extractMethod` is false, the image after and the one before match each other, with nothing renamed, however
+/// methods are written.
+pub fn law_part_extracted()
+    ensures { (writing : WritingOf Name) (i : ImageOf Name) (c : Name) (meta : Bool) (s : Name) (from to : ℕ) (t : Name) → IsWellWritten i → first_false text_asked i (ExtractMethod c meta s from to t) ≡ None →
         AreMatched i (effect text_asked writing (ExtractMethod c meta s from to t) i) no_renaming × AreMatched (effect text_asked writing (ExtractMethod c meta s from to t) i) i no_renaming }
 {
-    law_inlined_values();
+    law_control_sends();
+    law_unfolded_call();
 }
 
 /// So it is of each valid image behind the kernel, in either dialect, and of the image of each file-out.
 pub fn law_extracted_images()
     ensures image { (dialect : Dialect) (kernel image : ImageOf Text) (c : Text) (meta : Bool) (s : Text) (from to : ℕ) (t : Text) → IsKernelOf dialect prelude_text kernel →
-        IsValid text_words (reading_of dialect kernel) image → first_false text_asked image (ExtractMethod c meta s from to t) ≡ None → ExtractsExpression image c meta s from to →
+        IsValid text_words (reading_of dialect kernel) image → first_false text_asked image (ExtractMethod c meta s from to t) ≡ None →
         AreMatched image (effect text_asked canonical (ExtractMethod c meta s from to t) image) no_renaming × AreMatched (effect text_asked canonical (ExtractMethod c meta s from to t) image) image no_renaming }
     ensures file { (dialect : Dialect) (text : Text) (image : ImageOf Text) (c : Text) (meta : Bool) (s : Text) (from to : ℕ) (t : Text) → IsImageOf dialect prelude_text text image →
-        first_false text_asked image (ExtractMethod c meta s from to t) ≡ None → ExtractsExpression image c meta s from to →
+        first_false text_asked image (ExtractMethod c meta s from to t) ≡ None →
         AreMatched image (effect text_asked canonical (ExtractMethod c meta s from to t) image) no_renaming × AreMatched (effect text_asked canonical (ExtractMethod c meta s from to t) image) image no_renaming }
 {
     every_image_is_valid();
     every_image_is_well_written();
-    law_extracted_method();
+    law_part_extracted();
 }
 
 /// An image, and the one in which an instance variable is read and assigned by messages to self alone, with the getter and the

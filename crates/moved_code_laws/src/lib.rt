@@ -6,6 +6,6 @@ mod laws;
 
 pub use laws::{
     every_image_is_well_written, law_abstracted_images, law_abstracted_variable,
-    law_accessor_names, law_extracted_images, law_extracted_method, law_inlined_images,
-    law_inlined_method, law_inlined_statements, law_variable_abstracted,
+    law_accessor_names, law_extracted_images, law_inlined_images, law_message_inlined,
+    law_part_extracted, law_variable_abstracted,
 };

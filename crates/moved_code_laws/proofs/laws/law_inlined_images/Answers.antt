@@ -2,15 +2,8 @@ use Rattle.rename_model.specs.ClassRenamed.{canonical}
 use Rattle.moved_code_laws.proofs.laws.law_inlined_images.Goals as goal
 
 pub returns-clause-image : goal.returns-clause-image
-returns-clause-image g = λ dialect kernel image c meta s from to is valid. g.law_inlined_method.ensures canonical image c meta s from to (g.every_image_is_well_written.ensures dialect kernel image is valid)
+returns-clause-image g = λ dialect kernel image c meta s from to is valid. g.law_message_inlined.ensures canonical image c meta s from to (g.every_image_is_well_written.ensures dialect kernel image is valid)
 
 pub returns-clause-file : goal.returns-clause-file
 returns-clause-file g = λ dialect text image c meta s from to is.
     returns-clause-image g dialect is.kernel image c meta s from to is.is_kernel (g.every_image_is_valid.ensures.valid dialect text is.kernel image is.is_kernel is)
-
-pub returns-clause-image_statements : goal.returns-clause-image_statements
-returns-clause-image_statements g = λ dialect kernel image c meta s from to is valid. g.law_inlined_statements.ensures canonical image c meta s from to (g.every_image_is_well_written.ensures dialect kernel image is valid)
-
-pub returns-clause-file_statements : goal.returns-clause-file_statements
-returns-clause-file_statements g = λ dialect text image c meta s from to is.
-    returns-clause-image_statements g dialect is.kernel image c meta s from to is.is_kernel (g.every_image_is_valid.ensures.valid dialect text is.kernel image is.is_kernel is)
