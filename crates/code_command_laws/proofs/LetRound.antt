@@ -18,11 +18,11 @@ module _ {N : Type 0} where
   abbrev pub Outside : ℕ → List (PlacedScope N) → Type 0
   Outside d ps = AllByRecursion (λ (p : PlacedScope N). p.0 < d) ps
 
-  both-outside : (d : ℕ) (ps qs : List (PlacedScope N)) → Outside d ps → Outside d qs → Outside d (ps ++ qs)
+  pub both-outside : (d : ℕ) (ps qs : List (PlacedScope N)) → Outside d ps → Outside d qs → Outside d (ps ++ qs)
   both-outside d [] qs a b = b
   both-outside d (p ∷ ps) qs a b = (a.0, both-outside d ps qs a.1 b)
 
-  own-outside : (d depth : ℕ) (t : TreeOf N) → depth < d → Outside d (own_scope depth t)
+  pub own-outside : (d depth : ℕ) (t : TreeOf N) → depth < d → Outside d (own_scope depth t)
   own-outside d depth (var n) l = tt
   own-outside d depth (literal n) l = tt
   own-outside d depth (send r s args) l = tt

@@ -91,7 +91,7 @@ module _ {N : Type 0} where
     statements-stay f c k (more_statements n t ss) h = λ i. more_statements n (tree-stays (onward k f) (λ path u. c (k ∷ path) u) t (stay-first f k t (statement_trees ss) h) i) (statements-stay f c (suc k) ss (stay-others f k t (statement_trees ss) h) i)
 
   -- the names below the trees but the one of a number stay
-  abbrev StayBut : Making N → ℕ → TreesOf N → ℕ → Type 0
+  abbrev pub StayBut : Making N → ℕ → TreesOf N → ℕ → Type 0
   StayBut f k ts j = (i m : ℕ) (path : List ℕ) (n : N) → m ≡ k + i → (i ≡ j → ⊥) → option_and_then (λ c. part_at c path) (nth ts i) ≡ Some (var n) → f (m ∷ path) (var n) ≡ var n
 
   some-tree : {t c : TreeOf N} → Some t ≡ Some c → t ≡ c
@@ -177,7 +177,7 @@ module _ {N : Type 0} where
           ∙ ap (λ (z : Bool). if z then more_messages s (with_nth args j u) ms else more_messages s args (with_argument ms (j - count args) u)) (sym (le-ltb j (count args) l))
 
   -- a node of which one child is made anew
-  node-one : (f : Making N) → ChangesNames f → (t : TreeOf N) (j : ℕ) (c u : TreeOf N) → child t j ≡ Some c → rebuilt (onward j f) c ≡ u → StayBut f 0 (children t) j → rebuilt f t ≡ with_child t j u
+  pub node-one : (f : Making N) → ChangesNames f → (t : TreeOf N) (j : ℕ) (c u : TreeOf N) → child t j ≡ Some c → rebuilt (onward j f) c ≡ u → StayBut f 0 (children t) j → rebuilt f t ≡ with_child t j u
   node-one f g (var n) j c u e r h = absurd (cc)
   node-one f g (literal l) j c u e r h = absurd (cc)
   node-one f g (send q s args) zero c u e r h =

@@ -1,23 +1,19 @@
 -- What the conditions of `extractTemp` say: the image after unfolds to the image before.
-use Rattle.std.proofs.Common.{◌≡◌, ℕ, [], ◌∷◌, ◌++◌, Option, Some, None, map, refl, sym, ap, ◌∙◌, subst}
-use Rattle.std.specs.Prelude.{Bool, true, false, not, ◌&&◌, if◌then◌else◌, option_and_then, option_map, unwrap_or}
+use Rattle.std.proofs.Common.{◌≡◌, ℕ, [], Option, Some, None, map, refl, sym, ap, ◌∙◌, subst}
+use Rattle.std.specs.Prelude.{Bool, true, false, not, ◌&&◌, option_and_then, option_map, unwrap_or}
 use Rattle.std.specs.List.{AllByRecursion}
 use Rattle.std.specs.Option.{option_map_or}
 use Rattle.std.proofs.lemmas.Bool.{false≢true}
-use Rattle.std.proofs.lemmas.Option.{slice_get-map}
 use Rattle.rb_base.specs.Names.{text_eq}
 use Rattle.tree_model.specs.Tree.{TreeOf, MethodOf}
 use Rattle.tree_model.specs.Path.{part_in}
-use Rattle.tree_model.specs.Normal.{normal}
 use Rattle.tree_model.proofs.NormalLemmas.{bare_method-normal}
 use Rattle.scope_model.specs.SpecialNames.{is_pseudo_variable, control_form}
-use Rattle.same_trees.specs.SameTrees.{same_code}
 use Rattle.image_model.specs.Image.{ClassOf, EntryOf, ImageOf}
 use Rattle.image_model.specs.Chain.{chain}
-use Rattle.image_model.specs.Lookup.{is_method, own_method}
 use Rattle.image_model.specs.Valid.{HasNoRepeat, signature}
 use Rattle.run_model.specs.Values.{Name}
-use Rattle.run_model.proofs.Finite.{by_cases, and-true_left}
+use Rattle.run_model.proofs.Finite.{and-true_left}
 use Rattle.resolved_model.specs.ResolvedImages.{resolved_image}
 use Rattle.unfolded_calls.specs.Unfolding.{IsUnfolded}
 use Rattle.unfolded_calls.specs.SameContexts.{IsOutside}
@@ -29,7 +25,6 @@ use Rattle.rename_model.specs.NamesThere.{is_named_in_method}
 use Rattle.rename_model.specs.ClassRenamed.{WritingOf}
 use Rattle.rename_model.specs.CommandWords.{may_be_declared, begins_upper}
 use Rattle.rename_laws.proofs.GoodNames.{proper-name}
-use Rattle.rename_laws.proofs.OwnMethods.{found-one}
 use Rattle.rename_laws.proofs.Unnamed.{denied}
 use Rattle.command_model.specs.Allowed.{Meets}
 use Rattle.command_model.specs.Asked.{text_asked}
@@ -42,56 +37,28 @@ use Rattle.command_model.specs.CodeEffects.{path_of_expression}
 use Rattle.command_model.specs.PartConditions.{is_part, is_first_evaluated}
 use Rattle.command_model.specs.SameMethods.{is_super_node}
 use Rattle.command_model.specs.Places.{users_method, is_return, is_in_place}
-use Rattle.command_model.specs.Sequences.{retold, with_tree}
+use Rattle.command_model.specs.Sequences.{with_tree}
 use Rattle.command_model.specs.Temporaries.{temporary_extracted}
-use Rattle.command_model.proofs.UsersMethods.{users-own}
-use Rattle.code_command_laws.proofs.OneMethod.{PassesOnce, Parted, parted}
 use Rattle.temporary_laws.proofs.Images.{code-normal}
 use Rattle.let_laws.specs.Lets.{LetIn}
 use Rattle.let_laws.specs.LetOnce.{IsLetOnce}
 use Rattle.let_laws.proofs.Extracted.{extracted}
 use Rattle.let_laws.proofs.Images.{let-unfolds}
-
-module _ (i : ImageOf Name) (c : Name) (meta : Bool) (s : Name) (once : HasNoRepeat (map signature i.methods)) (m : EntryOf Name) (found : users_method text_eq i c meta s ≡ Some m) where
-  -- no other method has the class, side and selector
-  pub passes-once : PassesOnce (is_method text_eq c meta s) i.methods
-  passes-once j k x y at p there q =
-      let own = users-own text_eq i c meta s m found in
-      let same : x ≡ y = sym (found-one c meta s i.methods once j x at p m own) ∙ found-one c meta s i.methods once k y there q m own in
-      once j k (signature x) (slice_get-map signature i.methods j ∙ ap (option_map signature) at) (slice_get-map signature i.methods k ∙ ap (option_map signature) there ∙ ap (λ z. Some (signature z)) (sym same))
-
-  -- the method is one of the user's
-  pub users-own_code : not m.kernel ≡ true
-  users-own_code = by (own_method text_eq i.methods c meta s) found
-    where
-      either : (n : EntryOf Name) (b : Bool) → n.kernel ≡ b → (if b then None else Some n) ≡ Some m → not m.kernel ≡ true
-      either n true k e = absurd (cc)
-      either n false k e = let same : n ≡ m = cc in ap not (ap (λ (z : EntryOf Name). z.kernel) (sym same) ∙ k)
-
-      by : (o : Option (EntryOf Name)) → option_and_then (λ (n : EntryOf Name). if n.kernel then None else Some n) o ≡ Some m → not m.kernel ≡ true
-      by None e = absurd (cc)
-      by (Some n) e = either n n.kernel refl e
+use Rattle.let_laws.proofs.RetoldMethod.{retold_image, anew, Retold, by-retold}
 
 module _ (control : ControlLaw) (writing : WritingOf Name) (i : ImageOf Name) (c : Name) (meta : Bool) (s : Name) (from to : ℕ) (x : Name) (named : AllByRecursion (λ (c : ClassOf Name). text_eq [] c.name ≡ false) i.classes) (once : HasNoRepeat (map signature i.methods)) (proper : is_pseudo_variable x ≡ false) where
   -- with the tree that the method is given
   module _ (m : EntryOf Name) (found : users_method text_eq i c meta s ≡ Some m) (tree : MethodOf Name) (step : LetIn (outer_of i m) tree m.tree) (selector : tree.selector ≡ m.tree.selector) (primitive : tree.primitive ≡ m.tree.primitive) where
     abbrev j : ImageOf Name
-    j = with_tree text_eq writing c meta s tree i
-
-    p : Parted (is_method text_eq c meta s) (λ m. not m.kernel) (λ m. retold text_eq writing m tree) i.methods m
-    p = parted (is_method text_eq c meta s) (λ m. not m.kernel) (λ m. retold text_eq writing m tree) i.methods m (passes-once i c meta s once m found) (users-own text_eq i c meta s m found) (users-own_code i c meta s once m found)
-
-    -- the method with its new tree
-    abbrev anew : EntryOf Name
-    anew = record m { tree = normal tree; source = writing.method_text (normal tree) }
+    j = retold_image i c meta s once m found writing tree
 
     -- where it is retold
-    let-once : retold text_eq writing m tree ≡ anew → IsLetOnce j i
-    let-once e = record {
-      earlier = p.earlier;
-      later = p.later;
-      method = anew;
-      methods = p.after ∙ ap (λ z. p.earlier ++ z ∷ p.later) e;
+    let-once : Retold i c meta s once m found writing tree → IsLetOnce j i
+    let-once r = record {
+      earlier = r.earlier;
+      later = r.later;
+      method = anew i c meta s once m found writing tree;
+      methods = r.after;
       setting = tree;
       inlined = m.tree;
       step = step;
@@ -102,17 +69,11 @@ module _ (control : ControlLaw) (writing : WritingOf Name) (i : ImageOf Name) (c
       meta = refl;
       selector = ap (λ (t : MethodOf Name). t.selector) (bare_method-normal tree) ∙ selector;
       primitive = ap (λ (t : MethodOf Name). t.primitive) (bare_method-normal tree) ∙ primitive;
-      after = λ k. record i { methods = p.before k };
+      after = λ k. record i { methods = r.before k };
     }
 
-    -- where it stays
-    stays : retold text_eq writing m tree ≡ m → j ≡ i
-    stays e = λ k. record i { methods = (p.after ∙ ap (λ z. p.earlier ++ z ∷ p.later) e ∙ sym p.before) k }
-
     pub retold-unfolds : IsUnfolded (resolved_image j) (resolved_image i)
-    retold-unfolds = by_cases (same_code text_eq m.tree (normal tree))
-        (λ t. subst (λ z. IsUnfolded (resolved_image z) (resolved_image i)) (sym (stays (ap (λ b. if b then m else anew) t))) (unfolds-itself i named))
-        (λ f. let-unfolds control j i (let-once (ap (λ b. if b then m else anew) f)) named)
+    retold-unfolds = by-retold i c meta s once m found writing tree (λ z. IsUnfolded (resolved_image z) (resolved_image i)) (unfolds-itself i named) (λ r. let-unfolds control j i (let-once r) named)
 
   -- what is made of a method, by what its source says of the part
   abbrev change : EntryOf Name → Option (MethodOf Name)

@@ -70,7 +70,7 @@ and-false : (b : Bool) → (b && false) ≡ false
 and-false true = refl
 and-false false = refl
 
-not-all : (ts : TreesOf Name) (k : ℕ) (c : TreeOf Name) → nth ts k ≡ Some c → is_plain_block c ≡ false → are_plain_blocks ts ≡ false
+pub not-all : (ts : TreesOf Name) (k : ℕ) (c : TreeOf Name) → nth ts k ≡ Some c → is_plain_block c ≡ false → are_plain_blocks ts ≡ false
 not-all no_trees k c e h = absurd (cc)
 not-all (more_trees t ts) zero c e h = ap (λ b. b && are_plain_blocks ts) (ap is_plain_block (same e) ∙ h)
   where
@@ -78,7 +78,7 @@ not-all (more_trees t ts) zero c e h = ap (λ b. b && are_plain_blocks ts) (ap i
     same q = cc
 not-all (more_trees t ts) (suc k) c e h = ap (λ b. is_plain_block t && b) (not-all ts k c e h) ∙ and-false (is_plain_block t)
 
-no-meeting : (form : ControlForm) (r : TreeOf Name) (args : TreesOf Name) → are_plain_blocks args ≡ false → meets form r args ≡ false
+pub no-meeting : (form : ControlForm) (r : TreeOf Name) (args : TreesOf Name) → are_plain_blocks args ≡ false → meets form r args ≡ false
 no-meeting OneBlock r args h = ap (λ b. (count args == 1) && b) h ∙ and-false (count args == 1)
 no-meeting TwoBlocks r args h = ap (λ b. (count args == 2) && b) h ∙ and-false (count args == 2)
 no-meeting Loop r args h = ap (λ b. is_plain_block r && ((count args == 1) && b)) h ∙ ap (λ b. is_plain_block r && b) (and-false (count args == 1)) ∙ and-false (is_plain_block r)

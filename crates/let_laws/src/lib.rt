@@ -4,4 +4,7 @@
 
 mod laws;
 
-pub use laws::{law_extracted_files, law_extracted_images, law_extracted_temporary, law_let_once};
+pub use laws::{
+    law_extracted_files, law_extracted_images, law_extracted_temporary, law_inlined_temporary,
+    law_inlined_temporary_files, law_inlined_temporary_images, law_let_once,
+};
