@@ -7,7 +7,7 @@ use Rattle.image_model.specs.Image.{DoItOf, ImageOf, plus}
 use Rattle.image_model.specs.Valid.{IsValid}
 use Rattle.image_model.specs.Words.{text_words}
 use Rattle.run_model.specs.Matched.{AreMatched}
-use Rattle.code_effect_laws.specs.Moved.{IsWellSpelledAction}
+use Rattle.kept_runs.specs.WellSpelled.{IsWellSpelledAction}
 use Rattle.file_model.specs.Causes.{Refusal as ImageRefusal}
 use Rattle.file_model.specs.Fileable.{reading_of}
 use Rattle.file_model.specs.Reading.{IsImageOf}
@@ -17,26 +17,25 @@ use Rattle.history_model.specs.Rules.{Asks}
 use Rattle.history_model.proofs.Parts.{refused-at}
 use Rattle.session_model.specs.Admitted.{Admits, nil_doit}
 use Rattle.session_model.specs.Scripts.{Request, History, rules, verdict_in}
-use Rattle.session_model.specs.Lawful.{IsLawfulAction}
 use Rattle.script_model.specs.Makers.{Text}
 use Rattle.apply_model.specs.declared.status.Status.{Status}
 use Rattle.apply_model.specs.declared.status.Status.TheVariants as status
 use Rattle.apply_model.specs.Applied.{AppliesIn, NoScript, Refused, Accepted, Applies, NoImage, InImage}
-use Rattle.apply_model.specs.Promised.{KeepsItsRuns, IsRefusalOf}
+use Rattle.apply_laws.specs.Promised.{KeepsItsRuns, IsRefusalOf}
 use Rattle.apply_laws.specs.FileOuts.{IsValidFileOut}
-use Rattle.apply_laws.proofs.SpelledRequests.{requests-spelled, all-lawful}
+use Rattle.apply_laws.proofs.SpelledRequests.{requests-spelled}
 
 module _ (text script : Text)
-    (matched : (i : ImageOf Text) (requests : List Request) (h : History) → IsImageOf Second prelude_text text i → AllByRecursion (Asks IsLawfulAction) requests →
+    (matched : (i : ImageOf Text) (requests : List Request) (h : History) → IsImageOf Second prelude_text text i → AllByRecursion (Asks IsWellSpelledAction) requests →
     verdict_in i requests ≡ Ok h → AreMatched i h.now.image h.now.renaming)
     (nil : (i : ImageOf Text) (requests : List Request) (h : History) → verdict_in i requests ≡ Ok h → Admits i requests nil_doit)
     (valid : (i : ImageOf Text) (requests : List Request) (h : History) → (is : IsImageOf Second prelude_text text i) → AllByRecursion (Asks IsWellSpelledAction) requests →
     verdict_in i requests ≡ Ok h → IsValid text_words (reading_of Second is.kernel) h.now.image)
     (again : (i : ImageOf Text) (requests : List Request) (h : History) → IsImageOf Second prelude_text text i → AllByRecursion (Asks IsWellSpelledAction) requests →
     verdict_in i requests ≡ Ok h → IsWithinLimits h.now.image → IsImageOf Second prelude_text (file_of h.now.image) (with_heads h.now.image))
-    (matched_again : (i : ImageOf Text) (requests : List Request) (h : History) → IsImageOf Second prelude_text text i → AllByRecursion (Asks IsLawfulAction) requests →
+    (matched_again : (i : ImageOf Text) (requests : List Request) (h : History) → IsImageOf Second prelude_text text i → AllByRecursion (Asks IsWellSpelledAction) requests →
     verdict_in i requests ≡ Ok h → AreMatched i (with_heads h.now.image) h.now.renaming)
-    (admitted : (i : ImageOf Text) (requests : List Request) (h : History) (e : DoItOf Text) → IsImageOf Second prelude_text text i → AllByRecursion (Asks IsLawfulAction) requests →
+    (admitted : (i : ImageOf Text) (requests : List Request) (h : History) (e : DoItOf Text) → IsImageOf Second prelude_text text i → AllByRecursion (Asks IsWellSpelledAction) requests →
     verdict_in i requests ≡ Ok h → (a : Admits i requests e) →
     (last : DoItOf Text) × (a.history.now.image ≡ plus h.now.image last) × (a.history.now.renaming ≡ h.now.renaming)
     × AreMatched (plus i e) (plus h.now.image last) h.now.renaming × AreMatched (plus i e) (plus (with_heads h.now.image) last) h.now.renaming) where
@@ -45,15 +44,15 @@ module _ (text script : Text)
       AllByRecursion (Asks IsWellSpelledAction) rs → IsWithinLimits h.now.image → IsImageOf Second prelude_text sent (with_heads h.now.image)
   read-again i rs h sent is v b spelled within = subst (λ t. IsImageOf Second prelude_text t (with_heads h.now.image)) (sym b) (again i rs h is spelled v within)
 
-  -- the runs of the image, where each command is lawful too
+  -- the runs of the image
   kept-in : (i : ImageOf Text) (rs : List Request) (h : History) (sent : Text) → IsImageOf Second prelude_text text i → verdict_in i rs ≡ Ok h → sent ≡ file_of h.now.image →
-      AllByRecursion (Asks IsWellSpelledAction) rs → AllByRecursion (Asks IsLawfulAction) rs → KeepsItsRuns i rs h sent
-  kept-in i rs h sent is v b spelled lawful =
+      AllByRecursion (Asks IsWellSpelledAction) rs → KeepsItsRuns i rs h sent
+  kept-in i rs h sent is v b spelled =
       record {
-        matched = matched i rs h is lawful v;
+        matched = matched i rs h is spelled v;
         read_again = read-again i rs h sent is v b spelled;
-        matched_again = matched_again i rs h is lawful v;
-        expressions = λ x ad. let all = admitted i rs h x is lawful v ad in record { last = all.0; added = all.1; renaming = all.2; matched = all.3; matched_again = all.4 };
+        matched_again = matched_again i rs h is spelled v;
+        expressions = λ x ad. let all = admitted i rs h x is spelled v ad in record { last = all.0; added = all.1; renaming = all.2; matched = all.3; matched_again = all.4 };
       }
 
   done-in : (i : ImageOf Text) (s : Status) (sent : Text) → IsImageOf Second prelude_text text i → AppliesIn i script s sent → s ≡ status.Done → IsValidFileOut text script sent
@@ -71,7 +70,7 @@ module _ (text script : Text)
           accepted = v;
           file = b;
           nil_admitted = nil i rs h v;
-          kept = λ leaves. kept-in i rs h sent is v b spelled (all-lawful rs spelled leaves);
+          kept = kept-in i rs h sent is v b spelled;
         };
         valid = valid i rs h is spelled v;
         read_again = read-again i rs h sent is v b spelled;

@@ -13,13 +13,11 @@ use Rattle.grammar_model.specs.Spelling.{SpellsDoItAt}
 use Rattle.text_model.specs.Literals.{is_identifier}
 use Rattle.image_model.specs.ImageNames.{OptionNames}
 use Rattle.image_model.proofs.Lists.{find-all}
-use Rattle.history_model.specs.Rules.{Asks, Perform, Undo, Redo}
+use Rattle.history_model.specs.Rules.{Asks}
 use Rattle.file_model.specs.Fileable.{MayStand}
-use Rattle.code_effect_laws.specs.Moved.{IsWellSpelledAction}
+use Rattle.kept_runs.specs.WellSpelled.{IsWellSpelledAction}
 use Rattle.command_model.specs.Commands.{AddMethod, AddParameter}
 use Rattle.session_model.specs.Scripts.{Request}
-use Rattle.session_model.specs.Actions.{ActionOf, Single, CreateAccessors, ExtractSuperclass, PushUpWithMethods}
-use Rattle.session_model.specs.Lawful.{IsLawfulAction, LeavesCode}
 use Rattle.script_model.specs.Lines.{words_of, lines_of, spoken}
 use Rattle.script_model.specs.Arguments.{Argument, name, side, number, side_of, arguments_of}
 use Rattle.script_model.specs.Makers.{Text, Maker, single, of_none, of_one, of_two, of_three, names_in, of_classes, of_parameter, of_method, of_local, of_local_to, of_part, of_part_to}
@@ -220,20 +218,3 @@ lines-fit (l ∷ ls) (r ∷ rs) each = (line-fit l r each.0, lines-fit ls rs eac
 -- what a script asks for, whatever its commands are
 pub requests-spelled : (script : Text) (requests : List Request) → Says script requests → AllByRecursion (Asks IsWellSpelledAction) requests
 requests-spelled script requests says = lines-fit (spoken (lines_of script)) requests says.each
-
--- what moves no code is lawful
-action-lawful : (x : ActionOf Text) → IsWellSpelledAction x → LeavesCode x → IsLawfulAction x
-action-lawful (Single command) spelled leaves = (leaves, spelled.0, spelled.1)
-action-lawful (CreateAccessors c x setter parameter) spelled leaves = spelled
-action-lawful (ExtractSuperclass d p under) spelled leaves = tt
-action-lawful (PushUpWithMethods c x) spelled leaves = tt
-
-request-lawful : (r : Request) → Asks IsWellSpelledAction r → Asks LeavesCode r → Asks IsLawfulAction r
-request-lawful (Perform x) spelled leaves = action-lawful x spelled leaves
-request-lawful Undo spelled leaves = tt
-request-lawful Redo spelled leaves = tt
-
--- so is each script of such requests
-pub all-lawful : (requests : List Request) → AllByRecursion (Asks IsWellSpelledAction) requests → AllByRecursion (Asks LeavesCode) requests → AllByRecursion (Asks IsLawfulAction) requests
-all-lawful [] spelled leaves = tt
-all-lawful (r ∷ rs) spelled leaves = (request-lawful r spelled.0 leaves.0, all-lawful rs spelled.1 leaves.1)

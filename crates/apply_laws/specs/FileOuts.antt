@@ -7,7 +7,7 @@ use Rattle.file_model.specs.Fileable.{reading_of}
 use Rattle.file_model.specs.Reading.{IsImageOf}
 use Rattle.file_rereading.specs.Rereading.{IsWithinLimits, with_heads}
 use Rattle.script_model.specs.Makers.{Text}
-use Rattle.apply_model.specs.Promised.{IsChangedFile}
+use Rattle.apply_laws.specs.Promised.{IsChangedFile}
 
 -- The printed text is the changed file, and the image that the script makes is valid behind the kernel. Within the limits of a file the printed text is read again as that image, with the do-its at its head counted anew.
 pub record IsValidFileOut (text script printed : Text) : Type 0 where

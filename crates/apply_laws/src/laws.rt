@@ -5,7 +5,7 @@ ghost use Rattle.script_model.specs.Makers.{Text};
 ghost use Rattle.apply_model.specs.declared.status.Status.{Status};
 ghost use Rattle.apply_model.specs.declared.status.Status.TheVariants as status;
 ghost use Rattle.apply_model.specs.Applied.{Applies};
-ghost use Rattle.apply_model.specs.Promised.{IsRefusalOf};
+ghost use Rattle.apply_laws.specs.Promised.{IsRefusalOf};
 ghost use Rattle.apply_laws.specs.FileOuts.{IsValidFileOut};
 
 use code_effect_laws::law_script_texts;
@@ -24,9 +24,9 @@ pub fn has_some_answer()
 
 /// Where `apply` is done, what it sends is the file of the image that the script makes. That image is valid, whatever the
 /// commands of the script are, and within the limits of a file what is sent is read again as that image, with the do-its at its
-/// head counted anew. Where no command of the script moves code, that image keeps the runs of the image before, with each start
-/// expression that the script admits, up to what is renamed, and so does the image that is read again. Where `apply` ends by a
-/// condition, what it sends names the first command that is refused, and its first condition that is false.
+/// head counted anew. That image keeps the runs of the image before, with each start expression that the script admits, up to
+/// what is renamed, and so does the image that is read again. Where `apply` ends by a condition, what it sends names the first
+/// command that is refused, and its first condition that is false.
 pub fn law_applied()
     ensures done { (image_line : Refusal → Text) (text script : Text) (s : Status) (sent : Text) →
         Applies image_line text script s sent → s ≡ status.Done → IsValidFileOut text script sent }

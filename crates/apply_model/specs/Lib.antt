@@ -1,3 +1,2 @@
 pub mod Lines
 pub mod Applied
-pub mod Promised

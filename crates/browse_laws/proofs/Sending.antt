@@ -5,7 +5,7 @@ use Rattle.file_model.specs.Causes.{Refusal as ImageRefusal}
 use Rattle.apply_model.specs.declared.status.Status as applied
 use Rattle.apply_model.specs.declared.status.Status.TheVariants as verdict
 use Rattle.apply_model.specs.Applied as model
-use Rattle.apply_model.specs.Promised.{IsRefusalOf}
+use Rattle.apply_laws.specs.Promised.{IsRefusalOf}
 use Rattle.apply_laws.specs.FileOuts.{IsValidFileOut}
 use Rattle.browse.specs.declared.status.Status.{Status}
 use Rattle.browse.specs.declared.status.Status.TheVariants as status

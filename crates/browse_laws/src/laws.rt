@@ -4,7 +4,7 @@ ghost use Rattle.history_model.specs.Rules.{Perform, Undo, Redo};
 ghost use Rattle.session_model.specs.Actions.{ActionOf};
 ghost use Rattle.session_model.specs.Scripts.{Request};
 ghost use Rattle.script_model.specs.Scripts.{Says};
-ghost use Rattle.apply_model.specs.Promised.{IsRefusalOf};
+ghost use Rattle.apply_laws.specs.Promised.{IsRefusalOf};
 ghost use Rattle.apply_laws.specs.FileOuts.{IsValidFileOut};
 ghost use Rattle.browse.specs.declared.status.Status.TheVariants as status;
 ghost use Rattle.browse.specs.Loads.{World};
@@ -13,10 +13,9 @@ ghost use Rattle.browse_laws.specs.Given.{apply_words, AreGiven};
 
 /// Where `apply IMAGE SCRIPT` is answered with the status `Done`, what is sent is the changed file: that of the image that the
 /// script makes of the image of the first file. That image is valid, whatever the commands of the script are, and within the
-/// limits of a file what is sent is read again as that image, with the do-its at its head counted anew. Where no command of the
-/// script moves code, the runs of that image are those of the image before, up to what the script renames. Where the status is
-/// `Condition`, what is sent names the first command of the script that is refused, and its first condition that is false; the
-/// commands before it are accepted.
+/// limits of a file what is sent is read again as that image, with the do-its at its head counted anew. The runs of that image
+/// are those of the image before, up to what the script renames. Where the status is `Condition`, what is sent names the first
+/// command of the script that is refused, and its first condition that is false; the commands before it are accepted.
 pub fn law_applied()
     ensures done { (w : World) (image script sent : List ℕ) → Answers w (apply_words image script) status.Done sent →
         AreGiven w image script (λ text commands. IsValidFileOut text commands sent) }

@@ -30,7 +30,7 @@ use Rattle.command_model.specs.ParameterConditions.{is_shallow}
 use Rattle.command_model.specs.Walk.{rebuilt_sequence, rebuilt_method}
 use Rattle.command_model.specs.Effects.{effect}
 use Rattle.command_model.specs.AllHold.{AllHold}
-use Rattle.session_model.specs.Lawful.{AreSetterNames}
+use Rattle.kept_runs.specs.WellSpelled.{AreSetterNames}
 use Rattle.effect_laws.proofs.Items.{In, Once, all_in, in_map, map_in, in_front, in_either}
 use Rattle.effect_laws.proofs.Sound.{HasHome, MayBeName, AreSoundMethods, IsSound}
 use Rattle.effect_laws.proofs.Fronts.{behind_map}

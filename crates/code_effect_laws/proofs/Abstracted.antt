@@ -25,7 +25,7 @@ use Rattle.code_effect_laws.proofs.Proper.{IsProper}
 use Rattle.code_effect_laws.proofs.Stands.{StandsFor}
 use Rattle.code_effect_laws.proofs.Walked.{Leaves}
 use Rattle.code_effect_laws.proofs.Methods.{IsProperMethod, method_well, known_in}
-use Rattle.session_model.specs.Lawful.{AreSetterNames}
+use Rattle.kept_runs.specs.WellSpelled.{AreSetterNames}
 use Rattle.file_laws.proofs.Moves.{text_equal}
 use Rattle.code_effect_laws.proofs.WalkedMethods.{rebuilt_method_proper}
 

@@ -21,7 +21,7 @@ use Rattle.effect_laws.proofs.EffectsKept as effects
 use Rattle.effect_laws.proofs.Filed.{IsFiled, filed_of, fileable}
 use Rattle.effect_laws.proofs.FiledCommands.{kept_filed}
 use Rattle.effect_laws.proofs.KernelInFront.{AreFronts, fronts_of, first_of, front_kept}
-use Rattle.code_effect_laws.specs.Moved.{HasItsSetter}
+use Rattle.kept_runs.specs.WellSpelled.{HasItsSetter}
 use Rattle.code_effect_laws.proofs.AbstractKept.{abstract_sound, abstract_filed, abstract_front}
 use Rattle.code_effect_laws.proofs.ExtractMethodKept.{extract_method_sound, extract_method_filed, extract_method_front}
 use Rattle.code_effect_laws.proofs.InlineMethodKept.{inline_method_sound, inline_method_filed, inline_method_front}

@@ -34,7 +34,7 @@ use Rattle.effect_laws.proofs.Sound.{MayBeName, sound_of}
 use Rattle.effect_laws.proofs.Blanks.{may_stand, method_begins}
 use Rattle.effect_laws.proofs.Facts.{variable_there}
 use Rattle.effect_laws.proofs.Kernel.{IsWhole}
-use Rattle.code_effect_laws.specs.Moved.{IsWellSpelled, IsWellSpelledAction}
+use Rattle.kept_runs.specs.WellSpelled.{IsWellSpelled, IsWellSpelledAction}
 use Rattle.code_effect_laws.proofs.Abstracted.{given_name, getter_well, setter_well}
 use Rattle.code_effect_laws.proofs.CodeKept.{kept_valid, kept_fileable, kept_first}
 

@@ -19,7 +19,7 @@ ghost use Rattle.command_model.specs.Judged.{first_false};
 ghost use Rattle.command_model.specs.Spelled.{IsSpelled, MayBeFiled};
 ghost use Rattle.history_model.specs.Rules.{Asks};
 ghost use Rattle.session_model.specs.Scripts.{Request, History, verdict_in};
-ghost use Rattle.code_effect_laws.specs.Moved.{HasItsSetter, IsWellSpelledAction};
+ghost use Rattle.kept_runs.specs.WellSpelled.{HasItsSetter, IsWellSpelledAction};
 
 use kernel_image::{
     every_image_is_read_again, every_image_is_valid, kernel_has_these_classes,

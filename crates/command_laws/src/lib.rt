@@ -1,5 +1,4 @@
-//! Each lawful command, which is one that moves no code, keeps runs, and so does each script of lawful lines: in each valid
-//! image and in that of each file-out.
+//! Each command keeps runs, and so does each script: in each valid image and in that of each file-out.
 //!
 //! The functions of this crate are laws on the definitions: they do nothing.
 #![tactic(auto)]

@@ -23,7 +23,7 @@ use Rattle.reread_law.proofs.Methods.{method_again}
 use Rattle.file_model.specs.Words.{may_name, is_global}
 use Rattle.file_model.specs.Fileable.{MayStand}
 use Rattle.command_model.specs.Accessors.{getter, setter_of, setter_argument}
-use Rattle.session_model.specs.Lawful.{AreSetterNames}
+use Rattle.kept_runs.specs.WellSpelled.{AreSetterNames}
 
 -- neither of two tests, where it is denied that one holds
 denied-left : (a b : Bool) → not (a || b) ≡ true → a ≡ false

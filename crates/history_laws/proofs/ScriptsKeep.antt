@@ -14,7 +14,7 @@ use Rattle.image_model.specs.Words.{text_words}
 use Rattle.image_model.specs.Chain.{class_named}
 use Rattle.image_model.specs.Means.{of_instance}
 use Rattle.image_model.specs.Valid.{GivesNames, IsFileable}
-use Rattle.image_model.proofs.Lists.{find-all, all-both}
+use Rattle.image_model.proofs.Lists.{find-all}
 use Rattle.image_model.proofs.GrownLemmas.{IsValid-plus}
 use Rattle.run_model.specs.Values.{Name}
 use Rattle.run_model.specs.Renamings.{composed}
@@ -25,20 +25,19 @@ use Rattle.run_model.proofs.MatchedLemmas.{matched-same, matched-trans}
 use Rattle.file_model.specs.Words.{may_name}
 use Rattle.file_model.specs.Fileable.{reading_of}
 use Rattle.file_rereading.specs.Rereading.{KernelFirst}
-use Rattle.rename_model.specs.ClassRenamed.{canonical}
 use Rattle.rename_model.specs.Conditions.{has_no_reflection, is_user_class, has_variable}
 use Rattle.command_model.specs.Asked.{text_asked}
 use Rattle.command_model.specs.Commands.{CommandOf, PushUpInstVar, PushUpMethod}
 use Rattle.command_model.specs.Conditions.{ConditionOf, NoReflection, IsUserClass, HasVariable}
 use Rattle.command_model.specs.Renamings.{renaming_of}
-use Rattle.history_model.specs.Rules.{Perform, Undo, Redo, Asks}
+use Rattle.history_model.specs.Rules.{Asks}
 use Rattle.history_model.specs.History.{version_after}
 use Rattle.history_model.proofs.Keeping.{verdict-good}
 use Rattle.session_model.specs.Actions.{ActionOf, Single, CreateAccessors, ExtractSuperclass, PushUpWithMethods}
-use Rattle.session_model.specs.Steps.{shared_by, shared_pushes, names_it, steps_of}
+use Rattle.session_model.specs.Steps.{shared_by, shared_pushes, names_it}
 use Rattle.session_model.specs.Scripts.{Request, Version, History, rules, verdict_in}
-use Rattle.session_model.specs.Lawful.{IsLawful, IsLawfulAction}
-use Rattle.session_model.specs.KeepsRuns.{IsSound, AllKeepRuns, SomeKeepRuns, HasSteps, IsKept}
+use Rattle.kept_runs.specs.WellSpelled.{IsWellSpelled, IsWellSpelledAction}
+use Rattle.kept_runs.specs.KeepsRuns.{IsSound, AllKeepRuns, IsKept}
 use Rattle.history_laws.proofs.JudgedBeside.{made}
 use Rattle.history_laws.proofs.Accessors.{getter-lawful, setter-lawful}
 
@@ -68,34 +67,34 @@ named kernel i c x sound h =
     in-class kernel x (class_named text_eq i.classes c) (find-all (GivesNames ((reading_of Second kernel).IsName)) (λ e. text_eq c e.name) i.classes sound.names_may_be_given) h
 
 -- commands of which nothing is asked
-all-lawful : {X : Type 0} (f : X → CommandOf Name) (xs : List X) → ((x : X) → IsLawful (f x)) → AllByRecursion IsLawful (map f xs)
-all-lawful f [] h = tt
-all-lawful f (x ∷ xs) h = (h x, all-lawful f xs h)
+all-spelled : {X : Type 0} (f : X → CommandOf Name) (xs : List X) → ((x : X) → IsWellSpelled (f x)) → AllByRecursion IsWellSpelled (map f xs)
+all-spelled f [] h = tt
+all-spelled f (x ∷ xs) h = (h x, all-spelled f xs h)
 
 -- the pushes of variables that classes share
-pushes-lawful : (i : ImageOf Name) (under : List Name) → AllByRecursion IsLawful (shared_pushes text_eq i under)
-pushes-lawful i [] = tt
-pushes-lawful i (s ∷ others) = all-lawful (PushUpInstVar s) (shared_by text_eq i s others) (λ x. (tt, tt, tt))
+pushes-spelled : (i : ImageOf Name) (under : List Name) → AllByRecursion IsWellSpelled (shared_pushes text_eq i under)
+pushes-spelled i [] = tt
+pushes-spelled i (s ∷ others) = all-spelled (PushUpInstVar s) (shared_by text_eq i s others) (λ x. (tt, tt, tt))
 
--- the steps of a lawful action whose own conditions hold are lawful
-steps-lawful : (kernel i : ImageOf Name) (x : ActionOf Name) → IsSound kernel i → IsLawfulAction x → rules.first_false i x ≡ None → AllByRecursion IsLawful (rules.steps_of i x)
-steps-lawful kernel i (Single c) sound lawful e = (lawful, tt)
-steps-lawful kernel i (CreateAccessors c x s q) sound lawful e =
+-- the steps of a well spelled action whose own conditions hold are well spelled
+steps-spelled : (kernel i : ImageOf Name) (x : ActionOf Name) → IsSound kernel i → IsWellSpelledAction x → rules.first_false i x ≡ None → AllByRecursion IsWellSpelled (rules.steps_of i x)
+steps-spelled kernel i (Single c) sound spelled e = (spelled, tt)
+steps-spelled kernel i (CreateAccessors c x s q) sound spelled e =
     let has = last-holds NoReflection (IsUserClass c) (HasVariable c x) (has_no_reflection text_asked.command_words i) (is_user_class text_eq i c) (has_variable text_eq i of_instance c x) e in
     let name = named kernel i c x sound has in
     let reads = getter-lawful x name in
-    let assigns = setter-lawful x s q name lawful in
-    ((tt, reads.0, reads.1), ((tt, assigns.0, assigns.1), tt))
-steps-lawful kernel i (ExtractSuperclass d p under) sound lawful e = ((tt, tt, tt), pushes-lawful i under)
-steps-lawful kernel i (PushUpWithMethods c x) sound lawful e =
-    ((tt, tt, tt), all-lawful (λ (m : EntryOf Name). PushUpMethod c false m.tree.selector) (filter (names_it text_eq c x) i.methods) (λ m. (tt, tt, tt)))
+    let assigns = setter-lawful x s q name spelled in
+    ((reads.0, reads.1, tt), ((assigns.0, assigns.1, tt), tt))
+steps-spelled kernel i (ExtractSuperclass d p under) sound spelled e = ((tt, tt, tt), pushes-spelled i under)
+steps-spelled kernel i (PushUpWithMethods c x) sound spelled e =
+    ((tt, tt, tt), all-spelled (λ (m : EntryOf Name). PushUpMethod c false m.tree.selector) (filter (names_it text_eq c x) i.methods) (λ m. (tt, tt, tt)))
 
-module _ (kernel i : ImageOf Name) (some : CommandOf Name → Bool) (keeps : SomeKeepRuns some kernel) where
+module _ (kernel i : ImageOf Name) (keeps : AllKeepRuns kernel) where
   -- a command keeps it
-  command-keeps : (v : Version) (c : CommandOf Name) (j : ImageOf Name) → IsKept kernel i v → (some c ≡ true) × IsLawful c → rules.judged v.image c ≡ Ok j → IsKept kernel i (version_after rules v c j)
-  command-keeps v c j kept fit e =
+  command-keeps : (v : Version) (c : CommandOf Name) (j : ImageOf Name) → IsKept kernel i v → IsWellSpelled c → rules.judged v.image c ≡ Ok j → IsKept kernel i (version_after rules v c j)
+  command-keeps v c j kept spelled e =
       let done = made v.image c j e in
-      let law = keeps c fit.0 fit.1 in
+      let law = keeps c spelled in
       record {
         valid = subst (IsSound kernel) done.1 (law.valid v.image kept.valid done.0);
         fileable = λ may. subst (IsFileable (reading_of Second kernel)) done.1 (law.fileable v.image kept.valid (kept.fileable may) done.0);
@@ -105,25 +104,10 @@ module _ (kernel i : ImageOf Name) (some : CommandOf Name → Bool) (keeps : Som
             (subst (λ k. AreMatched v.image k (renaming_of v.image c)) done.1 (law.matched v.image kept.valid done.0));
       }
 
-  pub some-keep : (script : List Request) (h : History) → IsSound kernel i → AllByRecursion (Asks (HasSteps some)) script → verdict_in i script ≡ Ok h → IsKept kernel i h.now
-  some-keep script h sound ready e =
-      verdict-good rules (IsKept kernel i) (λ c. (some c ≡ true) × IsLawful c) (HasSteps some) command-keeps
-      (λ v x kept r none. all-both (λ c. some c ≡ true) IsLawful (rules.steps_of v.image x) (r.steps v.image) (steps-lawful kernel v.image x kept.valid r.lawful none))
-      i script h (record { valid = sound; fileable = λ may. may; first = λ is. is; matched = matched-same i }) ready e
-
--- all commands
-every : {A : Type 0} (xs : List A) → AllByRecursion (λ x. true ≡ true) xs
-every [] = tt
-every (x ∷ xs) = (refl, every xs)
-
-all-ready : (script : List Request) → AllByRecursion (Asks IsLawfulAction) script → AllByRecursion (Asks (HasSteps (λ c. true))) script
-all-ready [] lawful = tt
-all-ready (Perform x ∷ xs) lawful = (record { lawful = lawful.0; steps = λ j. every (steps_of text_eq j canonical x) }, all-ready xs lawful.1)
-all-ready (Undo ∷ xs) lawful = (tt, all-ready xs lawful.1)
-all-ready (Redo ∷ xs) lawful = (tt, all-ready xs lawful.1)
-
-pub script-keeps : (kernel i : ImageOf Name) → AllKeepRuns kernel → (script : List Request) (h : History) → IsSound kernel i → AllByRecursion (Asks IsLawfulAction) script → verdict_in i script ≡ Ok h → IsKept kernel i h.now
-script-keeps kernel i keeps script h sound lawful e = some-keep kernel i (λ c. true) (λ c yes l. keeps c l) script h sound (all-ready script lawful) e
+  pub script-keeps : (script : List Request) (h : History) → IsSound kernel i → AllByRecursion (Asks IsWellSpelledAction) script → verdict_in i script ≡ Ok h → IsKept kernel i h.now
+  script-keeps script h sound spelled e =
+      verdict-good rules (IsKept kernel i) IsWellSpelled IsWellSpelledAction command-keeps (λ v x kept s none. steps-spelled kernel v.image x kept.valid s none)
+      i script h (record { valid = sound; fileable = λ may. may; first = λ is. is; matched = matched-same i }) spelled e
 
 -- an image with one more do-it is valid
 pub plus-sound : (kernel i : ImageOf Name) (e : DoItOf Name) → IsSound kernel i → SpellsDoIt Second e.source e.body → IsSound kernel (plus i e)

@@ -1,37 +1,26 @@
 // Laws of scripts. Each function does nothing; its contract is the law.
-ghost use Rattle.std.specs.Prelude.{◌≡◌, Bool, List, Ok};
+ghost use Rattle.std.specs.Prelude.{◌≡◌, List, Ok};
 ghost use Rattle.std.specs.List.{AllByRecursion};
 ghost use Rattle.image_model.specs.Image.{DoItOf, ImageOf, plus};
 ghost use Rattle.run_model.specs.Values.{Name};
 ghost use Rattle.run_model.specs.Renamings.{Renaming, composed};
 ghost use Rattle.run_model.specs.Matched.{AreMatched};
-ghost use Rattle.command_model.specs.Commands.{CommandOf};
 ghost use Rattle.command_model.specs.Renamings.{SaysTheSame};
 ghost use Rattle.command_model.specs.Beside.{HasOneMore};
 ghost use Rattle.history_model.specs.Rules.{Asks};
 ghost use Rattle.session_model.specs.Admitted.{Admits, nil_doit};
 ghost use Rattle.session_model.specs.Scripts.{Request, History, verdict_in};
-ghost use Rattle.session_model.specs.Lawful.{IsLawfulAction};
-ghost use Rattle.session_model.specs.KeepsRuns.{IsSound, AllKeepRuns, SomeKeepRuns, HasSteps, IsKept};
+ghost use Rattle.kept_runs.specs.WellSpelled.{IsWellSpelledAction};
+ghost use Rattle.kept_runs.specs.KeepsRuns.{IsSound, AllKeepRuns, IsKept};
 
-/// Where each lawful single command keeps runs, so does each lawful script that is accepted, composites, undo and redo among
-/// its lines. For each start expression that the script admits, the result in the image with that expression as last do-it is
-/// the result in the image with one more do-it; and the image with the expression is matched by it, up to the same renaming.
+/// Where each single command keeps runs, so does each script that is accepted, composites, undo and redo among its lines. For
+/// each start expression that the script admits, the result in the image with that expression as last do-it is the result in the
+/// image with one more do-it; and the image with the expression is matched by it, up to the same renaming.
 pub fn law_history()
     ensures kept { (kernel i : ImageOf Name) (script : List Request) (h : History) → AllKeepRuns kernel → IsSound kernel i →
-        AllByRecursion (Asks IsLawfulAction) script → verdict_in i script ≡ Ok h → IsKept kernel i h.now }
+        AllByRecursion (Asks IsWellSpelledAction) script → verdict_in i script ≡ Ok h → IsKept kernel i h.now }
     ensures admitted { (kernel i : ImageOf Name) (script : List Request) (h : History) (e : DoItOf Name) → AllKeepRuns kernel → IsSound kernel i →
-        AllByRecursion (Asks IsLawfulAction) script → verdict_in i script ≡ Ok h → (a : Admits i script e) →
-        HasOneMore h.now.image a.history.now.image × (a.history.now.renaming ≡ h.now.renaming)
-        × AreMatched (plus i e) a.history.now.image h.now.renaming }
-{}
-
-/// The same where some commands keep runs, of scripts whose actions have no other steps.
-pub fn law_history_of()
-    ensures kept { (some : CommandOf Name → Bool) (kernel i : ImageOf Name) (script : List Request) (h : History) → SomeKeepRuns some kernel → IsSound kernel i →
-        AllByRecursion (Asks (HasSteps some)) script → verdict_in i script ≡ Ok h → IsKept kernel i h.now }
-    ensures admitted { (some : CommandOf Name → Bool) (kernel i : ImageOf Name) (script : List Request) (h : History) (e : DoItOf Name) → SomeKeepRuns some kernel →
-        IsSound kernel i → AllByRecursion (Asks (HasSteps some)) script → verdict_in i script ≡ Ok h → (a : Admits i script e) →
+        AllByRecursion (Asks IsWellSpelledAction) script → verdict_in i script ≡ Ok h → (a : Admits i script e) →
         HasOneMore h.now.image a.history.now.image × (a.history.now.renaming ≡ h.now.renaming)
         × AreMatched (plus i e) a.history.now.image h.now.renaming }
 {}

@@ -3,5 +3,3 @@ pub mod Steps
 pub mod OwnConditions
 pub mod Scripts
 pub mod Admitted
-pub mod Lawful
-pub mod KeepsRuns

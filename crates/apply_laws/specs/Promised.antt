@@ -1,6 +1,5 @@
 -- What is promised of the file that `apply` prints.
 use Rattle.std.specs.Prelude.{◌≡◌, List, Ok}
-use Rattle.std.specs.List.{AllByRecursion}
 use Rattle.token_model.specs.declared.kind.Dialect.TheVariants.{Second}
 use Rattle.st_kernel.specs.KernelText.{prelude_text}
 use Rattle.image_model.specs.Image.{DoItOf, ImageOf, plus}
@@ -8,10 +7,8 @@ use Rattle.run_model.specs.Matched.{AreMatched}
 use Rattle.file_model.specs.Reading.{IsImageOf}
 use Rattle.file_model.specs.Written.{file_of}
 use Rattle.file_rereading.specs.Rereading.{IsWithinLimits, with_heads}
-use Rattle.history_model.specs.Rules.{Asks}
 use Rattle.history_model.specs.Verdicts.{IsRefusedAt}
 use Rattle.session_model.specs.Admitted.{Admits, nil_doit}
-use Rattle.session_model.specs.Lawful.{LeavesCode}
 use Rattle.session_model.specs.Scripts.{Request, History, Refusal, rules, verdict_in}
 use Rattle.script_model.specs.Makers.{Text}
 use Rattle.script_model.specs.Scripts.{Says}
@@ -32,7 +29,7 @@ pub record KeepsItsRuns (image : ImageOf Text) (requests : List Request) (histor
   pub matched_again : AreMatched image (with_heads history.now.image) history.now.renaming
   pub expressions : (e : DoItOf Text) (a : Admits image requests e) → IsKeptWith image requests history e a
 
--- The printed text is the file of the image that the script makes of the one that the first text makes. The script admits `nil` as start expression. Where no command of the script moves code, the image keeps its runs.
+-- The printed text is the file of the image that the script makes of the one that the first text makes. The script admits `nil` as start expression, and the image keeps its runs.
 pub record IsChangedFile (text script printed : Text) : Type 0 where
   pub image : ImageOf Text
   pub is_image : IsImageOf Second prelude_text text image
@@ -42,7 +39,7 @@ pub record IsChangedFile (text script printed : Text) : Type 0 where
   pub accepted : verdict_in image requests ≡ Ok history
   pub file : printed ≡ file_of history.now.image
   pub nil_admitted : Admits image requests nil_doit
-  pub kept : AllByRecursion (Asks LeavesCode) requests → KeepsItsRuns image requests history printed
+  pub kept : KeepsItsRuns image requests history printed
 
 -- The printed line tells the first command that is refused, with its first condition that is false; the commands before it are accepted.
 pub record IsRefusalOf (text script printed : Text) : Type 0 where

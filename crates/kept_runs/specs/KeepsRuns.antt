@@ -1,7 +1,5 @@
 -- What is wanted of single commands, so that scripts of them keep runs.
-use Rattle.std.specs.Prelude.{◌≡◌, Bool, true, None}
-use Rattle.std.specs.List.{AllByRecursion}
-use Rattle.rb_base.specs.Names.{text_eq}
+use Rattle.std.specs.Prelude.{◌≡◌, None}
 use Rattle.token_model.specs.declared.kind.Dialect.TheVariants.{Second}
 use Rattle.image_model.specs.Image.{ImageOf}
 use Rattle.image_model.specs.Words.{text_words}
@@ -16,10 +14,8 @@ use Rattle.command_model.specs.Commands.{CommandOf}
 use Rattle.command_model.specs.Effects.{effect}
 use Rattle.command_model.specs.Judged.{first_false}
 use Rattle.command_model.specs.Renamings.{renaming_of}
-use Rattle.session_model.specs.Actions.{ActionOf}
-use Rattle.session_model.specs.Steps.{steps_of}
 use Rattle.session_model.specs.Scripts.{Version}
-use Rattle.session_model.specs.Lawful.{IsLawful, IsLawfulAction}
+use Rattle.kept_runs.specs.WellSpelled.{IsWellSpelled}
 
 -- valid behind the kernel, in the second dialect
 abbrev pub IsSound : ImageOf Name → ImageOf Name → Type 0
@@ -33,17 +29,9 @@ pub record KeepsRuns (kernel : ImageOf Name) (command : CommandOf Name) : Type 0
   pub first : (i : ImageOf Name) → IsSound kernel i → KernelFirst kernel i → first_false text_asked i command ≡ None → KernelFirst kernel (effect text_asked canonical command i)
   pub matched : (i : ImageOf Name) → IsSound kernel i → first_false text_asked i command ≡ None → AreMatched i (effect text_asked canonical command i) (renaming_of i command)
 
--- each lawful single command does so, or each of some
+-- each single command that is well spelled does so
 abbrev pub AllKeepRuns : ImageOf Name → Type 0
-AllKeepRuns kernel = (command : CommandOf Name) → IsLawful command → KeepsRuns kernel command
-
-abbrev pub SomeKeepRuns : (CommandOf Name → Bool) → ImageOf Name → Type 0
-SomeKeepRuns some kernel = (command : CommandOf Name) → some command ≡ true → IsLawful command → KeepsRuns kernel command
-
--- a lawful action whose steps are some of those, in each image
-pub record HasSteps (some : CommandOf Name → Bool) (action : ActionOf Name) : Type 0 where
-  pub lawful : IsLawfulAction action
-  pub steps : (i : ImageOf Name) → AllByRecursion (λ command. some command ≡ true) (steps_of text_eq i canonical action)
+AllKeepRuns kernel = (command : CommandOf Name) → IsWellSpelled command → KeepsRuns kernel command
 
 -- A version of the history of an image keeps its runs: it is valid, can be written where the image can, has the kernel first where the image has, and is matched by the image up to its renaming.
 pub record IsKept (kernel i : ImageOf Name) (v : Version) : Type 0 where

@@ -1,0 +1,2 @@
+pub mod WellSpelled
+pub mod KeepsRuns
