@@ -16,14 +16,20 @@ use Rattle.patterns.specs.declared.tree.Meta.{Meta}
 use Rattle.patterns.specs.declared.tree.PatternKeyword.{PatternKeyword}
 use Rattle.patterns.specs.declared.tree.PatternSelector.{PatternSelector}
 use Rattle.patterns.specs.declared.tree.PatternSelector.TheVariants as selector
-use Rattle.filled_patterns.specs.Filling.{keyword_text, Later, AreKnown, Known, bound_texts, IsChosen, IsFilled, AreFilled, IsMessageFilled}
-use Rattle.filled_patterns.proofs.Growing.{still_known, bindings_known, keywords_imply}
+use Rattle.filled_patterns.specs.declared.bindings.Binding.{Binding}
+use Rattle.filled_patterns.specs.Left.{Holds}
+use Rattle.filled_patterns.specs.Filling.{keyword_text, Later, Over, AreKnown, Known, bound_texts, IsChosen, IsFilled, AreFilled, IsMessageFilled}
+use Rattle.filled_patterns.proofs.Growing.{still_known, keywords_imply}
 use Rattle.filled_patterns.proofs.Looked.{part_texts, part_known, selector_texts, selector_stands, keyword_texts, arguments_texts, arguments_known}
 
-module _ {names final : List (List ℕ)} (l : Later names final) (bs : List (BindingOf ℕ)) (hs : AreKnown names bs) where
-  abbrev ks : AreKnown final bs
-  ks = bindings_known l.grows bs hs
+-- the selector that stands for a metavariable, and one in a table that may grow
+abbrev pub Selects : List Binding → MetaOf ℕ → ℕ → Type 0
+Selects ss m n = (bs : List (BindingOf ℕ)) → Holds bs ss → n ≡ selector_in m.name (bound_of nat_eq bs m)
 
+abbrev pub Chooses : List (List ℕ) → List Binding → SelectorLike ℕ → ℕ → Type 0
+Chooses names ss s n = (final : List (List ℕ)) → Later names final → Over final ss (λ bs. IsChosen final bs s n)
+
+module _ {names final : List (List ℕ)} (l : Later names final) (bs : List (BindingOf ℕ)) (ks : AreKnown final bs) where
   -- a metavariable for a node
   pub a_meta : (m : MetaOf ℕ) → Known names m.name → (t : TreeOf ℕ) → t ≡ part_in m.name (bound_of nat_eq bs m) → IsFilled final bs (meta m) t
   a_meta m h t e = record {

@@ -6,14 +6,12 @@ use Rattle.std.proofs.lemmas.Option.{slice_get-get_or, slice_get_within}
 use Rattle.rb_base.specs.Names.{name_at, number_in, interned}
 use Rattle.tree_model.specs.Tree.{LiteralOf, literal}
 use Rattle.tree_model.specs.AllNames.{LiteralNames}
-use Rattle.tree_model.proofs.AllNamesLemmas.{AllNames-implies, TreesNames-implies, StatementsNames-implies}
+use Rattle.tree_model.proofs.AllNamesLemmas.{AllNames-implies}
 use Rattle.event_trees.specs.Naming.{Grows}
-use Rattle.event_trees.proofs.Known.{Grows-none, Grows-twice, Grows-Adds, Adds-interned, text_stays, text_of_number}
+use Rattle.event_trees.proofs.Known.{Grows-none, Grows-twice, Adds-interned, text_stays, text_of_number}
 use Rattle.pattern_model.specs.Patterns.{KeywordLike, this_keyword, any_keyword, SelectorLike, this_selector, any_unary, of_keywords, any_message, PatternOf, meta, var_like, literal_like, send_like, cascade_like, assign_like, block_like, brace_like, return_like, PatternsOf, no_patterns, more_patterns, MessagesLike, no_messages_like, more_messages_like, StatementsLike, no_statements_like, more_statements_like}
-use Rattle.pattern_model.specs.Bindings.{BoundOf, a_part, a_run, a_selector, a_keyword, a_message, BindingOf}
 use Rattle.patterns.specs.Names.{KeywordNames, SelectorNames, PatternNames, PatternsNames, MessagesLikeNames, StatementsLikeNames}
-use Rattle.filled_patterns.specs.Bound.{BoundNames, BindingNames}
-use Rattle.filled_patterns.specs.Filling.{Later, AreKnown, Known}
+use Rattle.filled_patterns.specs.Filling.{Later, Known}
 
 -- a fact of each name follows from another
 module _ {N : Type 0} (P Q : N → Type 0) (implies : (n : N) → P n → Q n) where
@@ -59,17 +57,6 @@ module _ {N : Type 0} (P Q : N → Type 0) (implies : (n : N) → P n → Q n) w
     statements_imply no_statements_like h = tt
     statements_imply (more_statements_like c p ss) h = (pattern_implies p h.0, statements_imply ss h.1)
 
-  bound_implies : (b : BoundOf N) → BoundNames P b → BoundNames Q b
-  bound_implies (a_part t) h = AllNames-implies P Q implies t h
-  bound_implies (a_run ss) h = StatementsNames-implies P Q implies ss h
-  bound_implies (a_selector n) h = implies n h
-  bound_implies (a_keyword k) h = tt
-  bound_implies (a_message n ts) h = (implies n h.0, TreesNames-implies P Q implies ts h.1)
-
-  pub bindings_imply : (bs : List (BindingOf N)) → AllByRecursion (BindingNames P) bs → AllByRecursion (BindingNames Q) bs
-  bindings_imply [] h = tt
-  bindings_imply (b ∷ bs) h = ((implies b.meta.name h.0.0, bound_implies b.bound h.0.1), bindings_imply bs h.1)
-
 -- a table grows on
 pub later_still : {names between final : List (List ℕ)} → Grows names between → Later between final → Later names final
 later_still g l = record { grows = Grows-twice g l.grows; distinct = l.distinct }
@@ -93,9 +80,6 @@ module _ {names later : List (List ℕ)} (g : Grows names later) where
 
   pub literal_known : (l : LiteralOf ℕ) → LiteralNames (Known names) l → LiteralNames (Known later) l
   literal_known l h = AllNames-implies (Known names) (Known later) still_known (literal l) h
-
-  pub bindings_known : (bs : List (BindingOf ℕ)) → AreKnown names bs → AreKnown later bs
-  bindings_known bs h = bindings_imply (Known names) (Known later) still_known bs h
 
   pub selector_known : (s : SelectorLike ℕ) → SelectorNames (Known names) s → SelectorNames (Known later) s
   selector_known s h = selector_implies (Known names) (Known later) still_known s h

@@ -20,7 +20,7 @@ use Rattle.patterns.specs.Names.{PatternNames}
 use Rattle.patterns.specs.View.{statements_from}
 use Rattle.patterns.specs.declared.tree.PatternStatement.{PatternStatement}
 use Rattle.filled_patterns.specs.Filling.{Later, AreKnown, State, put_one, put_all, with_notes, joined_up, Known, bound_texts, IsFilled, statement_filled, IsPut, AreMade, IsSequenceFilled}
-use Rattle.filled_patterns.proofs.Growing.{still_known, bindings_known}
+use Rattle.filled_patterns.proofs.Growing.{still_known}
 use Rattle.filled_patterns.proofs.Looked.{run_texts, run_known}
 
 module _ {N : Type 0} where
@@ -62,15 +62,10 @@ module _ {N : Type 0} (f : ℕ → N) where
   joined_end : (s : State) (e : Notes) → joined_up f s (no_statements, e) ≡ (map_statements f (statements_of s.0), s.1 ++ e)
   joined_end s e = ap (λ (ss : StatementsOf N). (ss, s.1 ++ e)) (append_none (map_statements f (statements_of s.0)))
 
--- copies are put one after the other
-pub all_more : (rs : List Statement) (i : ℕ) (x : Statement) → i < length rs → x ≡ get_or rs i x → (s after : State) (t : TreeOf ℕ) → after ≡ put_one s x.comments t → t ≡ x.node
-    → (whole : State) → put_all s (drop i rs) ≡ whole → put_all after (drop (i + 1) rs) ≡ whole
-all_more rs i x h is s after t e f whole so_far =
-    let cut : drop i rs ≡ x ∷ drop (i + 1) rs = drop_more rs i x h ∙ ap (λ (y : Statement). y ∷ drop (i + 1) rs) (sym is) in
-    ap (λ (u : State). put_all u (drop (i + 1) rs)) (e ∙ ap (put_one s x.comments) f) ∙ ap (λ (us : List Statement). put_all s us) (sym cut) ∙ so_far
-
-pub all_put : (rs : List Statement) (i : ℕ) → length rs ≤ i → (s whole : State) → put_all s (drop i rs) ≡ whole → s ≡ whole
-all_put rs i h s whole so_far = ap (λ (us : List Statement). put_all s us) (sym (drop_all i rs h)) ∙ so_far
+-- one more statement is put
+pub all_last : (rs : List Statement) (x : Statement) (s : State) → put_all s (rs ++ x ∷ []) ≡ put_one (put_all s rs) x.comments x.node
+all_last [] x s = refl
+all_last (r ∷ rs) x s = all_last rs x (put_one s r.comments r.node)
 
 module _ (P : ℕ → Type 0) where
   known_one : (xs : List Statement) (x : Statement) → StatementsNames P (statements_of xs) → AllNames P x.node → StatementsNames P (statements_of (xs ++ x ∷ []))
@@ -90,14 +85,13 @@ module _ (P : ℕ → Type 0) where
   list_known (meta n) m h e = list_named n.kind n m h e
   list_known p m h e = let bad : ⊥ = cc in absurd bad
 
-module _ {names final : List (List ℕ)} (l : Later names final) (bs : List (BindingOf ℕ)) (hs : AreKnown names bs) where
+module _ {names final : List (List ℕ)} (l : Later names final) (bs : List (BindingOf ℕ)) (ks : AreKnown final bs) where
   -- a list of statements is put
   pub put_list : (c : Notes) (p : PatternOf ℕ) → PatternNames (Known names) p → (m : MetaOf ℕ) → Some m ≡ list_meta p → (s between after : State) → between ≡ with_notes s c
       → (rs : List Statement) → statements_of rs ≡ run_in (bound_of nat_eq bs m) → after ≡ put_all between rs → IsPut final bs c p s after
   put_list c p h m is s between after e rs run g =
       let f : ℕ → List ℕ = name_at final in
       let within : Known final m.name = still_known l.grows m.name (list_known (Known names) p m h is) in
-      let ks : AreKnown final bs = bindings_known l.grows bs hs in
       let texts : map_statements f (statements_of rs) ≡ run_in (bound_texts final bs (map_meta f m)) = ap (map_statements f) run ∙ run_texts final l.distinct bs ks m within in
       record {
         same = λ r.

@@ -1,4 +1,5 @@
 mod Growing
+mod Held
 mod Looked
 mod Chosen
 mod Joining

@@ -1,20 +1,15 @@
 -- What a metavariable is bound to, looked up by numbers, is what it is bound to by texts.
-use Rattle.std.proofs.Common.{◌≡◌, ℕ, ◌+◌, ◌<◌, ◌≤◌, Bool, true, false, if◌then◌else◌, List, [], ◌∷◌, length, drop, get_or, map, refl, sym, ap, ◌∙◌}
+use Rattle.std.proofs.Common.{◌≡◌, ℕ, ◌<◌, Bool, true, false, if◌then◌else◌, List, [], ◌∷◌, length, refl, sym, ap, ◌∙◌}
 use Rattle.std.specs.Prelude.{◌&&◌, nat_eq}
 use Rattle.std.specs.List.{AllByRecursion}
-use Rattle.std.proofs.lemmas.List.{drop_more, drop_all}
 use Rattle.rb_base.specs.Names.{name_at, text_eq, HasNoTwice}
 use Rattle.rb_base.proofs.NamesLemmas.{text_eq-name_at}
-use Rattle.tree_model.specs.Tree.{var, map_names, map_trees, map_statements}
+use Rattle.tree_model.specs.Tree.{map_names, map_trees, map_statements}
 use Rattle.tree_model.specs.AllNames.{AllNames, TreesNames, StatementsNames}
 use Rattle.pattern_model.specs.Patterns.{MetaOf}
 use Rattle.pattern_model.specs.Bindings.{BoundOf, a_part, a_run, a_selector, a_keyword, a_message, BindingOf, kind_number, same_meta, bound_of}
 use Rattle.pattern_model.specs.Named.{map_meta, map_bound}
 use Rattle.pattern_model.specs.Fill.{part_in, run_in, selector_in, keyword_in, arguments_in}
-use Rattle.patterns.specs.View.{meta_of}
-use Rattle.pattern_match.specs.declared.bindings.Binding.{Binding}
-use Rattle.pattern_match.specs.Bound as bound
-use Rattle.pattern_match.specs.Bound.{binding_of}
 use Rattle.filled_patterns.specs.Bound.{BoundNames, BindingNames}
 use Rattle.filled_patterns.specs.Filling.{AreKnown, bound_texts}
 
@@ -26,24 +21,6 @@ bound_known P (b ∷ bs) m hs h = by (same_meta nat_eq b.meta m) (bound_known P 
     by : (t : Bool) → BoundNames P (bound_of nat_eq bs m) → BoundNames P (if t then b.bound else bound_of nat_eq bs m)
     by true k = hs.0.1
     by false k = k
-
--- bindings that are looked through
-cut_off : (xs : List Binding) (i : ℕ) (x : Binding) → i < length xs → x ≡ get_or xs i x → drop i xs ≡ x ∷ drop (i + 1) xs
-cut_off xs i x h e = drop_more xs i x h ∙ ap (λ (y : Binding). y ∷ drop (i + 1) xs) (sym e)
-
-module _ (bs : List Binding) (i : ℕ) (m : MetaOf ℕ) (whole : BoundOf ℕ) (so_far : bound_of nat_eq (map binding_of (drop i bs)) m ≡ whole) where
-  module _ (x : Binding) (h : i < length bs) (is : x ≡ get_or bs i x) where
-    here : bound_of nat_eq (map binding_of (x ∷ drop (i + 1) bs)) m ≡ whole
-    here = ap (λ (xs : List Binding). bound_of nat_eq (map binding_of xs) m) (sym (cut_off bs i x h is)) ∙ so_far
-
-    pub found_here : same_meta nat_eq (meta_of x.meta) m ≡ true → bound.bound_of x.bound ≡ whole
-    found_here e = ap (λ t. if t then bound.bound_of x.bound else bound_of nat_eq (map binding_of (drop (i + 1) bs)) m) (sym e) ∙ here
-
-    pub found_later : same_meta nat_eq (meta_of x.meta) m ≡ false → bound_of nat_eq (map binding_of (drop (i + 1) bs)) m ≡ whole
-    found_later e = ap (λ t. if t then bound.bound_of x.bound else bound_of nat_eq (map binding_of (drop (i + 1) bs)) m) (sym e) ∙ here
-
-  pub found_nowhere : length bs ≤ i → a_part (var m.name) ≡ whole
-  found_nowhere h = ap (λ (xs : List Binding). bound_of nat_eq (map binding_of xs) m) (sym (drop_all i bs h)) ∙ so_far
 
 module _ (names : List (List ℕ)) (distinct : HasNoTwice names) where
   tested : (a b : MetaOf ℕ) → a.name < length names → b.name < length names → same_meta text_eq (map_meta (name_at names) a) (map_meta (name_at names) b) ≡ same_meta nat_eq a b

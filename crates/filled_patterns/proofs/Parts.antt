@@ -13,11 +13,12 @@ use Rattle.st_tree.specs.declared.tree.Sequence.{Sequence}
 use Rattle.patterns.specs.View.{patterns_of, messages_from, statements_from}
 use Rattle.patterns.specs.declared.tree.PatternMessage.{PatternMessage}
 use Rattle.patterns.specs.declared.tree.PatternSequence.{PatternSequence}
-use Rattle.filled_patterns.specs.Filling.{Later, Known, IsFilled, AreFilled, IsMessageFilled, AreMessagesFilled, IsSequenceFilled}
+use Rattle.filled_patterns.specs.declared.bindings.Binding.{Binding}
+use Rattle.filled_patterns.specs.Filling.{Later, Over, Known, IsFilled, AreFilled, IsMessageFilled, AreMessagesFilled, IsSequenceFilled}
 
 -- what a pattern makes in a table that may grow
-abbrev pub Fills : List (List ℕ) → List (BindingOf ℕ) → PatternOf ℕ → TreeOf ℕ → Type 0
-Fills names bs p t = (final : List (List ℕ)) → Later names final → IsFilled final bs p t
+abbrev pub Fills : List (List ℕ) → List Binding → PatternOf ℕ → TreeOf ℕ → Type 0
+Fills names ss p t = (final : List (List ℕ)) → Later names final → Over final ss (λ bs. IsFilled final bs p t)
 
 module _ (final : List (List ℕ)) (bs : List (BindingOf ℕ)) where
   pub a_variable : (n : ℕ) → Known final n → IsFilled final bs (var_like n) (var n)
@@ -108,5 +109,5 @@ pub return_is : {p q u : PatternOf ℕ} → p ≡ return_like u → q ≡ u → 
 return_is e f = e ∙ ap return_like (sym f)
 
 -- what is made of a kind is made of the pattern
-pub fills_is : (names : List (List ℕ)) (bs : List (BindingOf ℕ)) (p q : PatternOf ℕ) (t : TreeOf ℕ) → p ≡ q → Fills names bs q t → Fills names bs p t
-fills_is names bs p q t e h = subst (λ (x : PatternOf ℕ). Fills names bs x t) (sym e) h
+pub fills_is : (names : List (List ℕ)) (ss : List Binding) (p q : PatternOf ℕ) (t : TreeOf ℕ) → p ≡ q → Fills names ss q t → Fills names ss p t
+fills_is names ss p q t e h = subst (λ (x : PatternOf ℕ). Fills names ss x t) (sym e) h

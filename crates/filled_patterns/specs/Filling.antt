@@ -15,7 +15,9 @@ use Rattle.pattern_model.specs.Fill.{run_in, keyword_in, append_statements, Ende
 use Rattle.pattern_match.specs.declared.bindings.Bound.{Bound}
 use Rattle.pattern_match.specs.Bound as bound
 use Rattle.filled_patterns.specs.Bound.{BindingNames}
+use Rattle.filled_patterns.specs.declared.bindings.Binding.{Binding}
 use Rattle.filled_patterns.specs.declared.sequences.Made.{Made}
+use Rattle.filled_patterns.specs.Left.{Holds}
 
 -- what is bound, or a variable of the name
 abbrev pub bound_or : MetaOf ℕ → Option Bound → BoundOf ℕ
@@ -35,6 +37,10 @@ pub record Later (names final : List (List ℕ)) : Type 0 where
 -- each name in what metavariables are bound to has a number
 abbrev pub AreKnown : List (List ℕ) → List (BindingOf ℕ) → Type 0
 AreKnown names bs = AllByRecursion (BindingNames (λ n. n < length names)) bs
+
+-- true of all bindings that are held, where their names have numbers
+abbrev pub Over : List (List ℕ) → List Binding → (List (BindingOf ℕ) → Type 0) → Type 0
+Over names s R = (bs : List (BindingOf ℕ)) → Holds bs s → AreKnown names bs → R bs
 
 -- statements that are made, and the comments that wait for the next one
 abbrev pub State : Type 0

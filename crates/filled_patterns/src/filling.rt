@@ -11,13 +11,13 @@ ghost use Rattle.pattern_model.specs.Fill.{fill};
 ghost use Rattle.pattern_model.specs.Named.{map_pattern, map_binding};
 ghost use Rattle.patterns.specs.View.{selector_of, patterns_of, messages_from, statements_from};
 ghost use Rattle.patterns.specs.Names.{PatternNames, SelectorNames, PatternsNames, MessagesLikeNames, StatementsLikeNames};
-ghost use Rattle.pattern_match.specs.Bound.{binding_of};
-ghost use Rattle.filled_patterns.specs.Bound.{BindingNames};
-ghost use Rattle.filled_patterns.specs.Filling.{Later, AreKnown, state_of, IsFilled, AreFilled, IsMessageFilled, AreMessagesFilled, IsPut, IsSequenceFilled};
+ghost use Rattle.filled_patterns.specs.Left.{Leaves};
+ghost use Rattle.filled_patterns.specs.Filling.{Later, Over, state_of, IsFilled, AreFilled, IsMessageFilled, AreMessagesFilled, IsPut, IsSequenceFilled};
 
+use crate::bindings::Binding;
 use crate::sequences::{Made, noted, put_all, put_one};
 use crate::standing::{arguments_for, filled_selector, part_for, run_for};
-use pattern_match::{Binding, list_meta};
+use pattern_match::list_meta;
 use patterns::{
     Pattern, PatternKind, PatternMessage, PatternSelector, PatternSequence, PatternStatement,
 };
@@ -28,7 +28,7 @@ use st_tree::{
 use std::alloc::Global;
 
 /// The most levels of a tree that is made.
-const MOST_LEVELS: usize = 2000;
+pub const MOST_LEVELS: usize = 2000;
 
 /// The node of a pattern.
 #[cycle(filling)]
@@ -36,12 +36,12 @@ const MOST_LEVELS: usize = 2000;
 fn filled_node(
     alloc: Global,
     names: &mut Names,
-    bindings: &[Binding],
+    bindings: &mut [Binding],
     pattern: &Pattern,
 ) -> Result<Node, Memory>
-    requires bindings { AreKnown names.old (map binding_of bindings.now) }
     requires pattern { PatternNames (λ n. n < length names.old) pattern.now }
-    ensures filled { IfOk result (λ node. (final : List (List ℕ)) → Later names.new final → IsFilled final (map binding_of bindings.now) pattern.now node) }
+    ensures filled { IfOk result (λ node. (final : List (List ℕ)) → Later names.new final → Over final bindings.old (λ bs. IsFilled final bs pattern.now node)) }
+    ensures left { Leaves bindings.old bindings.new }
     ensures grows { Grows names.old names.new }
 {
     match &pattern.kind {
@@ -83,12 +83,12 @@ fn filled_literal(alloc: Global, value: &Literal) -> Result<Node, Memory>
 fn boxed_node(
     alloc: Global,
     names: &mut Names,
-    bindings: &[Binding],
+    bindings: &mut [Binding],
     pattern: &Pattern,
 ) -> Result<Box<Node>, Memory>
-    requires bindings { AreKnown names.old (map binding_of bindings.now) }
     requires pattern { PatternNames (λ n. n < length names.old) pattern.now }
-    ensures filled { IfOk result (λ node. (final : List (List ℕ)) → Later names.new final → IsFilled final (map binding_of bindings.now) pattern.now node.value) }
+    ensures filled { IfOk result (λ node. (final : List (List ℕ)) → Later names.new final → Over final bindings.old (λ bs. IsFilled final bs pattern.now node.value)) }
+    ensures left { Leaves bindings.old bindings.new }
     ensures grows { Grows names.old names.new }
 {
     let node = filled_node(alloc, names, bindings, pattern)?;
@@ -101,15 +101,15 @@ fn boxed_node(
 fn filled_send(
     alloc: Global,
     names: &mut Names,
-    bindings: &[Binding],
+    bindings: &mut [Binding],
     receiver: &Pattern,
     message: &PatternMessage,
 ) -> Result<Node, Memory>
-    requires bindings { AreKnown names.old (map binding_of bindings.now) }
     requires receiver { PatternNames (λ n. n < length names.old) receiver.now }
     requires selector { SelectorNames (λ n. n < length names.old) (selector_of message.now.selector) }
     requires arguments { PatternsNames (λ n. n < length names.old) (patterns_of message.now.arguments.items) }
-    ensures filled { IfOk result (λ node. (final : List (List ℕ)) → Later names.new final → IsFilled final (map binding_of bindings.now) (send_like receiver.now (selector_of message.now.selector) (patterns_of message.now.arguments.items)) node) }
+    ensures filled { IfOk result (λ node. (final : List (List ℕ)) → Later names.new final → Over final bindings.old (λ bs. IsFilled final bs (send_like receiver.now (selector_of message.now.selector) (patterns_of message.now.arguments.items)) node)) }
+    ensures left { Leaves bindings.old bindings.new }
     ensures grows { Grows names.old names.new }
 {
     let receiver = boxed_node(alloc, names, bindings, receiver)?;
@@ -129,14 +129,14 @@ fn filled_send(
 fn filled_cascade(
     alloc: Global,
     names: &mut Names,
-    bindings: &[Binding],
+    bindings: &mut [Binding],
     receiver: &Pattern,
     messages: &[PatternMessage],
 ) -> Result<Node, Memory>
-    requires bindings { AreKnown names.old (map binding_of bindings.now) }
     requires receiver { PatternNames (λ n. n < length names.old) receiver.now }
     requires messages { MessagesLikeNames (λ n. n < length names.old) (messages_from messages.now) }
-    ensures filled { IfOk result (λ node. (final : List (List ℕ)) → Later names.new final → IsFilled final (map binding_of bindings.now) (cascade_like receiver.now (messages_from messages.now)) node) }
+    ensures filled { IfOk result (λ node. (final : List (List ℕ)) → Later names.new final → Over final bindings.old (λ bs. IsFilled final bs (cascade_like receiver.now (messages_from messages.now)) node)) }
+    ensures left { Leaves bindings.old bindings.new }
     ensures grows { Grows names.old names.new }
 {
     let receiver = boxed_node(alloc, names, bindings, receiver)?;
@@ -152,14 +152,14 @@ fn filled_cascade(
 fn filled_assignment(
     alloc: Global,
     names: &mut Names,
-    bindings: &[Binding],
+    bindings: &mut [Binding],
     name: NameId,
     value: &Pattern,
 ) -> Result<Node, Memory>
-    requires bindings { AreKnown names.old (map binding_of bindings.now) }
     requires name { name < length names.old }
     requires value { PatternNames (λ n. n < length names.old) value.now }
-    ensures filled { IfOk result (λ node. (final : List (List ℕ)) → Later names.new final → IsFilled final (map binding_of bindings.now) (assign_like name value.now) node) }
+    ensures filled { IfOk result (λ node. (final : List (List ℕ)) → Later names.new final → Over final bindings.old (λ bs. IsFilled final bs (assign_like name value.now) node)) }
+    ensures left { Leaves bindings.old bindings.new }
     ensures grows { Grows names.old names.new }
 {
     let value = boxed_node(alloc, names, bindings, value)?;
@@ -174,15 +174,15 @@ fn filled_assignment(
 fn filled_block(
     alloc: Global,
     names: &mut Names,
-    bindings: &[Binding],
+    bindings: &mut [Binding],
     parameters: &Ids,
     body: &PatternSequence,
 ) -> Result<Node, Memory>
-    requires bindings { AreKnown names.old (map binding_of bindings.now) }
     requires parameters { AllByRecursion (λ n. n < length names.old) parameters.now }
     requires temporaries { AllByRecursion (λ n. n < length names.old) body.now.temporaries }
     requires statements { StatementsLikeNames (λ n. n < length names.old) (statements_from body.now.statements.items) }
-    ensures filled { IfOk result (λ node. (final : List (List ℕ)) → Later names.new final → IsFilled final (map binding_of bindings.now) (block_like parameters.now body.now.temporaries (statements_from body.now.statements.items) body.now.tail) node) }
+    ensures filled { IfOk result (λ node. (final : List (List ℕ)) → Later names.new final → Over final bindings.old (λ bs. IsFilled final bs (block_like parameters.now body.now.temporaries (statements_from body.now.statements.items) body.now.tail) node)) }
+    ensures left { Leaves bindings.old bindings.new }
     ensures grows { Grows names.old names.new }
 {
     let sequence = filled_sequence(alloc, names, bindings, body)?;
@@ -199,12 +199,12 @@ fn filled_block(
 fn filled_brace(
     alloc: Global,
     names: &mut Names,
-    bindings: &[Binding],
+    bindings: &mut [Binding],
     patterns: &[Pattern],
 ) -> Result<Node, Memory>
-    requires bindings { AreKnown names.old (map binding_of bindings.now) }
     requires patterns { PatternsNames (λ n. n < length names.old) (patterns_of patterns.now) }
-    ensures filled { IfOk result (λ node. (final : List (List ℕ)) → Later names.new final → IsFilled final (map binding_of bindings.now) (brace_like (patterns_of patterns.now)) node) }
+    ensures filled { IfOk result (λ node. (final : List (List ℕ)) → Later names.new final → Over final bindings.old (λ bs. IsFilled final bs (brace_like (patterns_of patterns.now)) node)) }
+    ensures left { Leaves bindings.old bindings.new }
     ensures grows { Grows names.old names.new }
 {
     let items = filled_nodes(alloc, names, bindings, patterns)?;
@@ -219,12 +219,12 @@ fn filled_brace(
 fn filled_return(
     alloc: Global,
     names: &mut Names,
-    bindings: &[Binding],
+    bindings: &mut [Binding],
     value: &Pattern,
 ) -> Result<Node, Memory>
-    requires bindings { AreKnown names.old (map binding_of bindings.now) }
     requires value { PatternNames (λ n. n < length names.old) value.now }
-    ensures filled { IfOk result (λ node. (final : List (List ℕ)) → Later names.new final → IsFilled final (map binding_of bindings.now) (return_like value.now) node) }
+    ensures filled { IfOk result (λ node. (final : List (List ℕ)) → Later names.new final → Over final bindings.old (λ bs. IsFilled final bs (return_like value.now) node)) }
+    ensures left { Leaves bindings.old bindings.new }
     ensures grows { Grows names.old names.new }
 {
     let value = boxed_node(alloc, names, bindings, value)?;
@@ -239,12 +239,12 @@ fn filled_return(
 fn filled_nodes(
     alloc: Global,
     names: &mut Names,
-    bindings: &[Binding],
+    bindings: &mut [Binding],
     patterns: &[Pattern],
 ) -> Result<Nodes, Memory>
-    requires bindings { AreKnown names.old (map binding_of bindings.now) }
     requires patterns { PatternsNames (λ n. n < length names.old) (patterns_of patterns.now) }
-    ensures filled { IfOk result (λ nodes. (final : List (List ℕ)) → Later names.new final → AreFilled final (map binding_of bindings.now) (patterns_of patterns.now) (trees_of nodes)) }
+    ensures filled { IfOk result (λ nodes. (final : List (List ℕ)) → Later names.new final → Over final bindings.old (λ bs. AreFilled final bs (patterns_of patterns.now) (trees_of nodes))) }
+    ensures left { Leaves bindings.old bindings.new }
     ensures grows { Grows names.old names.new }
 {
     let mut nodes = Vec::new(alloc);
@@ -261,13 +261,13 @@ fn filled_nodes(
 fn filled_message(
     alloc: Global,
     names: &mut Names,
-    bindings: &[Binding],
+    bindings: &mut [Binding],
     message: &PatternMessage,
 ) -> Result<Message, Memory>
-    requires bindings { AreKnown names.old (map binding_of bindings.now) }
     requires selector { SelectorNames (λ n. n < length names.old) (selector_of message.now.selector) }
     requires arguments { PatternsNames (λ n. n < length names.old) (patterns_of message.now.arguments.items) }
-    ensures filled { IfOk result (λ made. (final : List (List ℕ)) → Later names.new final → IsMessageFilled final (map binding_of bindings.now) (selector_of message.now.selector) (patterns_of message.now.arguments.items) made.selector (trees_of made.arguments)) }
+    ensures filled { IfOk result (λ made. (final : List (List ℕ)) → Later names.new final → Over final bindings.old (λ bs. IsMessageFilled final bs (selector_of message.now.selector) (patterns_of message.now.arguments.items) made.selector (trees_of made.arguments))) }
+    ensures left { Leaves bindings.old bindings.new }
     ensures grows { Grows names.old names.new }
 {
     let selector = filled_selector(alloc, names, bindings, &message.selector)?;
@@ -295,12 +295,12 @@ fn filled_message(
 fn filled_messages(
     alloc: Global,
     names: &mut Names,
-    bindings: &[Binding],
+    bindings: &mut [Binding],
     patterns: &[PatternMessage],
 ) -> Result<Messages, Memory>
-    requires bindings { AreKnown names.old (map binding_of bindings.now) }
     requires patterns { MessagesLikeNames (λ n. n < length names.old) (messages_from patterns.now) }
-    ensures filled { IfOk result (λ messages. (final : List (List ℕ)) → Later names.new final → AreMessagesFilled final (map binding_of bindings.now) (messages_from patterns.now) (messages_of messages)) }
+    ensures filled { IfOk result (λ messages. (final : List (List ℕ)) → Later names.new final → Over final bindings.old (λ bs. AreMessagesFilled final bs (messages_from patterns.now) (messages_of messages))) }
+    ensures left { Leaves bindings.old bindings.new }
     ensures grows { Grows names.old names.new }
 {
     let mut messages = Vec::new(alloc);
@@ -317,19 +317,20 @@ fn filled_messages(
 fn put_statement(
     alloc: Global,
     names: &mut Names,
-    bindings: &[Binding],
+    bindings: &mut [Binding],
     statement: &PatternStatement,
     made: Made,
 ) -> Result<Made, Memory>
-    requires bindings { AreKnown names.old (map binding_of bindings.now) }
     requires statement { PatternNames (λ n. n < length names.old) statement.now.node }
-    ensures filled { IfOk result (λ after. (final : List (List ℕ)) → Later names.new final → IsPut final (map binding_of bindings.now) statement.now.comments statement.now.node (state_of made) (state_of after)) }
+    ensures filled { IfOk result (λ after. (final : List (List ℕ)) → Later names.new final → Over final bindings.old (λ bs. IsPut final bs statement.now.comments statement.now.node (state_of made) (state_of after))) }
+    ensures left { Leaves bindings.old bindings.new }
     ensures grows { Grows names.old names.new }
 {
     match list_meta(statement) {
         Some(meta) => {
             let made = noted(alloc, &statement.comments, made)?;
-            put_all(alloc, run_for(bindings, &meta), made)
+            let run = run_for(alloc, bindings, &meta)?;
+            put_all(alloc, run, made)
         }
         None => {
             let node = filled_node(alloc, names, bindings, &statement.node)?;
@@ -344,13 +345,13 @@ fn put_statement(
 fn filled_sequence(
     alloc: Global,
     names: &mut Names,
-    bindings: &[Binding],
+    bindings: &mut [Binding],
     body: &PatternSequence,
 ) -> Result<Sequence, Memory>
-    requires bindings { AreKnown names.old (map binding_of bindings.now) }
     requires statements { StatementsLikeNames (λ n. n < length names.old) (statements_from body.now.statements.items) }
     ensures temporaries { IfOk result (λ made. made.temporaries ≡ body.now.temporaries) }
-    ensures filled { IfOk result (λ made. (final : List (List ℕ)) → Later names.new final → IsSequenceFilled final (map binding_of bindings.now) (statements_from body.now.statements.items) body.now.tail (statements_of made.statements) made.tail) }
+    ensures filled { IfOk result (λ made. (final : List (List ℕ)) → Later names.new final → Over final bindings.old (λ bs. IsSequenceFilled final bs (statements_from body.now.statements.items) body.now.tail (statements_of made.statements) made.tail)) }
+    ensures left { Leaves bindings.old bindings.new }
     ensures grows { Grows names.old names.new }
 {
     let mut made = Made {
@@ -370,23 +371,25 @@ fn filled_sequence(
 }
 
 /// The node that results when each metavariable of a pattern is replaced by what it is bound to. The names of selectors that
-/// keywords make are added to the table, where they are new. The error is want of memory, which also stands for a tree of more
-/// than 2,000 levels, since walks through trees take stack.
+/// keywords make are added to the table, where they are new. What is bound moves to its place where it is wanted once. The
+/// error is want of memory. Where the node may be too high, this also stands for a tree of more than `MOST_LEVELS` levels, since
+/// walks through trees take stack.
 pub fn fill(
     alloc: Global,
     names: &mut Names,
-    bindings: &[Binding],
+    bindings: &mut [Binding],
     pattern: &Pattern,
+    may_be_high: bool,
 ) -> Result<Node, Memory>
     requires pattern { PatternNames (λ n. n < length names.old) pattern.now }
-    requires bindings { AllByRecursion (BindingNames (λ n. n < length names.old)) (map binding_of bindings.now) }
-    ensures filled { IfOk result (λ node. map_names (name_at names.new) node
-        ≡ fill text_eq concat (map (map_binding (name_at names.new)) (map binding_of bindings.now)) (map_pattern (name_at names.new) pattern.now)) }
-    ensures known { IfOk result (λ node. AllNames (λ n. n < length names.new) node) }
+    ensures filled { IfOk result (λ node. Over names.new bindings.old (λ bs. map_names (name_at names.new) node
+        ≡ fill text_eq concat (map (map_binding (name_at names.new)) bs) (map_pattern (name_at names.new) pattern.now))) }
+    ensures known { IfOk result (λ node. Over names.new bindings.old (λ bs. AllNames (λ n. n < length names.new) node)) }
     ensures grows { Grows names.old names.new }
 {
     let node = filled_node(alloc, names, bindings, pattern)?;
-    if height(&node) > MOST_LEVELS {
+    let too_high = may_be_high && height(&node) > MOST_LEVELS;
+    if too_high {
         return Err(Memory);
     }
     // No text of the table has two numbers.

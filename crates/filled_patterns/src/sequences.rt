@@ -3,7 +3,7 @@ ghost use Rattle.std.specs.Prelude.{◌≡◌, IfOk};
 ghost use Rattle.filled_patterns.specs.Filling.{state_of, put_one, put_all, with_notes};
 
 use rb_base::Memory;
-use st_tree::{Comments, Node, Statement};
+use st_tree::{Comments, Node, Statement, Statements};
 use std::alloc::Global;
 
 /// Statements that are made, and the comments that wait for the next one.
@@ -50,14 +50,14 @@ pub(crate) fn put_one(
     })
 }
 
-/// Puts copies of statements behind the others.
-pub(crate) fn put_all(alloc: Global, run: &[Statement], made: Made) -> Result<Made, Memory>
-    ensures { IfOk result (λ after. state_of after ≡ put_all (state_of made) run.now) }
+/// Puts statements behind the others.
+pub(crate) fn put_all(alloc: Global, run: Statements, made: Made) -> Result<Made, Memory>
+    ensures { IfOk result (λ after. state_of after ≡ put_all (state_of made) run) }
 {
     let mut all = made;
-    for statement in run {
-        let node = statement.node.try_copy(alloc)?;
-        all = put_one(alloc, &statement.comments, node, all)?;
+    for statement in run.into_vec() {
+        let Statement { comments, node } = statement;
+        all = put_one(alloc, &comments, node, all)?;
     }
     Ok(all)
 }

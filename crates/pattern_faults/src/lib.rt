@@ -3,7 +3,6 @@
 
 mod fault;
 mod lists;
-mod metas;
 mod places;
 mod reading;
 mod searching;

@@ -9,11 +9,11 @@ ghost use Rattle.pattern_faults.specs.Told.{cause_of, IsRefused, IsRefusedRule};
 
 use crate::fault::{PatternFault, RuleFault};
 use crate::lists::{Search, walk_node};
-use crate::metas::put_metas;
 use crate::places::meta_places;
 use crate::searching::{first_again, first_unknown, placed_metas};
 use event_spans::Places;
 use event_trees::build_doit;
+use pattern_match::put_metas;
 use pattern_trees::pattern_of;
 use patterns::{Pattern, Rule};
 use rb_base::Names;

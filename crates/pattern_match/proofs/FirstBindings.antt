@@ -12,10 +12,10 @@ use Rattle.pattern_laws.proofs.SameMetas.{meta_refl, meta_left}
 use Rattle.pattern_match.specs.Words.{number_words}
 use Rattle.patterns.specs.View.{meta_of}
 use Rattle.pattern_match.specs.declared.standing.Place.{Place}
-use Rattle.pattern_match.specs.declared.bindings.Binding.{Binding}
+use Rattle.pattern_match.specs.declared.bindings.Held.{Held}
 use Rattle.pattern_match.specs.Gathering.{bound_from, place_of, kept}
 use Rattle.pattern_match.specs.FirstPlaces.{no_place}
-use Rattle.pattern_match.specs.Bound.{bound_of, binding_of, taken, left, with_others}
+use Rattle.pattern_match.specs.Bound.{held_of, taken, left, with_others}
 use Rattle.pattern_match.proofs.FirstPlaces.{place_at, first_number, places_within}
 use Rattle.pattern_match.proofs.Told.{one_test, number_refl, number_told}
 
@@ -145,9 +145,9 @@ any_map : (m : MetaOf ℕ) (ps : List Place) → list_any (λ x. same_meta nat_e
 any_map m [] = refl
 any_map m (p ∷ ps) = ap (λ b. doubled_at m (place_of p) || b) (any_map m ps)
 
-map_last : (bs : List Binding) (b : Binding) → map binding_of (bs ++ b ∷ []) ≡ map binding_of bs ++ binding_of b ∷ []
+map_last : (bs : List Held) (b : Held) → map held_of (bs ++ b ∷ []) ≡ map held_of bs ++ held_of b ∷ []
 map_last [] b = refl
-map_last (d ∷ bs) b = ap (λ (cs : List (BindingOf ℕ)). binding_of d ∷ cs) (map_last bs b)
+map_last (d ∷ bs) b = ap (λ (cs : List (BindingOf ℕ)). held_of d ∷ cs) (map_last bs b)
 
 module _ (ps : List Place) (i : ℕ) (p : Place) (h : i < length ps) (is : p ≡ get_or ps i p) (n : ℕ) (first : n ≡ unwrap_or (position (λ x. same_meta nat_eq (meta_of x.meta) (meta_of p.meta)) ps) (length ps)) where
   xs : List (PlaceOf ℕ)
@@ -166,15 +166,15 @@ module _ (ps : List Place) (i : ℕ) (p : Place) (h : i < length ps) (is : p ≡
       (taken_before (meta_of p.meta) (map place_of ps) n i (first_number ps i p h is n first) less (let l : i < length (map place_of ps) = places_within ps i p h is n first in omega (arith, l))) refl
 
   -- any other is bound now
-  pub bound_now : (bs cs : List Binding) (b : Binding) → (n < i → ⊥) → cs ≡ bs ++ b ∷ [] → b.meta.kind ≡ p.meta.kind → b.meta.name ≡ p.meta.name
-      → b.meta.doubled ≡ list_any (λ x. same_meta nat_eq (meta_of p.meta) (meta_of x.meta) && x.meta.doubled) ps → bound_of b.bound ≡ bound_from p.bound
-      → with_others (map place_of ps) (i + 1) (map binding_of cs) ≡ with_others (map place_of ps) i (map binding_of bs)
+  pub bound_now : (bs cs : List Held) (b : Held) → (n < i → ⊥) → cs ≡ bs ++ b ∷ [] → b.meta.kind ≡ p.meta.kind → b.meta.name ≡ p.meta.name
+      → b.meta.doubled ≡ list_any (λ x. same_meta nat_eq (meta_of p.meta) (meta_of x.meta) && x.meta.doubled) ps → bound_from b.bound ≡ bound_from p.bound
+      → with_others (map place_of ps) (i + 1) (map held_of cs) ≡ with_others (map place_of ps) i (map held_of bs)
   bound_now bs cs b late more kind name doubled bound =
       let free : taken (take i (map place_of ps)) (meta_of p.meta) ≡ false = not_before (meta_of p.meta) (map place_of ps) n i (first_number ps i p h is n first) (omega (arith, late)) in
       let flag : b.meta.doubled ≡ (binding_at (place_of p) (drop (i + 1) (map place_of ps))).meta.doubled = doubled ∙ any_map (meta_of p.meta) ps ∙ doubled_somewhere (map place_of ps) i (place_of p) cut free in
-      let made : binding_of b ≡ binding_at (place_of p) (drop (i + 1) (map place_of ps)) = λ j. record { meta = record { kind = kind j; name = name j; doubled = flag j }; bound = bound j } in
-      put (map place_of ps) i (place_of p) cut front (map binding_of bs) (map binding_of cs) (with_others (map place_of ps) i (map binding_of bs)) free
-      (ap (map binding_of) more ∙ map_last bs b ∙ ap (λ (d : BindingOf ℕ). map binding_of bs ++ d ∷ []) made) refl
+      let made : held_of b ≡ binding_at (place_of p) (drop (i + 1) (map place_of ps)) = λ j. record { meta = record { kind = kind j; name = name j; doubled = flag j }; bound = bound j } in
+      put (map place_of ps) i (place_of p) cut front (map held_of bs) (map held_of cs) (with_others (map place_of ps) i (map held_of bs)) free
+      (ap (map held_of) more ∙ map_last bs b ∙ ap (λ (d : BindingOf ℕ). map held_of bs ++ d ∷ []) made) refl
 
 -- all are bound
 pub all_bound : (xs : List (PlaceOf ℕ)) (i : ℕ) (bs : List (BindingOf ℕ)) → length xs ≤ i → with_others xs i bs ≡ with_others xs 0 [] → bs ≡ bindings_of (number_words []) xs

@@ -10,7 +10,8 @@ use Rattle.pattern_match.specs.Words.{number_words}
 use Rattle.patterns.specs.View.{meta_of}
 use Rattle.pattern_match.specs.declared.bindings.Bound.{Bound}
 use Rattle.pattern_match.specs.declared.bindings.Bound.TheVariants as bound
-use Rattle.pattern_match.specs.declared.bindings.Binding.{Binding}
+use Rattle.pattern_match.specs.declared.bindings.Held.{Held}
+use Rattle.pattern_match.specs.Gathering.{bound_from}
 
 -- what is bound
 abbrev pub bound_of : Bound → BoundOf ℕ
@@ -20,9 +21,9 @@ bound_of (bound.Selector n) = a_selector n
 bound_of (bound.Keyword k) = a_keyword k
 bound_of (bound.Whole m) = a_message m.selector (trees_of m.arguments)
 
--- a binding
-abbrev pub binding_of : Binding → BindingOf ℕ
-binding_of b = record { meta = meta_of b.meta; bound = bound_of b.bound }
+-- a binding by reference
+abbrev pub held_of : Held → BindingOf ℕ
+held_of h = record { meta = meta_of h.meta; bound = bound_from h.bound }
 
 -- whether a metavariable has one of these places
 abbrev pub taken : List (PlaceOf ℕ) → MetaOf ℕ → Bool

@@ -6,7 +6,7 @@ ghost use Rattle.pattern_model.specs.MatchTree.{bindings_of, match_tree};
 ghost use Rattle.patterns.specs.View.{meta_of};
 ghost use Rattle.pattern_match.specs.Words.{number_words};
 ghost use Rattle.pattern_match.specs.Gathering.{bound_from, place_of};
-ghost use Rattle.pattern_match.specs.Bound.{bound_of, binding_of, with_others};
+ghost use Rattle.pattern_match.specs.Bound.{bound_of, held_of, with_others};
 
 use crate::agreeing::{first_place, same_meta};
 use crate::matching::match_places;
@@ -31,12 +31,12 @@ pub enum Bound {
     Whole(Message),
 }
 
-/// A metavariable and what it is bound to.
+/// A metavariable and what stands for it.
 #[derive(Drop)]
-pub struct Binding {
+pub struct Held<'n> {
     /// The metavariable, doubled where it is doubled at some place.
     pub meta: Meta,
-    pub bound: Bound,
+    pub bound: Standing<'n>,
 }
 
 /// A copy of nodes.
@@ -63,8 +63,8 @@ fn copied_run(alloc: Global, run: &[Statement]) -> Result<Statements, Memory>
     Ok(Statements::from_vec(items))
 }
 
-/// A copy of what stands at a place.
-fn copied(alloc: Global, standing: &Standing<'_>) -> Result<Bound, Memory>
+/// A copy of what stands for a metavariable.
+pub fn copied(alloc: Global, standing: &Standing<'_>) -> Result<Bound, Memory>
     ensures { IfOk result (λ bound. bound_of bound ≡ bound_from standing.now) }
 {
     match standing {
@@ -82,6 +82,19 @@ fn copied(alloc: Global, standing: &Standing<'_>) -> Result<Bound, Memory>
     }
 }
 
+/// The same part, which is not copied.
+fn by_reference<'n>(alloc: Global, standing: &Standing<'n>) -> Result<Standing<'n>, Memory>
+    ensures { IfOk result (λ same. bound_from same ≡ bound_from standing.now) }
+{
+    match standing {
+        Standing::Part(node) => Ok(Standing::Part(*node)),
+        Standing::Run(run) => Ok(Standing::Run(*run)),
+        Standing::Selector(selector) => Ok(Standing::Selector(*selector)),
+        Standing::Keyword(keyword) => Ok(Standing::Keyword(keyword.try_copy(alloc)?)),
+        Standing::Message(selector, arguments) => Ok(Standing::Message(*selector, *arguments)),
+    }
+}
+
 /// Whether the metavariable is doubled at some place.
 fn is_doubled(places: &[Place<'_>], meta: Meta) -> bool
     ensures { result ≡ list_any (λ x. same_meta nat_eq (meta_of meta) (meta_of x.meta) && x.meta.doubled) places.now }
@@ -92,14 +105,14 @@ fn is_doubled(places: &[Place<'_>], meta: Meta) -> bool
 }
 
 /// Binds the metavariable of a place to what stands there, where no earlier place has it.
-fn bind(
+fn bind<'n>(
     alloc: Global,
-    places: &[Place<'_>],
+    places: &[Place<'n>],
     at: usize,
-    bindings: &mut Vec<Binding>,
+    bindings: &mut Vec<Held<'n>>,
 ) -> Result<(), Memory>
     requires { at < length places.now }
-    ensures { OnOk result (with_others (map place_of places.now) (at + 1) (map binding_of bindings.new.items) ≡ with_others (map place_of places.now) at (map binding_of bindings.old.items)) }
+    ensures { OnOk result (with_others (map place_of places.now) (at + 1) (map held_of bindings.new.items) ≡ with_others (map place_of places.now) at (map held_of bindings.old.items)) }
 {
     let place = &places[at];
     let first = first_place(places, place.meta);
@@ -113,14 +126,14 @@ fn bind(
         name: place.meta.name,
         doubled,
     };
-    let bound = copied(alloc, &place.bound)?;
-    bindings.push(Binding { meta, bound })?;
+    let bound = by_reference(alloc, &place.bound)?;
+    bindings.push(Held { meta, bound })?;
     Ok(())
 }
 
 /// Each metavariable bound to what stands at its first place.
-fn bindings_of(alloc: Global, places: &[Place<'_>]) -> Result<Vec<Binding>, Memory>
-    ensures { IfOk result (λ bindings. map binding_of bindings.items ≡ bindings_of (number_words []) (map place_of places.now)) }
+fn bindings_of<'n>(alloc: Global, places: &[Place<'n>]) -> Result<Vec<Held<'n>>, Memory>
+    ensures { IfOk result (λ bindings. map held_of bindings.items ≡ bindings_of (number_words []) (map place_of places.now)) }
 {
     let mut bindings = Vec::new(alloc);
     for i in 0..places.len() {
@@ -130,13 +143,13 @@ fn bindings_of(alloc: Global, places: &[Place<'_>]) -> Result<Vec<Binding>, Memo
 }
 
 /// The bindings with which a pattern is the node, comments aside; None exactly where there are none.
-pub fn match_at(
+pub fn match_at<'n>(
     alloc: Global,
     names: &Names,
     pattern: &Pattern,
-    node: &Node,
-) -> Result<Option<Vec<Binding>>, Memory>
-    ensures { IfOk result (λ found. option_map (λ bs. map binding_of bs.items) found ≡ match_tree (number_words names.now) pattern.now node.now) }
+    node: &'n Node,
+) -> Result<Option<Vec<Held<'n>>>, Memory>
+    ensures { IfOk result (λ found. option_map (λ bs. map held_of bs.items) found ≡ match_tree (number_words names.now) pattern.now node.now) }
 {
     let found = match_places(alloc, names, pattern, node)?;
     match found {

@@ -58,6 +58,10 @@ module _ {names later : List (List ℕ)} (g : Grows names later) where
   pub binding_known : (b : BindingOf ℕ) → BindingNames (Known names) b → BindingNames (Known later) b
   binding_known b h = (still_known b.meta.name h.0, bound_known b.bound h.1)
 
+  pub bindings_known : (bs : List (BindingOf ℕ)) → AllByRecursion (BindingNames (Known names)) bs → AllByRecursion (BindingNames (Known later)) bs
+  bindings_known [] h = tt
+  bindings_known (b ∷ bs) h = (binding_known b h.0, bindings_known bs h.1)
+
   -- what is known has the same texts
   pub same_tree : (t : TreeOf ℕ) → AllNames (Known names) t → map_names (name_at later) t ≡ map_names (name_at names) t
   same_tree t h = map_names-same (name_at later) (name_at names) t (AllNames-implies (Known names) (λ n. name_at later n ≡ name_at names n) same_text t h)

@@ -15,9 +15,9 @@ use Rattle.pattern_model.specs.MatchTree.{PlaceOf, FoundOf, placed, where_holds,
 use Rattle.pattern_laws.proofs.SameMetas.{all_kept}
 use Rattle.pattern_laws.proofs.Heights.{bound_height, IsPlaceWithin, IsWithin, high}
 use Rattle.pattern_laws.proofs.Searching.{match_within}
-use Rattle.pattern_match.specs.Bound.{binding_of}
+use Rattle.pattern_match.specs.Bound.{held_of}
 use Rattle.pattern_match.specs.Words.{number_words}
-use Rattle.pattern_match.specs.declared.bindings.Binding.{Binding}
+use Rattle.pattern_match.specs.declared.bindings.Held.{Held}
 use Rattle.rewritten_code.specs.Changed.{is_whole}
 use Rattle.rewritten_code.specs.Lower.{height_bound, doubled_height, bindings_height}
 
@@ -77,16 +77,16 @@ module _ {N : Type 0} (w : PatternWordsOf N) where
   match_low n (var_like x) t bs e s h = subst (MaybeLow n) e (low_places n (match_places w (var_like x) t) (match_within w n (var_like x) t h))
   match_low n p t bs e s h = subst (MaybeLow n) e (low_places n (match_places w p t) (match_within w n p t h))
 
-low_all : (n : ℕ) (bs : List Binding) → AllByRecursion (λ (b : BindingOf ℕ). doubled_height b ≤ n) (map binding_of bs) → bindings_height bs ≤ n
+low_all : (n : ℕ) (bs : List Held) → AllByRecursion (λ (b : BindingOf ℕ). doubled_height b ≤ n) (map held_of bs) → bindings_height bs ≤ n
 low_all n [] h = omega arith
 low_all n (b ∷ bs) h = let one = h.0 in let others = low_all n bs h.1 in omega (arith, one, others)
 
-pub match_lower : (names : List (List ℕ)) (p : PatternOf ℕ) (t : TreeOf ℕ) (bs : List Binding) → match_tree (number_words names) p t ≡ Some (map binding_of bs) → is_whole p ≡ false → bindings_height bs < height t
+pub match_lower : (names : List (List ℕ)) (p : PatternOf ℕ) (t : TreeOf ℕ) (bs : List Held) → match_tree (number_words names) p t ≡ Some (map held_of bs) → is_whole p ≡ false → bindings_height bs < height t
 match_lower names p t bs e s =
     let one = high t in
     let n : ℕ = height t - 1 in
     let small : height t ≤ n + 1 = omega (arith, one) in
-    let low = low_all n bs (match_low (number_words names) n p t (map binding_of bs) e s small) in
+    let low = low_all n bs (match_low (number_words names) n p t (map held_of bs) e s small) in
     omega (arith, low, one)
 
 -- each item of a list is no higher than the list
@@ -105,7 +105,7 @@ height_statement [] i s h e = absurd (omega arith)
 height_statement (k ∷ ss) zero s h e = omega (arith, ap (λ (n : Statement). height n.node) e)
 height_statement (k ∷ ss) (suc i) s h e = omega (arith, height_statement ss i s (omega arith) e)
 
-pub height_binding : (bs : List Binding) (i : ℕ) (b : Binding) → i < length bs → b ≡ get_or bs i b → doubled_height (binding_of b) ≤ bindings_height bs
+pub height_binding : (bs : List Held) (i : ℕ) (b : Held) → i < length bs → b ≡ get_or bs i b → doubled_height (held_of b) ≤ bindings_height bs
 height_binding [] i b h e = absurd (omega arith)
-height_binding (d ∷ bs) zero b h e = omega (arith, ap (λ (n : Binding). doubled_height (binding_of n)) e)
+height_binding (d ∷ bs) zero b h e = omega (arith, ap (λ (n : Held). doubled_height (held_of n)) e)
 height_binding (d ∷ bs) (suc i) b h e = omega (arith, height_binding bs i b (omega arith) e)

@@ -1,20 +1,23 @@
--- A loop that changes each item of a list in place, and what the items make together.
-use Rattle.std.proofs.Common.{◌≡◌, ℕ, zero, suc, ◌+◌, ◌<◌, List, [], ◌∷◌, ◌++◌, length, get_or, take, map, refl, sym, ap, subst, ◌∙◌, arith}
+-- A loop that makes what becomes of each item of a list, and what the items make together.
+use Rattle.std.proofs.Common.{◌≡◌, ℕ, zero, suc, ◌+◌, ◌<◌, ◌≤◌, List, [], ◌∷◌, ◌++◌, length, get_or, take, map, refl, sym, ap, subst, ◌∙◌, arith}
 use Rattle.std.specs.List.{AllByRecursion}
-use Rattle.std.proofs.Math.ListN.{set}
-use Rattle.std.proofs.lemmas.List.{take_more, take_more_set}
+use Rattle.std.proofs.lemmas.List.{take_more, take_all}
 use Rattle.rb_base.specs.Names.{name_at}
-use Rattle.tree_model.specs.Tree.{TreeOf, trees_of, more_trees, more_messages, more_statements, map_trees, map_messages, map_statements}
+use Rattle.tree_model.specs.Tree.{Notes, TreeOf, trees_of, more_trees, more_messages, more_statements, map_trees, map_messages, map_statements}
 use Rattle.tree_model.specs.AllNames.{AllNames, TreesNames, MessagesNames, StatementsNames}
 use Rattle.st_tree.specs.View.{messages_of, statements_of}
 use Rattle.st_tree.specs.declared.tree.Message.{Message}
 use Rattle.st_tree.specs.declared.tree.Statement.{Statement}
+use Rattle.pattern_model.specs.Bindings.{BindingOf}
 use Rattle.pattern_model.specs.Named.{map_binding}
+use Rattle.pattern_laws.proofs.Found.{all_append}
 use Rattle.pattern_model.specs.Rewritten.{each_tree, each_argument, each_statement, each_doubled}
-use Rattle.pattern_match.specs.Bound.{binding_of}
-use Rattle.pattern_match.specs.declared.bindings.Binding.{Binding}
+use Rattle.pattern_match.specs.Bound.{held_of}
+use Rattle.pattern_match.specs.declared.bindings.Held.{Held}
+use Rattle.filled_patterns.specs.declared.bindings.Binding.{Binding}
+use Rattle.filled_patterns.specs.Left.{HoldsOne, Holds}
 use Rattle.filled_patterns.specs.Bound.{BindingNames}
-use Rattle.rewritten_code.specs.Changed.{Paired, Known, IsChanged, IsMessageChanged, IsStatementChanged, IsBindingChanged}
+use Rattle.rewritten_code.specs.Changed.{Paired, Known, IsChanged, IsMessageChanged, IsStatementChanged, IsBindingChanged, AreChanged}
 
 module _ {X : Type 0} (R : X → X → Type 0) where
   -- one more item of each list
@@ -24,12 +27,25 @@ module _ {X : Type 0} (R : X → X → Type 0) where
   paired_last (z ∷ xs) [] x y h r = absurd h
   paired_last (u ∷ xs) (z ∷ ys) x y h r = (h.0, paired_last xs ys x y h.1 r)
 
-  -- one more item is changed
-  pub paired_more : (xs ys : List X) (x z : X) (i : ℕ) → i < length xs → i < length ys → x ≡ get_or xs i x → Paired R (take i xs) (take i ys) → R x z → Paired R (take (i + 1) xs) (take (i + 1) (set ys i z))
-  paired_more xs ys x z i within lt is before r =
-      let front : take (i + 1) xs ≡ take i xs ++ x ∷ [] = take_more xs i x within ∙ ap (λ y. take i xs ++ y ∷ []) (sym is) in
-      subst (λ (zs : List X). Paired R zs (take (i + 1) (set ys i z))) (sym front)
-      (subst (λ (zs : List X). Paired R (take i xs ++ x ∷ []) zs) (sym (take_more_set ys i z lt)) (paired_last (take i xs) (take i ys) x z before r))
+  -- none is made
+  pub paired_none : (xs ys : List X) → ys ≡ [] → Paired R (take 0 xs) ys
+  paired_none xs ys e = subst (λ (us : List X). Paired R (take 0 xs) us) (sym e) (none xs)
+    where
+      none : (us : List X) → Paired R (take 0 us) []
+      none [] = tt
+      none (u ∷ us) = tt
+
+  -- one more item is made
+  pub paired_put : (xs ys zs : List X) (x y : X) (i : ℕ) → i < length xs → x ≡ get_or xs i x → zs ≡ ys ++ y ∷ [] → Paired R (take i xs) ys → R x y → Paired R (take (i + 1) xs) zs
+  paired_put xs ys zs x y i within is more before r =
+      let front : take (i + 1) xs ≡ take i xs ++ x ∷ [] = take_more xs i x within ∙ ap (λ u. take i xs ++ u ∷ []) (sym is) in
+      subst (λ (us : List X). Paired R us zs) (sym front)
+      (subst (λ (us : List X). Paired R (take i xs ++ x ∷ []) us) (sym more) (paired_last (take i xs) ys x y before r))
+
+  -- all are made
+  pub paired_all : (xs ys zs : List X) (i : ℕ) → length xs ≤ i → zs ≡ ys → Paired R (take i xs) ys → Paired R xs zs
+  paired_all xs ys zs i end is h =
+      subst (λ (us : List X). Paired R us zs) (take_all i xs end) (subst (Paired R (take i xs)) (sym is) h)
 
 -- lists whose items are changed make changed trees
 module _ (names : List (List ℕ)) (f : TreeOf (List ℕ) → TreeOf (List ℕ)) where
@@ -65,15 +81,47 @@ module _ (names : List (List ℕ)) (f : TreeOf (List ℕ) → TreeOf (List ℕ))
       let others = statements_changed ss us h.1 in
       (λ i. more_statements (first.comments i) (node.same i) (others.0 i), (node.known, others.1))
 
-  pub bindings_changed : (bs ds : List Binding) → Paired (IsBindingChanged names f) bs ds
-      → (map (map_binding (name_at names)) (map binding_of ds) ≡ map (each_doubled f) (map (map_binding (name_at names)) (map binding_of bs))) × AllByRecursion (BindingNames (Known names)) (map binding_of ds)
-  bindings_changed [] [] h = (refl, tt)
-  bindings_changed [] (d ∷ ds) h = absurd h
-  bindings_changed (b ∷ bs) [] h = absurd h
-  bindings_changed (b ∷ bs) (d ∷ ds) h =
-      let first = h.0 in
-      let others = bindings_changed bs ds h.1 in
-      (λ i. first.same i ∷ others.0 i, (first.known, others.1))
+-- bindings that are made one after the other
+last_mapped : {X Y : Type 0} (g : X → Y) (xs : List X) (x : X) → map g (xs ++ x ∷ []) ≡ map g xs ++ g x ∷ []
+last_mapped g [] x = refl
+last_mapped g (y ∷ xs) x = ap (λ ys. g y ∷ ys) (last_mapped g xs x)
+
+holds_last : (bs : List (BindingOf ℕ)) (ss : List Binding) (b : BindingOf ℕ) (s : Binding) → Holds bs ss → HoldsOne b s → Holds (bs ++ b ∷ []) (ss ++ s ∷ [])
+holds_last [] [] b s h one = (one, tt)
+holds_last [] (u ∷ ss) b s h one = absurd h
+holds_last (c ∷ bs) [] b s h one = absurd h
+holds_last (c ∷ bs) (u ∷ ss) b s h one = (h.0, holds_last bs ss b s h.1 one)
+
+module _ (names : List (List ℕ)) (f : TreeOf (List ℕ) → TreeOf (List ℕ)) where
+  changed_last : (bs : List (BindingOf ℕ)) (ss : List Binding) (b : BindingOf ℕ) (s : Binding) → AreChanged names f bs ss → IsBindingChanged names f b s → AreChanged names f (bs ++ b ∷ []) (ss ++ s ∷ [])
+  changed_last bs ss b s a c = record {
+    bindings = a.bindings ++ c.binding ∷ [];
+    held = holds_last a.bindings ss c.binding s a.held c.held;
+    same =
+        last_mapped (map_binding (name_at names)) a.bindings c.binding
+        ∙ (λ i. a.same i ++ c.same i ∷ [])
+        ∙ sym (last_mapped (each_doubled f) (map (map_binding (name_at names)) bs) (map_binding (name_at names) b))
+        ∙ ap (map (each_doubled f)) (sym (last_mapped (map_binding (name_at names)) bs b));
+    known = all_append (BindingNames (Known names)) a.bindings (c.binding ∷ []) a.known (c.known, tt);
+  }
+
+  pub changed_none : (hs : List Held) (ss : List Binding) → ss ≡ [] → AreChanged names f (map held_of (take 0 hs)) ss
+  changed_none hs ss e = subst (λ (us : List Binding). AreChanged names f (map held_of (take 0 hs)) us) (sym e) (none hs)
+    where
+      none : (xs : List Held) → AreChanged names f (map held_of (take 0 xs)) []
+      none [] = record { bindings = []; held = tt; same = refl; known = tt }
+      none (x ∷ xs) = record { bindings = []; held = tt; same = refl; known = tt }
+
+  pub changed_put : (hs : List Held) (ss us : List Binding) (h : Held) (s : Binding) (i : ℕ) → i < length hs → h ≡ get_or hs i h → us ≡ ss ++ s ∷ [] → AreChanged names f (map held_of (take i hs)) ss
+      → IsBindingChanged names f (held_of h) s → AreChanged names f (map held_of (take (i + 1) hs)) us
+  changed_put hs ss us h s i within is more before c =
+      let front : map held_of (take (i + 1) hs) ≡ map held_of (take i hs) ++ held_of h ∷ [] =
+      ap (map held_of) (take_more hs i h within ∙ ap (λ u. take i hs ++ u ∷ []) (sym is)) ∙ last_mapped held_of (take i hs) h in
+      subst (λ (bs : List (BindingOf ℕ)). AreChanged names f bs us) (sym front)
+      (subst (λ (xs : List Binding). AreChanged names f (map held_of (take i hs) ++ held_of h ∷ []) xs) (sym more) (changed_last (map held_of (take i hs)) ss (held_of h) s before c))
+
+  pub changed_all : (hs : List Held) (ss : List Binding) (i : ℕ) → length hs ≤ i → AreChanged names f (map held_of (take i hs)) ss → AreChanged names f (map held_of hs) ss
+  changed_all hs ss i end a = subst (λ (xs : List Held). AreChanged names f (map held_of xs) ss) (take_all i hs end) a
 
 -- what is known of a list is known of each item
 module _ (P : ℕ → Type 0) where
@@ -92,22 +140,15 @@ module _ (P : ℕ → Type 0) where
   statement_in (u ∷ ss) zero s h e k = subst (λ (x : Statement). AllNames P x.node) (sym e) k.0
   statement_in (u ∷ ss) (suc i) s h e k = statement_in ss i s (omega arith) e k.1
 
-  pub binding_in : (bs : List Binding) (i : ℕ) (b : Binding) → i < length bs → b ≡ get_or bs i b → AllByRecursion (BindingNames P) (map binding_of bs) → BindingNames P (binding_of b)
+  pub binding_in : (bs : List Held) (i : ℕ) (b : Held) → i < length bs → b ≡ get_or bs i b → AllByRecursion (BindingNames P) (map held_of bs) → BindingNames P (held_of b)
   binding_in [] i b h e k = absurd (omega arith)
-  binding_in (u ∷ bs) zero b h e k = subst (λ (x : Binding). BindingNames P (binding_of x)) (sym e) k.0
+  binding_in (u ∷ bs) zero b h e k = subst (λ (x : Held). BindingNames P (held_of x)) (sym e) k.0
   binding_in (u ∷ bs) (suc i) b h e k = binding_in bs i b (omega arith) e k.1
 
--- an item of which a part is changed
+-- an item that is made
 module _ (names : List (List ℕ)) (f : TreeOf (List ℕ) → TreeOf (List ℕ)) where
-  pub message_put : (x there : Message) (us : List (TreeOf ℕ)) → x ≡ there → Known names x.selector → Paired (IsChanged names f) there.arguments us → IsMessageChanged names f x (record { selector = there.selector; arguments = us })
-  message_put x there us e k h = record {
-    selector = ap (λ (m : Message). m.selector) (sym e);
-    known = subst (λ (m : Message). Known names m.selector) e k;
-    arguments = subst (λ (m : Message). Paired (IsChanged names f) m.arguments us) (sym e) h;
-  }
+  pub message_made : (x : Message) (us : List (TreeOf ℕ)) → Known names x.selector → Paired (IsChanged names f) x.arguments us → IsMessageChanged names f x (record { selector = x.selector; arguments = us })
+  message_made x us k h = record { selector = refl; known = k; arguments = h }
 
-  pub statement_put : (x there : Statement) (u : TreeOf ℕ) → x ≡ there → IsChanged names f there.node u → IsStatementChanged names f x (record { comments = there.comments; node = u })
-  statement_put x there u e h = record {
-    comments = ap (λ (s : Statement). s.comments) (sym e);
-    node = subst (λ (s : Statement). IsChanged names f s.node u) (sym e) h;
-  }
+  pub statement_made : (x : Statement) (c : Notes) (u : TreeOf ℕ) → c ≡ x.comments → IsChanged names f x.node u → IsStatementChanged names f x (record { comments = c; node = u })
+  statement_made x c u e h = record { comments = e; node = h }

@@ -1,5 +1,5 @@
 -- What becomes of the parts of code: each part is what its text becomes, and each of its names has a number.
-use Rattle.std.specs.Prelude.{◌≡◌, ℕ, ◌<◌, Bool, false, List, [], ◌∷◌, length, map, Some, None}
+use Rattle.std.specs.Prelude.{◌≡◌, ℕ, ◌<◌, Bool, true, false, List, [], ◌∷◌, length, map, Some, None}
 use Rattle.std.specs.List.{AllByRecursion, concat}
 use Rattle.std.specs.Option.{option_map_or}
 use Rattle.rb_base.specs.Names.{text_eq, name_at}
@@ -7,23 +7,28 @@ use Rattle.tree_model.specs.Tree.{TreeOf, map_names}
 use Rattle.tree_model.specs.AllNames.{AllNames}
 use Rattle.st_tree.specs.declared.tree.Message.{Message}
 use Rattle.st_tree.specs.declared.tree.Statement.{Statement}
-use Rattle.pattern_model.specs.Patterns.{PatternOf, meta}
-use Rattle.pattern_model.specs.Bindings.{BindingOf}
+use Rattle.pattern_model.specs.Patterns.{MetaOf, PatternOf, meta}
+use Rattle.pattern_model.specs.Bindings.{BoundOf, BindingOf}
 use Rattle.pattern_model.specs.Words.{text_pattern_words}
-use Rattle.pattern_model.specs.Named.{map_pattern, map_binding}
+use Rattle.pattern_model.specs.Named.{map_pattern, map_bound, map_binding}
 use Rattle.pattern_model.specs.Fill.{fill}
 use Rattle.pattern_model.specs.MatchTree.{match_tree}
-use Rattle.pattern_model.specs.Rewritten.{RuleOf, each_doubled, rewritten}
+use Rattle.pattern_model.specs.Rewritten.{RuleOf, each_bound, each_doubled, rewritten}
 use Rattle.patterns.specs.Names.{PatternNames}
 use Rattle.patterns.specs.declared.tree.Rule.{Rule}
-use Rattle.pattern_match.specs.Bound.{binding_of}
-use Rattle.pattern_match.specs.declared.bindings.Binding.{Binding}
-use Rattle.filled_patterns.specs.Bound.{BindingNames}
+use Rattle.filled_patterns.specs.declared.bindings.Binding.{Binding}
+use Rattle.filled_patterns.specs.Bound.{BoundNames, BindingNames}
+use Rattle.filled_patterns.specs.Left.{HoldsOne, Holds}
 
 -- whether a pattern is one doubled metavariable
 abbrev pub is_whole : {N : Type 0} → PatternOf N → Bool
 is_whole (meta m) = m.doubled
 is_whole p = false
+
+-- a pattern is this doubled metavariable
+pub record IsWhole {N : Type 0} (p : PatternOf N) (m : MetaOf N) : Type 0 where
+  pub same : p ≡ meta m
+  pub doubled : m.doubled ≡ true
 
 -- two lists of one length, whose items are related in turn
 abbrev pub Paired : {X : Type 0} → (X → X → Type 0) → List X → List X → Type 0
@@ -80,7 +85,21 @@ module _ (names : List (List ℕ)) where
       pub comments : u.comments ≡ s.comments
       pub node : IsChanged s.node u.node
 
-    -- of a binding
-    pub record IsBindingChanged (b d : Binding) : Type 0 where
-      pub same : map_binding (name_at names) (binding_of d) ≡ each_doubled f (map_binding (name_at names) (binding_of b))
-      pub known : BindingNames Known (binding_of d)
+    -- of what a doubled metavariable is bound to
+    pub record IsBoundChanged (b d : BoundOf ℕ) : Type 0 where
+      pub same : map_bound (name_at names) d ≡ each_bound f (map_bound (name_at names) b)
+      pub known : BoundNames Known d
+
+    -- of a binding, which is held
+    pub record IsBindingChanged (b : BindingOf ℕ) (s : Binding) : Type 0 where
+      pub binding : BindingOf ℕ
+      pub held : HoldsOne binding s
+      pub same : map_binding (name_at names) binding ≡ each_doubled f (map_binding (name_at names) b)
+      pub known : BindingNames Known binding
+
+    -- of bindings, which are held
+    pub record AreChanged (bs : List (BindingOf ℕ)) (ss : List Binding) : Type 0 where
+      pub bindings : List (BindingOf ℕ)
+      pub held : Holds bindings ss
+      pub same : map (map_binding (name_at names)) bindings ≡ map (each_doubled f) (map (map_binding (name_at names)) bs)
+      pub known : AllByRecursion (BindingNames Known) bindings

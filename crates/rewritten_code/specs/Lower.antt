@@ -2,8 +2,8 @@
 use Rattle.std.specs.Prelude.{ℕ, if◌then◌else◌, max, List, [], ◌∷◌}
 use Rattle.tree_model.specs.Measure.{height, trees_height, statements_height}
 use Rattle.pattern_model.specs.Bindings.{BoundOf, a_part, a_run, a_selector, a_keyword, a_message, BindingOf}
-use Rattle.pattern_match.specs.Bound.{binding_of}
-use Rattle.pattern_match.specs.declared.bindings.Binding.{Binding}
+use Rattle.pattern_match.specs.Bound.{held_of}
+use Rattle.pattern_match.specs.declared.bindings.Held.{Held}
 
 -- how high what is bound is
 abbrev pub height_bound : {N : Type 0} → BoundOf N → ℕ
@@ -18,6 +18,6 @@ abbrev pub doubled_height : {N : Type 0} → BindingOf N → ℕ
 doubled_height b = if b.meta.doubled then height_bound b.bound else 0
 
 -- the highest of what they are bound to
-abbrev pub bindings_height : List Binding → ℕ
+abbrev pub bindings_height : List Held → ℕ
 bindings_height [] = 0
-bindings_height (b ∷ bs) = max (doubled_height (binding_of b)) (bindings_height bs)
+bindings_height (b ∷ bs) = max (doubled_height (held_of b)) (bindings_height bs)

@@ -1,48 +1,109 @@
-// One walk through code that rewrites it.
-ghost use Rattle.std.specs.Prelude.{◌≡◌, ◌<◌, ℕ, List, length, false, map, IfOk, OnOk, MatchOption};
+// One walk through code that makes what a rule makes of it.
+ghost use Rattle.std.specs.Prelude.{◌≡◌, ◌<◌, ◌==◌, ℕ, List, length, false, map, count_by, nat_eq, Some, IfOk, MatchOption};
 ghost use Rattle.std.specs.List.{concat, AllByRecursion};
 ghost use Rattle.rb_base.specs.Names.{name_at};
-ghost use Rattle.tree_model.specs.Tree.{map_sequence, trees_of};
+ghost use Rattle.tree_model.specs.Tree.{literal, send, cascade, assign, block, brace, return, map_sequence, trees_of};
 ghost use Rattle.tree_model.specs.AllNames.{AllNames, TreesNames, MessagesNames, StatementsNames, SequenceNames};
 ghost use Rattle.tree_model.specs.Measure.{height};
 ghost use Rattle.st_tree.specs.View.{tree_of, messages_of, statements_of, sequence_of};
 ghost use Rattle.event_trees.specs.Naming.{Grows};
+ghost use Rattle.pattern_model.specs.Bindings.{same_meta};
 ghost use Rattle.pattern_model.specs.Words.{text_pattern_words};
 ghost use Rattle.pattern_model.specs.Named.{map_pattern};
 ghost use Rattle.pattern_model.specs.Rewritten.{each_child, rewritten_sequence};
 ghost use Rattle.patterns.specs.Names.{PatternNames};
-ghost use Rattle.pattern_match.specs.Bound.{binding_of};
-ghost use Rattle.filled_patterns.specs.Bound.{BindingNames};
-ghost use Rattle.rewritten_code.specs.Changed.{is_whole, Paired, RuleNames, becomes, replaced, AreBoundIn, IsNoMatch, IsChanged, IsMessageChanged, IsStatementChanged, IsBindingChanged};
+ghost use Rattle.patterns.specs.View.{meta_of};
+ghost use Rattle.pattern_match.specs.Gathering.{bound_from};
+ghost use Rattle.pattern_match.specs.Bound.{bound_of, held_of};
+ghost use Rattle.filled_patterns.specs.Bound.{BoundNames, BindingNames};
+ghost use Rattle.rewritten_code.specs.Changed.{is_whole, IsWhole, Paired, RuleNames, becomes, replaced, AreBoundIn, IsNoMatch, IsChanged, IsMessageChanged, IsStatementChanged, IsBoundChanged, IsBindingChanged, AreChanged};
 ghost use Rattle.rewritten_code.specs.Lower.{bindings_height};
 
-use filled_patterns::fill;
-use pattern_match::{Binding, Bound, match_at};
-use patterns::{Pattern, PatternKind, Rule};
-use rb_base::{Memory, Names};
-use st_tree::{Messages, Node, NodeKind, Nodes, Sequence, Statements, try_copy_doit};
+use crate::levels::may_be_high;
+use filled_patterns::{Binding, fill};
+use pattern_match::{Bound, Held, Standing, copied, match_at, put_metas, same_meta};
+use patterns::{Meta, Pattern, PatternKind, Rule};
+use rb_base::{Ids, Memory, NameId, Names};
+use st_tree::{Literal, Message, Messages, Node, NodeKind, Nodes, Sequence, Statement, Statements};
 use std::alloc::Global;
 
-/// Whether the pattern is one doubled metavariable.
-fn is_whole(pattern: &Pattern) -> bool
-    ensures { result ≡ is_whole pattern.now }
+/// What is known before a rule is applied to a body.
+#[derive(Drop)]
+struct Plan {
+    /// The metavariables of the replacement, each as often as it stands there.
+    wanted: Vec<Meta>,
+    /// Whether what is made can have too many levels.
+    may_be_high: bool,
+}
+
+/// Whether the metavariable is wanted at one place only.
+fn is_single(wanted: &[Meta], meta: Meta) -> bool
+    ensures { result ≡ (count_by (λ x. same_meta nat_eq (meta_of meta) (meta_of x)) wanted.now == 1) }
+{
+    wanted
+        .iter()
+        .filter(|other| same_meta(meta, **other))
+        .count()
+        == 1
+}
+
+/// The binding of a metavariable.
+fn binding_for(single: bool, meta: Meta, bound: Bound) -> Binding
+    ensures meta { result.meta ≡ meta }
+    ensures bound { result.bound ≡ Some bound }
+{
+    Binding {
+        meta,
+        single,
+        bound: Some(bound),
+    }
+}
+
+/// A copy of a literal's node.
+pub(crate) fn literal_node(alloc: Global, value: &Literal) -> Result<Node, Memory>
+    ensures { IfOk result (λ made. made ≡ literal value.now) }
+{
+    let value = value.try_copy(alloc)?;
+    Ok(Node {
+        kind: NodeKind::Literal { value },
+    })
+}
+
+/// A body like another one, with these statements.
+fn with_statements(
+    alloc: Global,
+    body: &Sequence,
+    statements: Statements,
+) -> Result<Sequence, Memory>
+    ensures { IfOk result (λ made. made ≡ record body.now { statements = statements }) }
+{
+    Ok(Sequence {
+        temporaries: body.temporaries.try_copy(alloc)?,
+        statements,
+        tail: body.tail.try_copy(alloc)?,
+    })
+}
+
+/// The metavariable that the pattern is, where it is one that is doubled.
+fn whole_meta(pattern: &Pattern) -> Option<Meta>
+    ensures { MatchOption result (is_whole pattern.now ≡ false) (λ m. IsWhole pattern.now (meta_of m)) }
 {
     match &pattern.kind {
-        PatternKind::Meta { meta } => meta.doubled,
-        _ => false,
+        PatternKind::Meta { meta } => { if meta.doubled { Some(*meta) } else { None } }
+        _ => None,
     }
 }
 
 /// What the pattern binds in the node, where it matches.
-fn bindings_at(
+fn bindings_at<'n>(
     alloc: Global,
     names: &Names,
     pattern: &Pattern,
-    node: &Node,
-) -> Result<Option<Vec<Binding>>, Memory>
+    node: &'n Node,
+) -> Result<Option<Vec<Held<'n>>>, Memory>
     requires pattern { PatternNames (λ n. n < length names.now) pattern.now }
     requires node { AllNames (λ n. n < length names.now) node.now }
-    ensures found { IfOk result (λ found. MatchOption found (IsNoMatch names.now pattern.now node.now) (λ bs. AreBoundIn names.now pattern.now node.now (map binding_of bs.items))) }
+    ensures found { IfOk result (λ found. MatchOption found (IsNoMatch names.now pattern.now node.now) (λ bs. AreBoundIn names.now pattern.now node.now (map held_of bs.items))) }
     ensures lower { IfOk result (λ found. MatchOption found (Unit {0}) (λ bs. is_whole pattern.now ≡ false → bindings_height bs.items < height node.now)) }
 {
     // The length is asked for, since it tells that no text stands twice among the names.
@@ -50,201 +111,437 @@ fn bindings_at(
     match_at(alloc, names, pattern, node)
 }
 
-/// Puts the replacement, filled, in place of the node, where the pattern matches; no part is rewritten.
-fn replace(alloc: Global, names: &mut Names, rule: &Rule, node: &mut Node) -> Result<(), Memory>
-    requires rule { RuleNames names.old rule.now }
-    requires node { AllNames (λ n. n < length names.old) node.old }
-    ensures replaced { OnOk result ((final : List (List ℕ)) → Grows names.new final → IsChanged final (replaced final rule.now) node.old node.new) }
-    ensures grows { Grows names.old names.new }
-{
-    match bindings_at(alloc, names, &rule.pattern, node)? {
-        None => Ok(()),
-        Some(bindings) => {
-            *node = fill(alloc, names, &bindings, &rule.replacement)?;
-            Ok(())
-        }
-    }
-}
-
-/// Rewrites a node. After an error it may be anything.
-#[cycle(rewriting)]
-fn rewrite_node(
+/// The replacement, filled with the node, for which the metavariable stands; the node itself where it may not.
+fn replaced(
     alloc: Global,
     names: &mut Names,
     rule: &Rule,
-    node: &mut Node,
-) -> Result<(), Memory>
+    plan: &Plan,
+    meta: Meta,
+    node: Node,
+) -> Result<Node, Memory>
     requires rule { RuleNames names.old rule.now }
-    requires node { AllNames (λ n. n < length names.old) node.old }
-    ensures changed { OnOk result ((final : List (List ℕ)) → Grows names.new final → IsChanged final (becomes final rule.now) node.old node.new) }
+    requires pattern { IsWhole rule.now.pattern (meta_of meta) }
+    requires node { AllNames (λ n. n < length names.old) node }
+    ensures replaced { IfOk result (λ made. (final : List (List ℕ)) → Grows names.new final → IsChanged final (replaced final rule.now) node made) }
     ensures grows { Grows names.old names.new }
 {
-    if is_whole(&rule.pattern) {
-        rewrite_below(alloc, names, rule, &mut node.kind)?;
-        replace(alloc, names, rule, node)
-    } else {
-        rewrite_match(alloc, names, rule, node)
+    if bindings_at(alloc, names, &rule.pattern, &node)?.is_none() {
+        return Ok(node);
+    }
+    let bound = Bound::Part(Box::new(alloc, node)?);
+    let mut bindings = Vec::new(alloc);
+    let single = is_single(&plan.wanted, meta);
+    bindings.push(binding_for(single, meta, bound))?;
+    fill(
+        alloc,
+        names,
+        bindings.as_mut_slice(),
+        &rule.replacement,
+        plan.may_be_high,
+    )
+}
+
+/// What becomes of a node.
+#[cycle(rewriting)]
+fn rewritten_node(
+    alloc: Global,
+    names: &mut Names,
+    rule: &Rule,
+    plan: &Plan,
+    node: &Node,
+) -> Result<Node, Memory>
+    requires rule { RuleNames names.old rule.now }
+    requires node { AllNames (λ n. n < length names.old) node.now }
+    ensures changed { IfOk result (λ made. (final : List (List ℕ)) → Grows names.new final → IsChanged final (becomes final rule.now) node.now made) }
+    ensures grows { Grows names.old names.new }
+{
+    match whole_meta(&rule.pattern) {
+        Some(meta) => {
+            let below = rewritten_below(alloc, names, rule, plan, &node.kind)?;
+            replaced(alloc, names, rule, plan, meta, below)
+        }
+        None => rewritten_match(alloc, names, rule, plan, node),
     }
 }
 
 /// The same for a pattern that is not one doubled metavariable.
 #[cycle(rewriting)]
-fn rewrite_match(
+fn rewritten_match(
     alloc: Global,
     names: &mut Names,
     rule: &Rule,
-    node: &mut Node,
-) -> Result<(), Memory>
+    plan: &Plan,
+    node: &Node,
+) -> Result<Node, Memory>
     requires rule { RuleNames names.old rule.now }
-    requires node { AllNames (λ n. n < length names.old) node.old }
+    requires node { AllNames (λ n. n < length names.old) node.now }
     requires pattern { is_whole rule.now.pattern ≡ false }
-    ensures changed { OnOk result ((final : List (List ℕ)) → Grows names.new final → IsChanged final (becomes final rule.now) node.old node.new) }
+    ensures changed { IfOk result (λ made. (final : List (List ℕ)) → Grows names.new final → IsChanged final (becomes final rule.now) node.now made) }
     ensures grows { Grows names.old names.new }
 {
     match bindings_at(alloc, names, &rule.pattern, node)? {
-        None => rewrite_below(alloc, names, rule, &mut node.kind),
-        Some(mut bindings) => {
-            rewrite_bindings(alloc, names, rule, bindings.as_mut_slice())?;
-            *node = fill(alloc, names, &bindings, &rule.replacement)?;
-            Ok(())
+        None => rewritten_below(alloc, names, rule, plan, &node.kind),
+        Some(held) => {
+            let mut bindings = rewritten_bindings(alloc, names, rule, plan, held.as_slice())?;
+            fill(
+                alloc,
+                names,
+                bindings.as_mut_slice(),
+                &rule.replacement,
+                plan.may_be_high,
+            )
         }
     }
 }
 
-/// Rewrites the nodes right below a node.
+/// A node of which the nodes right below are rewritten.
 #[cycle(rewriting)]
-fn rewrite_below(
+fn rewritten_below(
     alloc: Global,
     names: &mut Names,
     rule: &Rule,
-    kind: &mut NodeKind,
-) -> Result<(), Memory>
+    plan: &Plan,
+    kind: &NodeKind,
+) -> Result<Node, Memory>
     requires rule { RuleNames names.old rule.now }
-    requires node { AllNames (λ n. n < length names.old) (tree_of kind.old) }
-    ensures changed { OnOk result ((final : List (List ℕ)) → Grows names.new final → IsChanged final (each_child (becomes final rule.now)) (tree_of kind.old) (tree_of kind.new)) }
+    requires node { AllNames (λ n. n < length names.old) (tree_of kind.now) }
+    ensures changed { IfOk result (λ made. (final : List (List ℕ)) → Grows names.new final → IsChanged final (each_child (becomes final rule.now)) (tree_of kind.now) made) }
     ensures grows { Grows names.old names.new }
 {
     match kind {
-        NodeKind::Var { .. } | NodeKind::Literal { .. } => Ok(()),
+        NodeKind::Var { name } => Ok(Node {
+            kind: NodeKind::Var { name: *name },
+        }),
+        NodeKind::Literal { value } => literal_node(alloc, value),
         NodeKind::Send {
             receiver,
+            selector,
             arguments,
-            ..
         } => {
-            rewrite_node(alloc, names, rule, receiver)?;
-            rewrite_nodes(alloc, names, rule, arguments)
+            let arguments = arguments.as_slice();
+            rewritten_send(alloc, names, rule, plan, receiver, *selector, arguments)
         }
         NodeKind::Cascade { receiver, messages } => {
-            rewrite_node(alloc, names, rule, receiver)?;
-            rewrite_messages(alloc, names, rule, messages)
+            rewritten_cascade(alloc, names, rule, plan, receiver, messages.as_slice())
         }
-        NodeKind::Assign { value, .. } => rewrite_node(alloc, names, rule, value),
-        NodeKind::Block { body, .. } => {
-            rewrite_statements(alloc, names, rule, &mut body.statements)
+        NodeKind::Assign { name, value } => {
+            rewritten_assignment(alloc, names, rule, plan, *name, value)
         }
-        NodeKind::Brace { items } => rewrite_nodes(alloc, names, rule, items),
-        NodeKind::Return { value } => rewrite_node(alloc, names, rule, value),
+        NodeKind::Block { parameters, body } => {
+            rewritten_block(alloc, names, rule, plan, parameters, body)
+        }
+        NodeKind::Brace { items } => rewritten_brace(alloc, names, rule, plan, items.as_slice()),
+        NodeKind::Return { value } => rewritten_return(alloc, names, rule, plan, value),
     }
 }
 
-/// Rewrites nodes.
+/// What becomes of a node, in memory of its own.
 #[cycle(rewriting)]
-fn rewrite_nodes(
+fn boxed_node(
     alloc: Global,
     names: &mut Names,
     rule: &Rule,
-    nodes: &mut Nodes,
-) -> Result<(), Memory>
+    plan: &Plan,
+    node: &Node,
+) -> Result<Box<Node>, Memory>
     requires rule { RuleNames names.old rule.now }
-    requires nodes { TreesNames (λ n. n < length names.old) (trees_of nodes.old) }
-    ensures changed { OnOk result ((final : List (List ℕ)) → Grows names.new final → Paired (IsChanged final (becomes final rule.now)) nodes.old nodes.new) }
+    requires node { AllNames (λ n. n < length names.old) node.now }
+    ensures changed { IfOk result (λ made. (final : List (List ℕ)) → Grows names.new final → IsChanged final (becomes final rule.now) node.now made.value) }
     ensures grows { Grows names.old names.new }
 {
-    for node in nodes.as_mut_slice().iter_mut() {
-        rewrite_node(alloc, names, rule, node)?;
-    }
-    Ok(())
+    let made = rewritten_node(alloc, names, rule, plan, node)?;
+    Ok(Box::new(alloc, made)?)
 }
 
-/// Rewrites the arguments of the messages of a cascade.
+/// A message to its receiver, both rewritten.
 #[cycle(rewriting)]
-fn rewrite_messages(
+fn rewritten_send(
     alloc: Global,
     names: &mut Names,
     rule: &Rule,
-    messages: &mut Messages,
-) -> Result<(), Memory>
+    plan: &Plan,
+    receiver: &Node,
+    selector: NameId,
+    arguments: &[Node],
+) -> Result<Node, Memory>
     requires rule { RuleNames names.old rule.now }
-    requires messages { MessagesNames (λ n. n < length names.old) (messages_of messages.old) }
-    ensures changed { OnOk result ((final : List (List ℕ)) → Grows names.new final → Paired (IsMessageChanged final (becomes final rule.now)) messages.old messages.new) }
+    requires receiver { AllNames (λ n. n < length names.old) receiver.now }
+    requires selector { selector < length names.old }
+    requires arguments { TreesNames (λ n. n < length names.old) (trees_of arguments.now) }
+    ensures changed { IfOk result (λ made. (final : List (List ℕ)) → Grows names.new final → IsChanged final (each_child (becomes final rule.now)) (send receiver.now selector (trees_of arguments.now)) made) }
     ensures grows { Grows names.old names.new }
 {
-    for message in messages.as_mut_slice().iter_mut() {
-        rewrite_nodes(alloc, names, rule, &mut message.arguments)?;
-    }
-    Ok(())
+    let receiver = boxed_node(alloc, names, rule, plan, receiver)?;
+    let arguments = rewritten_nodes(alloc, names, rule, plan, arguments)?;
+    Ok(Node {
+        kind: NodeKind::Send {
+            receiver,
+            selector,
+            arguments,
+        },
+    })
 }
 
-/// Rewrites statements, which keep their comments.
+/// Messages to their receiver, rewritten.
 #[cycle(rewriting)]
-fn rewrite_statements(
+fn rewritten_cascade(
     alloc: Global,
     names: &mut Names,
     rule: &Rule,
-    statements: &mut Statements,
-) -> Result<(), Memory>
+    plan: &Plan,
+    receiver: &Node,
+    messages: &[Message],
+) -> Result<Node, Memory>
     requires rule { RuleNames names.old rule.now }
-    requires statements { StatementsNames (λ n. n < length names.old) (statements_of statements.old) }
-    ensures changed { OnOk result ((final : List (List ℕ)) → Grows names.new final → Paired (IsStatementChanged final (becomes final rule.now)) statements.old statements.new) }
+    requires receiver { AllNames (λ n. n < length names.old) receiver.now }
+    requires messages { MessagesNames (λ n. n < length names.old) (messages_of messages.now) }
+    ensures changed { IfOk result (λ made. (final : List (List ℕ)) → Grows names.new final → IsChanged final (each_child (becomes final rule.now)) (cascade receiver.now (messages_of messages.now)) made) }
     ensures grows { Grows names.old names.new }
 {
-    for statement in statements.as_mut_slice().iter_mut() {
-        rewrite_node(alloc, names, rule, &mut statement.node)?;
-    }
-    Ok(())
+    let receiver = boxed_node(alloc, names, rule, plan, receiver)?;
+    let messages = rewritten_messages(alloc, names, rule, plan, messages)?;
+    Ok(Node {
+        kind: NodeKind::Cascade { receiver, messages },
+    })
 }
 
-/// Rewrites what a metavariable is bound to, where it is doubled.
+/// An assignment, whose value is rewritten.
 #[cycle(rewriting)]
-fn rewrite_binding(
+fn rewritten_assignment(
     alloc: Global,
     names: &mut Names,
     rule: &Rule,
-    binding: &mut Binding,
-) -> Result<(), Memory>
+    plan: &Plan,
+    name: NameId,
+    value: &Node,
+) -> Result<Node, Memory>
     requires rule { RuleNames names.old rule.now }
-    requires binding { BindingNames (λ n. n < length names.old) (binding_of binding.old) }
-    ensures changed { OnOk result ((final : List (List ℕ)) → Grows names.new final → IsBindingChanged final (becomes final rule.now) binding.old binding.new) }
+    requires name { name < length names.old }
+    requires value { AllNames (λ n. n < length names.old) value.now }
+    ensures changed { IfOk result (λ made. (final : List (List ℕ)) → Grows names.new final → IsChanged final (each_child (becomes final rule.now)) (assign name value.now) made) }
     ensures grows { Grows names.old names.new }
 {
-    if !binding.meta.doubled {
-        return Ok(());
+    let value = boxed_node(alloc, names, rule, plan, value)?;
+    Ok(Node {
+        kind: NodeKind::Assign { name, value },
+    })
+}
+
+/// A block, whose statements are rewritten.
+#[cycle(rewriting)]
+fn rewritten_block(
+    alloc: Global,
+    names: &mut Names,
+    rule: &Rule,
+    plan: &Plan,
+    parameters: &Ids,
+    body: &Sequence,
+) -> Result<Node, Memory>
+    requires rule { RuleNames names.old rule.now }
+    requires parameters { AllByRecursion (λ n. n < length names.old) parameters.now }
+    requires temporaries { AllByRecursion (λ n. n < length names.old) body.now.temporaries }
+    requires statements { StatementsNames (λ n. n < length names.old) (statements_of body.now.statements) }
+    ensures changed { IfOk result (λ made. (final : List (List ℕ)) → Grows names.new final → IsChanged final (each_child (becomes final rule.now)) (block parameters.now body.now.temporaries (statements_of body.now.statements) body.now.tail) made) }
+    ensures grows { Grows names.old names.new }
+{
+    let statements = rewritten_statements(alloc, names, rule, plan, body.statements.as_slice())?;
+    let made = with_statements(alloc, body, statements)?;
+    let body = Box::new(alloc, made)?;
+    let parameters = parameters.try_copy(alloc)?;
+    Ok(Node {
+        kind: NodeKind::Block { parameters, body },
+    })
+}
+
+/// An array, whose items are rewritten.
+#[cycle(rewriting)]
+fn rewritten_brace(
+    alloc: Global,
+    names: &mut Names,
+    rule: &Rule,
+    plan: &Plan,
+    items: &[Node],
+) -> Result<Node, Memory>
+    requires rule { RuleNames names.old rule.now }
+    requires items { TreesNames (λ n. n < length names.old) (trees_of items.now) }
+    ensures changed { IfOk result (λ made. (final : List (List ℕ)) → Grows names.new final → IsChanged final (each_child (becomes final rule.now)) (brace (trees_of items.now)) made) }
+    ensures grows { Grows names.old names.new }
+{
+    let items = rewritten_nodes(alloc, names, rule, plan, items)?;
+    Ok(Node {
+        kind: NodeKind::Brace { items },
+    })
+}
+
+/// A return, whose value is rewritten.
+#[cycle(rewriting)]
+fn rewritten_return(
+    alloc: Global,
+    names: &mut Names,
+    rule: &Rule,
+    plan: &Plan,
+    value: &Node,
+) -> Result<Node, Memory>
+    requires rule { RuleNames names.old rule.now }
+    requires value { AllNames (λ n. n < length names.old) value.now }
+    ensures changed { IfOk result (λ made. (final : List (List ℕ)) → Grows names.new final → IsChanged final (each_child (becomes final rule.now)) (return value.now) made) }
+    ensures grows { Grows names.old names.new }
+{
+    let value = boxed_node(alloc, names, rule, plan, value)?;
+    Ok(Node {
+        kind: NodeKind::Return { value },
+    })
+}
+
+/// What becomes of nodes.
+#[cycle(rewriting)]
+fn rewritten_nodes(
+    alloc: Global,
+    names: &mut Names,
+    rule: &Rule,
+    plan: &Plan,
+    nodes: &[Node],
+) -> Result<Nodes, Memory>
+    requires rule { RuleNames names.old rule.now }
+    requires nodes { TreesNames (λ n. n < length names.old) (trees_of nodes.now) }
+    ensures changed { IfOk result (λ made. (final : List (List ℕ)) → Grows names.new final → Paired (IsChanged final (becomes final rule.now)) nodes.now made) }
+    ensures grows { Grows names.old names.new }
+{
+    let mut made = Vec::new(alloc);
+    for node in nodes {
+        let one = rewritten_node(alloc, names, rule, plan, node)?;
+        made.push(one)?;
     }
-    match &mut binding.bound {
-        Bound::Part(node) => rewrite_node(alloc, names, rule, node),
-        Bound::Run(statements) => rewrite_statements(alloc, names, rule, statements),
-        Bound::Whole(message) => rewrite_nodes(alloc, names, rule, &mut message.arguments),
-        Bound::Selector(_) | Bound::Keyword(_) => Ok(()),
+    Ok(Nodes::from_vec(made))
+}
+
+/// What becomes of the messages of a cascade: their arguments are rewritten.
+#[cycle(rewriting)]
+fn rewritten_messages(
+    alloc: Global,
+    names: &mut Names,
+    rule: &Rule,
+    plan: &Plan,
+    messages: &[Message],
+) -> Result<Messages, Memory>
+    requires rule { RuleNames names.old rule.now }
+    requires messages { MessagesNames (λ n. n < length names.old) (messages_of messages.now) }
+    ensures changed { IfOk result (λ made. (final : List (List ℕ)) → Grows names.new final → Paired (IsMessageChanged final (becomes final rule.now)) messages.now made) }
+    ensures grows { Grows names.old names.new }
+{
+    let mut made = Vec::new(alloc);
+    for message in messages {
+        let arguments = rewritten_nodes(alloc, names, rule, plan, message.arguments.as_slice())?;
+        made.push(Message {
+            selector: message.selector,
+            arguments,
+        })?;
+    }
+    Ok(Messages::from_vec(made))
+}
+
+/// What becomes of statements, which keep their comments.
+#[cycle(rewriting)]
+fn rewritten_statements(
+    alloc: Global,
+    names: &mut Names,
+    rule: &Rule,
+    plan: &Plan,
+    statements: &[Statement],
+) -> Result<Statements, Memory>
+    requires rule { RuleNames names.old rule.now }
+    requires statements { StatementsNames (λ n. n < length names.old) (statements_of statements.now) }
+    ensures changed { IfOk result (λ made. (final : List (List ℕ)) → Grows names.new final → Paired (IsStatementChanged final (becomes final rule.now)) statements.now made) }
+    ensures grows { Grows names.old names.new }
+{
+    let mut made = Vec::new(alloc);
+    for statement in statements {
+        let node = rewritten_node(alloc, names, rule, plan, &statement.node)?;
+        let comments = statement.comments.try_copy(alloc)?;
+        made.push(Statement { comments, node })?;
+    }
+    Ok(Statements::from_vec(made))
+}
+
+/// What becomes of what a doubled metavariable is bound to.
+#[cycle(rewriting)]
+fn rewritten_part<'n>(
+    alloc: Global,
+    names: &mut Names,
+    rule: &Rule,
+    plan: &Plan,
+    standing: &Standing<'n>,
+) -> Result<Bound, Memory>
+    requires rule { RuleNames names.old rule.now }
+    requires part { BoundNames (λ n. n < length names.old) (bound_from standing.now) }
+    ensures changed { IfOk result (λ made. (final : List (List ℕ)) → Grows names.new final → IsBoundChanged final (becomes final rule.now) (bound_from standing.now) (bound_of made)) }
+    ensures grows { Grows names.old names.new }
+{
+    match standing {
+        Standing::Part(node) => {
+            let made = boxed_node(alloc, names, rule, plan, node)?;
+            Ok(Bound::Part(made))
+        }
+        Standing::Run(run) => {
+            let run = rewritten_statements(alloc, names, rule, plan, run)?;
+            Ok(Bound::Run(run))
+        }
+        Standing::Message(selector, arguments) => {
+            let arguments = rewritten_nodes(alloc, names, rule, plan, arguments)?;
+            Ok(Bound::Whole(Message {
+                selector: *selector,
+                arguments,
+            }))
+        }
+        _ => copied(alloc, standing),
     }
 }
 
-/// Rewrites what doubled metavariables are bound to.
+/// What a metavariable is bound to, rewritten where it is doubled and copied otherwise.
 #[cycle(rewriting)]
-fn rewrite_bindings(
+fn rewritten_binding<'n>(
     alloc: Global,
     names: &mut Names,
     rule: &Rule,
-    bindings: &mut [Binding],
-) -> Result<(), Memory>
+    plan: &Plan,
+    held: &Held<'n>,
+) -> Result<Binding, Memory>
     requires rule { RuleNames names.old rule.now }
-    requires bindings { AllByRecursion (BindingNames (λ n. n < length names.old)) (map binding_of bindings.old) }
-    ensures changed { OnOk result ((final : List (List ℕ)) → Grows names.new final → Paired (IsBindingChanged final (becomes final rule.now)) bindings.old bindings.new) }
+    requires held { BindingNames (λ n. n < length names.old) (held_of held.now) }
+    ensures changed { IfOk result (λ made. (final : List (List ℕ)) → Grows names.new final → IsBindingChanged final (becomes final rule.now) (held_of held.now) made) }
     ensures grows { Grows names.old names.new }
 {
-    for binding in bindings.iter_mut() {
-        rewrite_binding(alloc, names, rule, binding)?;
+    let single = is_single(&plan.wanted, held.meta);
+    if held.meta.doubled {
+        let part = rewritten_part(alloc, names, rule, plan, &held.bound)?;
+        Ok(binding_for(single, held.meta, part))
+    } else {
+        let part = copied(alloc, &held.bound)?;
+        Ok(binding_for(single, held.meta, part))
     }
-    Ok(())
+}
+
+/// The same for what all metavariables are bound to.
+#[cycle(rewriting)]
+fn rewritten_bindings<'n>(
+    alloc: Global,
+    names: &mut Names,
+    rule: &Rule,
+    plan: &Plan,
+    held: &[Held<'n>],
+) -> Result<Vec<Binding>, Memory>
+    requires rule { RuleNames names.old rule.now }
+    requires held { AllByRecursion (BindingNames (λ n. n < length names.old)) (map held_of held.now) }
+    ensures changed { IfOk result (λ made. (final : List (List ℕ)) → Grows names.new final → AreChanged final (becomes final rule.now) (map held_of held.now) made.items) }
+    ensures grows { Grows names.old names.new }
+{
+    let mut made = Vec::new(alloc);
+    for one in held {
+        let binding = rewritten_binding(alloc, names, rule, plan, one)?;
+        made.push(binding)?;
+    }
+    Ok(made)
 }
 
 /// The body of a method or a do-it in which the rule is applied. At a node that the pattern matches, the parts of doubled
@@ -266,7 +563,14 @@ pub fn rewrite_body(
     ensures known { IfOk result (λ b. SequenceNames (λ n. n < length names.new) (sequence_of b)) }
     ensures grows { Grows names.old names.new }
 {
-    let mut rewritten = try_copy_doit(alloc, body)?;
-    rewrite_statements(alloc, names, rule, &mut rewritten.statements)?;
-    Ok(rewritten)
+    let mut wanted = Vec::new(alloc);
+    put_metas(&rule.replacement, &mut wanted)?;
+    let statements = body.statements.as_slice();
+    let may_be_high = may_be_high(alloc, statements, &rule.replacement)?;
+    let plan = Plan {
+        wanted,
+        may_be_high,
+    };
+    let statements = rewritten_statements(alloc, names, rule, &plan, statements)?;
+    with_statements(alloc, body, statements)
 }

@@ -1,11 +1,11 @@
-use Rattle.std.proofs.Common.{ℕ, List, ◌+◌, ◌*◌, take, drop, map}
+use Rattle.std.proofs.Common.{ℕ, List, ◌+◌, ◌*◌, take, drop}
 use Rattle.tree_model.specs.Tree.{trees_of}
 use Rattle.st_tree.specs.View.{messages_of}
 use Rattle.event_trees.specs.Naming.{Grows}
 use Rattle.patterns.specs.View.{patterns_of, messages_from, statements_from}
 use Rattle.patterns.specs.Weights.{pattern_weight, patterns_weight, messages_like_weight, statements_like_weight}
-use Rattle.pattern_match.specs.Bound.{binding_of}
-use Rattle.filled_patterns.specs.Filling.{Later, state_of, AreFilled, AreMessagesFilled, AreMade}
+use Rattle.filled_patterns.specs.Left.{Leaves}
+use Rattle.filled_patterns.specs.Filling.{Later, Over, state_of, AreFilled, AreMessagesFilled, AreMade}
 use Rattle.filled_patterns.proofs.filling.+filling.Given as goal
 
 abbrev pub decreases-filled_node : goal.decreases-filled_node
@@ -49,18 +49,21 @@ decreases-filled_sequence l = 3 * statements_like_weight (statements_from l.body
 
 abbrev pub invariant-filled_nodes-loop-pattern : goal.invariant-filled_nodes-loop-pattern
 invariant-filled_nodes-loop-pattern l = record {
-  filled : (final : List (List ℕ)) → Later l.names final → AreFilled final (map binding_of l.bindings) (patterns_of (take l.pattern-index l.patterns)) (trees_of l.nodes.items);
+  filled : (final : List (List ℕ)) → Later l.names final → Over final l.initial.bindings (λ bs. AreFilled final bs (patterns_of (take l.pattern-index l.patterns)) (trees_of l.nodes.items));
+  left : Leaves l.initial.bindings l.bindings;
   grows : Grows l.initial.names l.names;
 }
 
 abbrev pub invariant-filled_messages-loop-pattern : goal.invariant-filled_messages-loop-pattern
 invariant-filled_messages-loop-pattern l = record {
-  filled : (final : List (List ℕ)) → Later l.names final → AreMessagesFilled final (map binding_of l.bindings) (messages_from (take l.pattern-index l.patterns)) (messages_of l.messages.items);
+  filled : (final : List (List ℕ)) → Later l.names final → Over final l.initial.bindings (λ bs. AreMessagesFilled final bs (messages_from (take l.pattern-index l.patterns)) (messages_of l.messages.items));
+  left : Leaves l.initial.bindings l.bindings;
   grows : Grows l.initial.names l.names;
 }
 
 abbrev pub invariant-filled_sequence-loop-statement : goal.invariant-filled_sequence-loop-statement
 invariant-filled_sequence-loop-statement l = record {
-  filled : (final : List (List ℕ)) → Later l.names final → AreMade final (map binding_of l.bindings) (statements_from l.body.statements.items) (statements_from (drop l.statement-index l.body.statements.items)) l.body.tail (state_of l.made);
+  filled : (final : List (List ℕ)) → Later l.names final → Over final l.initial.bindings (λ bs. AreMade final bs (statements_from l.body.statements.items) (statements_from (drop l.statement-index l.body.statements.items)) l.body.tail (state_of l.made));
+  left : Leaves l.initial.bindings l.bindings;
   grows : Grows l.initial.names l.names;
 }

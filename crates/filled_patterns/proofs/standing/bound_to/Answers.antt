@@ -1,24 +1,22 @@
-use Rattle.std.proofs.Common.{map, sym, ◌∙◌}
-use Rattle.std.specs.Prelude.{nat_eq}
-use Rattle.pattern_model.specs.Bindings.{bound_of}
+use Rattle.std.proofs.Common.{ℕ, Some, None, get_or, sym, ap, ◌∙◌}
+use Rattle.tree_model.specs.Tree.{var}
+use Rattle.pattern_model.specs.Patterns.{MetaOf}
+use Rattle.pattern_model.specs.Bindings.{a_part, BindingOf}
 use Rattle.patterns.specs.View.{meta_of}
-use Rattle.pattern_match.specs.Bound.{binding_of}
-use Rattle.filled_patterns.proofs.Looked.{found_here, found_later, found_nowhere}
+use Rattle.filled_patterns.specs.declared.bindings.Binding.{Binding}
+use Rattle.filled_patterns.proofs.Held.{is_of, numbered_place, bound_nowhere, bound_there, held_part}
 use Rattle.filled_patterns.proofs.standing.bound_to.Goals as goal
 
-pub loop-binding-preserved : goal.loop-binding-preserved
-loop-binding-preserved c =
-    let l = c.loop-binding in
-    found_later c.args.bindings.now l.binding-index (meta_of c.args.meta.now) (bound_of nat_eq (map binding_of c.args.bindings.now) (meta_of c.args.meta.now)) l.invariant
-    c.binding-item.result c.loop-binding-test.true c.binding-item.is (sym c.same_meta.ensures ∙ c.if-same_meta.false)
+pub returns-in-None : goal.returns-in-None
+returns-in-None c = λ bs h.
+    let m : MetaOf ℕ = meta_of c.args.meta.now in
+    bound_nowhere m bs c.args.bindings.now h (numbered_place (is_of m) c.args.bindings.now None (sym c.in-None.is ∙ c.binding_number.ensures))
 
-pub returns-then-same_meta : goal.returns-then-same_meta
-returns-then-same_meta c =
-    let l = c.loop-binding in
-    found_here c.args.bindings.now l.binding-index (meta_of c.args.meta.now) (bound_of nat_eq (map binding_of c.args.bindings.now) (meta_of c.args.meta.now)) l.invariant
-    c.binding-item.result c.loop-binding-test.true c.binding-item.is (sym c.same_meta.ensures ∙ c.if-same_meta.true)
-
-pub returns : goal.returns
-returns c =
-    let l = c.loop-binding in
-    found_nowhere c.args.bindings.now l.binding-index (meta_of c.args.meta.now) (bound_of nat_eq (map binding_of c.args.bindings.now) (meta_of c.args.meta.now)) l.invariant c.loop-binding-test.false
+pub returns-in-Some-bound : goal.returns-in-Some-bound
+returns-in-Some-bound c = λ bs h.
+    let m : MetaOf ℕ = meta_of c.args.meta.now in
+    let d : BindingOf ℕ = record { meta = m; bound = a_part (var m.name) } in
+    let s : Binding = c.index-bindings-at.result in
+    let n = numbered_place (is_of m) c.args.bindings.now (Some c.in-Some.at) (sym c.in-Some.is ∙ c.binding_number.ensures) in
+    let there = bound_there m d bs c.args.bindings.now c.in-Some.at s h n.0 n.1 c.index-bindings-at.is in
+    held_part (get_or bs c.in-Some.at d) s c.in-Some-bound.bound (ap (λ (u : Binding). u.bound) c.index-bindings-at.is ∙ c.in-Some-bound.is) there.0 ∙ there.1

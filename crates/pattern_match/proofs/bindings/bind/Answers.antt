@@ -1,11 +1,11 @@
 use Rattle.std.proofs.Common.{refl, map, arith}
-use Rattle.pattern_match.specs.Bound.{binding_of}
+use Rattle.pattern_match.specs.Bound.{held_of}
 use Rattle.pattern_match.proofs.FirstBindings.{bound_already, bound_now}
 use Rattle.pattern_match.proofs.bindings.bind.Goals as goal
 
 pub returns-then-earlier : goal.returns-then-earlier
 returns-then-earlier c =
-    bound_already c.args.places.now c.args.at c.index-places-at.result c.requires c.index-places-at.is c.first_place-first.result c.first_place-first.ensures (map binding_of c.args.bindings.now.items) (omega arith)
+    bound_already c.args.places.now c.args.at c.index-places-at.result c.requires c.index-places-at.is c.first_place-first.result c.first_place-first.ensures (map held_of c.args.bindings.now.items) (omega arith)
 
 pub returns : goal.returns
 returns c =

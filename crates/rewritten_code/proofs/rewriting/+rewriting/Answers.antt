@@ -1,248 +1,428 @@
-use Rattle.std.proofs.Common.{◌≡◌, ℕ, ◌<◌, true, false, List, length, get_or, map, sym, ap, subst, ◌∙◌, arith, rules}
-use Rattle.std.specs.Prelude.{MatchOption}
+use Rattle.std.proofs.Common.{◌≡◌, ℕ, true, false, List, map, sym, ap, subst, arith, rules}
+use Rattle.std.specs.Prelude.{IfOk}
 use Rattle.std.specs.List.{AllByRecursion}
-use Rattle.std.proofs.lemmas.Grind.{common_steps}
-use Rattle.std.proofs.lemmas.Bool.{not-true}
-use Rattle.tree_model.specs.Tree.{TreeOf, send, cascade, block, trees_of}
-use Rattle.tree_model.specs.AllNames.{AllNames, TreesNames, MessagesNames, StatementsNames}
-use Rattle.tree_model.specs.Measure.{height, trees_height, messages_height, statements_height}
+use Rattle.std.proofs.lemmas.Result.{IfOk-weaker}
+use Rattle.tree_model.specs.Tree.{TreeOf, literal, trees_of}
+use Rattle.tree_model.specs.AllNames.{AllNames, TreesNames, StatementsNames}
+use Rattle.tree_model.specs.Measure.{height, trees_height, statements_height}
 use Rattle.st_tree.specs.View.{tree_of, messages_of, statements_of}
 use Rattle.st_tree.specs.declared.tree.Message.{Message}
 use Rattle.st_tree.specs.declared.tree.Sequence.{Sequence}
 use Rattle.st_tree.specs.declared.tree.Statement.{Statement}
+use Rattle.event_trees.specs.Naming.{Grows}
 use Rattle.event_trees.proofs.Known.{Grows-none, Grows-twice}
-use Rattle.pattern_match.specs.Bound.{binding_of}
-use Rattle.pattern_match.specs.declared.bindings.Binding.{Binding}
-use Rattle.filled_patterns.specs.Bound.{BindingNames}
-use Rattle.rewritten_code.specs.Changed.{is_whole, Known, becomes, AreBoundIn, IsNoMatch, IsChanged, IsMessageChanged, IsStatementChanged, IsBindingChanged}
-use Rattle.rewritten_code.specs.Lower.{doubled_height}
+use Rattle.pattern_model.specs.Bindings.{BoundOf, a_part, a_run, a_message}
+use Rattle.pattern_model.specs.Rewritten.{each_child}
+use Rattle.patterns.specs.View.{meta_of}
+use Rattle.pattern_match.specs.Bound.{bound_of, held_of}
+use Rattle.pattern_match.specs.Gathering.{bound_from}
+use Rattle.pattern_match.specs.declared.bindings.Held.{Held}
+use Rattle.pattern_match.specs.declared.standing.Standing.{Standing}
+use Rattle.filled_patterns.specs.declared.bindings.Binding.{Binding}
+use Rattle.filled_patterns.specs.Bound.{BoundNames, BindingNames}
+use Rattle.rewritten_code.specs.Changed.{Paired, Known, becomes, replaced, AreBoundIn, IsChanged, IsMessageChanged, IsStatementChanged, IsBoundChanged, AreChanged}
+use Rattle.rewritten_code.specs.Lower.{height_bound, bindings_height}
+use Rattle.rewritten_code.proofs.PatternsSame.{names_imply}
 use Rattle.rewritten_code.proofs.Growing.{still_known, tree_known, trees_known, messages_known, rule_known, binding_known}
 use Rattle.rewritten_code.proofs.LowerBound.{height_tree, height_message, height_statement, height_binding}
-use Rattle.rewritten_code.proofs.Written.{paired_more, bindings_changed, tree_in, message_in, statement_in, binding_in, message_put, statement_put}
-use Rattle.rewritten_code.proofs.Matching.{put_rewritten, found_some, found_none, filled_from, below_becomes, whole_becomes}
-use Rattle.rewritten_code.proofs.NodeKinds.{of_send, of_cascade, below_send, below_cascade, below_block, below_brace, below_leaf, binding_stays, run_becomes, message_becomes}
+use Rattle.rewritten_code.proofs.Written.{paired_none, paired_put, paired_all, changed_none, changed_put, changed_all, tree_in, message_in, statement_in, binding_in, message_made, statement_made}
+use Rattle.rewritten_code.proofs.Matching.{FillsSame, FillsKnown, goes_on, still_becomes, put_rewritten, then_replaced, found_some, found_none, found_low, meta_some, meta_none, is_whole_by, if_both}
+use Rattle.rewritten_code.proofs.NodeKinds.{Becomes, BelowBecomes, BoundBecomes, of_send, of_cascade, of_assign, of_block, of_brace, of_return, send_is, cascade_is, assign_is, block_is, brace_is, return_is, made_send, made_cascade, made_assignment, block_made, made_brace, made_return, made_part, made_run, made_message, made_doubled, made_single, var_stays, literal_stays, copied_stays, doubled_same}
 use Rattle.rewritten_code.proofs.rewriting.+rewriting.Goals as goal
 
-pub rewrite_below-rewrite_nodes-requires : goal.rewrite_below-rewrite_nodes-requires
-rewrite_below-rewrite_nodes-requires t c =
-    let e : tree_of c.args.kind.now ≡ send c.in-Send.receiver.value c.in-Send.selector (trees_of c.in-Send.arguments) = ap tree_of c.in-Send.is in
-    let known = of_send (Known c.args.names.now) (tree_of c.args.kind.now) c.requires.node c.in-Send.receiver.value c.in-Send.selector (trees_of c.in-Send.arguments) e in
-    (omega (arith, ap (height {N = ℕ}) e), (rule_known c.rewrite_node.ensures.grows c.args.rule.now c.requires.rule, trees_known c.rewrite_node.ensures.grows (trees_of c.in-Send.arguments) known.2))
+pub rewritten_send-boxed_node-requires : goal.rewritten_send-boxed_node-requires
+rewritten_send-boxed_node-requires t c = (omega arith, (c.requires.rule, c.requires.receiver))
 
-pub rewrite_below-rewrite_messages-requires : goal.rewrite_below-rewrite_messages-requires
-rewrite_below-rewrite_messages-requires t c =
-    let e : tree_of c.args.kind.now ≡ cascade c.in-Cascade.receiver.value (messages_of c.in-Cascade.messages) = ap tree_of c.in-Cascade.is in
-    let known = of_cascade (Known c.args.names.now) (tree_of c.args.kind.now) c.requires.node c.in-Cascade.receiver.value (messages_of c.in-Cascade.messages) e in
-    let grows = c.rewrite_node-in-Cascade.ensures.grows in
-    (omega (arith, ap (height {N = ℕ}) e), (rule_known grows c.args.rule.now c.requires.rule, messages_known grows (messages_of c.in-Cascade.messages) known.1))
+pub rewritten_send-rewritten_nodes-requires : goal.rewritten_send-rewritten_nodes-requires
+rewritten_send-rewritten_nodes-requires t c =
+    let g = c.boxed_node.ensures.grows in
+    (omega arith, (rule_known g c.args.rule.now c.requires.rule, trees_known g (trees_of c.args.arguments.now) c.requires.arguments))
 
-pub rewrite_below-returns-in_ok-rewrite_node-in-Send-clause-changed : goal.rewrite_below-returns-in_ok-rewrite_node-in-Send-clause-changed
-rewrite_below-returns-in_ok-rewrite_node-in-Send-clause-changed t c =
-    let lent : c.deref_mut.result.now ≡ c.in-Send.receiver.value = c.deref_mut.ensures.value in
-    let e : tree_of c.args.kind.now ≡ send c.deref_mut.result.now c.in-Send.selector (trees_of c.in-Send.arguments) = ap tree_of c.in-Send.is ∙ (λ i. send (sym lent i) c.in-Send.selector (trees_of c.in-Send.arguments)) in
-    below_send c.args.rule.now c.args.names.now (tree_of c.args.kind.now) c.requires.node c.rewrite_nodes.result c.rewrite_node.new.names c.rewrite_nodes.new.names c.rewrite_node.ensures.grows c.rewrite_nodes.ensures.grows
-    c.deref_mut.result.now c.rewrite_node.new.node c.in-Send.selector c.in-Send.arguments c.rewrite_nodes.new.nodes e c.in_ok-rewrite_node-in-Send.ensures.changed c.rewrite_nodes.ensures.changed
+pub rewritten_send-returns-clause-changed : goal.rewritten_send-returns-clause-changed
+rewritten_send-returns-clause-changed t c = λ final g.
+    let whole = Grows-twice c.boxed_node.ensures.grows (Grows-twice c.rewritten_nodes.ensures.grows g) in
+    made_send final (becomes final c.args.rule.now) c.args.receiver.now c.in_ok-receiver.receiver.value c.args.selector c.args.arguments.now c.in_ok-arguments.arguments (still_known whole c.args.selector c.requires.selector)
+    (c.in_ok-receiver.ensures.changed final (Grows-twice c.rewritten_nodes.ensures.grows g)) (c.in_ok-arguments.ensures.changed final g)
 
-pub rewrite_below-returns-in_ok-rewrite_node-in-Cascade-clause-changed : goal.rewrite_below-returns-in_ok-rewrite_node-in-Cascade-clause-changed
-rewrite_below-returns-in_ok-rewrite_node-in-Cascade-clause-changed t c =
-    let lent : c.deref_mut-in-Cascade.result.now ≡ c.in-Cascade.receiver.value = c.deref_mut-in-Cascade.ensures.value in
-    let e : tree_of c.args.kind.now ≡ cascade c.deref_mut-in-Cascade.result.now (messages_of c.in-Cascade.messages) = ap tree_of c.in-Cascade.is ∙ (λ i. cascade (sym lent i) (messages_of c.in-Cascade.messages)) in
-    below_cascade c.args.rule.now c.args.names.now (tree_of c.args.kind.now) c.requires.node c.rewrite_messages.result c.rewrite_node-in-Cascade.new.names c.rewrite_messages.new.names c.rewrite_messages.ensures.grows
-    c.deref_mut-in-Cascade.result.now c.rewrite_node-in-Cascade.new.node c.in-Cascade.messages c.rewrite_messages.new.messages e c.in_ok-rewrite_node-in-Cascade.ensures.changed c.rewrite_messages.ensures.changed
+pub rewritten_nodes-loop-node-init : goal.rewritten_nodes-loop-node-init
+rewritten_nodes-loop-node-init t c = record {
+  grows = Grows-none c.args.names.now;
+  changed = λ final g. paired_none (IsChanged final (becomes final c.args.rule.now)) c.args.nodes.now _ c.new-made.ensures.items;
+}
 
-pub rewrite_below-returns-in-Block-clause-changed : goal.rewrite_below-returns-in-Block-clause-changed
-rewrite_below-returns-in-Block-clause-changed t c =
-    let body : Sequence = c.deref_mut-in-Block.result.now in
-    let lent : body ≡ c.in-Block.body.value = c.deref_mut-in-Block.ensures.value in
-    let e : tree_of c.args.kind.now ≡ block c.in-Block.parameters body.temporaries (statements_of body.statements) body.tail =
-    ap tree_of c.in-Block.is ∙ (λ i. let b : Sequence = sym lent i in block c.in-Block.parameters b.temporaries (statements_of b.statements) b.tail) in
-    below_block c.args.rule.now c.args.names.now (tree_of c.args.kind.now) c.requires.node c.rewrite_statements.result c.rewrite_statements.new.names c.rewrite_statements.ensures.grows
-    c.in-Block.parameters body.temporaries body.statements c.rewrite_statements.new.statements body.tail e c.rewrite_statements.ensures.changed
-
-pub rewrite_below-returns-in-Brace-clause-changed : goal.rewrite_below-returns-in-Brace-clause-changed
-rewrite_below-returns-in-Brace-clause-changed t c =
-    below_brace c.args.rule.now c.args.names.now (tree_of c.args.kind.now) c.requires.node c.rewrite_nodes-in-Brace.result c.rewrite_nodes-in-Brace.new.names
-    c.in-Brace.items c.rewrite_nodes-in-Brace.new.nodes (ap tree_of c.in-Brace.is) c.rewrite_nodes-in-Brace.ensures.changed
-
-pub rewrite_below-returns-in-Var-2-clause-changed : goal.rewrite_below-returns-in-Var-2-clause-changed
-rewrite_below-returns-in-Var-2-clause-changed t c =
-    below_leaf c.args.rule.now c.args.names.now c.args.kind.now c.in-Var.is c.requires.node
-
-pub rewrite_binding-returns-then-not-binding-clause-changed : goal.rewrite_binding-returns-then-not-binding-clause-changed
-rewrite_binding-returns-then-not-binding-clause-changed t c =
-    let off : c.args.binding.now.meta.doubled ≡ false = first_of (search rules, search (rules, not-true), grind (arith, not-true), cc) in
-    binding_stays c.args.rule.now c.args.names.now c.args.binding.now c.requires.binding off
-
-pub rewrite_binding-returns-in-Run-clause-changed : goal.rewrite_binding-returns-in-Run-clause-changed
-rewrite_binding-returns-in-Run-clause-changed t c =
-    let on : c.args.binding.now.meta.doubled ≡ true = first_of (search rules, grind (arith, common_steps), cc) in
-    run_becomes c.args.rule.now c.args.names.now c.rewrite_statements.new.names c.rewrite_statements.ensures.grows c.args.binding.now c.requires.binding on
-    c.rewrite_statements.result c.in-Run.statements c.rewrite_statements.new.statements c.in-Run.is c.rewrite_statements.ensures.changed
-
-pub rewrite_binding-returns-in-Whole-clause-changed : goal.rewrite_binding-returns-in-Whole-clause-changed
-rewrite_binding-returns-in-Whole-clause-changed t c =
-    let on : c.args.binding.now.meta.doubled ≡ true = first_of (search rules, grind (arith, common_steps), cc) in
-    message_becomes c.args.rule.now c.args.names.now c.rewrite_nodes.new.names c.rewrite_nodes.ensures.grows c.args.binding.now c.requires.binding on
-    c.rewrite_nodes.result c.in-Whole.message c.rewrite_nodes.new.nodes c.in-Whole.is c.rewrite_nodes.ensures.changed
-
-pub rewrite_match-fill-requires-clause-pattern : goal.rewrite_match-fill-requires-clause-pattern
-rewrite_match-fill-requires-clause-pattern t c = (rule_known c.rewrite_bindings.ensures.grows c.args.rule.now c.requires.rule).replacement
-
-pub rewrite_match-fill-requires-clause-bindings : goal.rewrite_match-fill-requires-clause-bindings
-rewrite_match-fill-requires-clause-bindings t c =
-    let new = c.rewrite_bindings.new in
-    let lent : c.deref.result.now ≡ new.bindings = first_of (search rules, grind (arith, common_steps), cc) in
-    let changed = bindings_changed new.names (becomes new.names c.args.rule.now) c.as_mut_slice.result.now new.bindings (c.in_ok-rewrite_bindings-in-Some.ensures.changed new.names (Grows-none new.names)) in
-    subst (λ (bs : List Binding). AllByRecursion (BindingNames (Known new.names)) (map binding_of bs)) (sym lent) changed.1
-
-pub rewrite_match-returns-in-None-clause-changed : goal.rewrite_match-returns-in-None-clause-changed
-rewrite_match-returns-in-None-clause-changed t c =
-    let names : List (List ℕ) = c.args.names.now in
-    let found : MatchOption c.in_ok-bindings_at.field-0 (IsNoMatch names c.args.rule.now.pattern c.args.node.now) (λ bs. AreBoundIn names c.args.rule.now.pattern c.args.node.now (map binding_of bs.items)) =
-    c.in_ok-bindings_at.ensures.found in
-    below_becomes c.rewrite_below.result names c.rewrite_below.new.names c.rewrite_below.ensures.grows c.args.rule.now c.requires.rule c.args.node.now c.requires.node (tree_of c.node.inside.kind) (tree_of c.rewrite_below.new.kind) c.node.view_is
-    (found_none names c.args.rule.now.pattern c.args.node.now c.in_ok-bindings_at.field-0 c.in-None.is found) c.rewrite_below.ensures.changed
-
-pub rewrite_match-returns-in_ok-node-inside-in-Some-clause-changed : goal.rewrite_match-returns-in_ok-node-inside-in-Some-clause-changed
-rewrite_match-returns-in_ok-node-inside-in-Some-clause-changed t c =
-    let names : List (List ℕ) = c.args.names.now in
-    let found : MatchOption c.in_ok-bindings_at.field-0 (IsNoMatch names c.args.rule.now.pattern c.args.node.now) (λ bs. AreBoundIn names c.args.rule.now.pattern c.args.node.now (map binding_of bs.items)) =
-    c.in_ok-bindings_at.ensures.found in
-    let new = c.rewrite_bindings.new in
-    let made = c.in_ok-node-inside-in-Some in
-    let bs : List Binding = c.as_mut_slice.result.now in
-    let lent : c.deref.result.now ≡ new.bindings = first_of (search rules, grind (arith, common_steps), cc) in
-    let matched : AreBoundIn names c.args.rule.now.pattern c.args.node.now (map binding_of bs) =
-    subst (λ (xs : List Binding). AreBoundIn names c.args.rule.now.pattern c.args.node.now (map binding_of xs)) (sym c.as_mut_slice.ensures.value) (found_some names c.args.rule.now.pattern c.args.node.now c.in_ok-bindings_at.field-0 c.in-Some.bindings c.in-Some.is found) in
-    λ final g.
-    subst (λ (v : TreeOf ℕ). IsChanged final (becomes final c.args.rule.now) c.args.node.now v) (sym c.branch.view_is)
-    (put_rewritten (Grows-twice c.rewrite_bindings.ensures.grows c.fill.ensures.grows) c.args.rule.now c.requires.rule c.args.node.now c.requires.node bs matched made.field-0 c.requires.pattern new.names c.fill.ensures.grows new.bindings
-    c.in_ok-rewrite_bindings-in-Some.ensures.changed (filled_from c.fill.new.names c.args.rule.now c.deref.result.now new.bindings made.field-0 lent made.ensures.filled made.ensures.known) final g)
-
-pub rewrite_node-replace-requires-clause-rule : goal.rewrite_node-replace-requires-clause-rule
-rewrite_node-replace-requires-clause-rule t c = rule_known c.rewrite_below.ensures.grows c.args.rule.now c.requires.rule
-
-pub rewrite_node-replace-requires-clause-node : goal.rewrite_node-replace-requires-clause-node
-rewrite_node-replace-requires-clause-node t c = (c.in_ok-rewrite_below.ensures.changed c.rewrite_below.new.names (Grows-none c.rewrite_below.new.names)).known
-
-pub rewrite_node-returns-in_ok-rewrite_below-clause-changed : goal.rewrite_node-returns-in_ok-rewrite_below-clause-changed
-rewrite_node-returns-in_ok-rewrite_below-clause-changed t c =
-    let whole : is_whole c.args.rule.now.pattern ≡ true = first_of (search rules, cc) in
-    whole_becomes c.replace.result c.args.rule.now c.rewrite_below.new.names c.replace.new.names c.replace.ensures.grows (tree_of c.node.inside.kind) c.args.node.now (tree_of c.rewrite_below.new.kind) c.replace.new.node c.node.view_is whole
-    c.in_ok-rewrite_below.ensures.changed c.replace.ensures.replaced
-
-pub rewrite_nodes-rewrite_node-requires : goal.rewrite_nodes-rewrite_node-requires
-rewrite_nodes-rewrite_node-requires t c =
+pub rewritten_nodes-rewritten_node-requires : goal.rewritten_nodes-rewritten_node-requires
+rewritten_nodes-rewritten_node-requires t c =
     let l = c.loop-node in
-    let xs : List (TreeOf ℕ) = c.as_mut_slice-node-items.result.now in
-    let x : TreeOf ℕ = c.node-item.result in
-    let at : x ≡ get_or xs l.node-index x = c.node-item.is ∙ l.invariant.unvisited.1 l.node-index x (omega arith) in
-    let all : TreesNames (Known c.args.names.now) (trees_of xs) = subst (λ (ys : List (TreeOf ℕ)). TreesNames (Known c.args.names.now) (trees_of ys)) (sym c.as_mut_slice-node-items.ensures.value) c.requires.nodes in (
-      omega (arith, height_tree xs l.node-index x c.loop-node-test.true at, ap (height {N = ℕ}) c.node-item.is, ap (λ (ys : List (TreeOf ℕ)). trees_height (trees_of ys)) c.as_mut_slice-node-items.ensures.value),
-      (rule_known l.invariant.grows c.args.rule.now c.requires.rule, subst (AllNames (Known l.names)) c.node-item.is (tree_known l.invariant.grows x (tree_in (Known c.args.names.now) xs l.node-index x c.loop-node-test.true at all))),
+    let xs : List (TreeOf ℕ) = c.args.nodes.now in
+    let x : TreeOf ℕ = c.node-item.result in (
+      omega (arith, height_tree xs l.node-index x c.loop-node-test.true c.node-item.is),
+      (rule_known l.invariant.grows c.args.rule.now c.requires.rule, tree_known l.invariant.grows x (tree_in (Known c.args.names.now) xs l.node-index x c.loop-node-test.true c.node-item.is c.requires.nodes)),
     )
 
-pub rewrite_nodes-loop-node-preserved : goal.rewrite_nodes-loop-node-preserved
-rewrite_nodes-loop-node-preserved t c =
+pub rewritten_nodes-loop-node-preserved : goal.rewritten_nodes-loop-node-preserved
+rewritten_nodes-loop-node-preserved t c =
     let l = c.loop-node in
-    let xs : List (TreeOf ℕ) = c.as_mut_slice-node-items.result.now in
-    let x : TreeOf ℕ = c.node-item.result in
-    let at : x ≡ get_or xs l.node-index x = c.node-item.is ∙ l.invariant.unvisited.1 l.node-index x (omega arith) in
+    let g0 = c.rewritten_node.ensures.grows in
     record {
-      unvisited = search (rules, common_steps);
-      grows = Grows-twice l.invariant.grows c.rewrite_node.ensures.grows;
+      grows = Grows-twice l.invariant.grows g0;
       changed = λ final g.
-          paired_more (IsChanged final (becomes final c.args.rule.now)) xs l.node-items x c.rewrite_node.new.node l.node-index c.loop-node-test.true (omega (arith, l.invariant.unvisited.0)) at (l.invariant.changed final (Grows-twice c.rewrite_node.ensures.grows g))
-          (subst (λ (y : TreeOf ℕ). IsChanged final (becomes final c.args.rule.now) y c.rewrite_node.new.node) (sym c.node-item.is) (c.in_ok-rewrite_node.ensures.changed final g));
+          paired_put (IsChanged final (becomes final c.args.rule.now)) c.args.nodes.now l.made.items c.push.new.self.items c.node-item.result c.in_ok-one.one l.node-index c.loop-node-test.true c.node-item.is (search rules)
+          (l.invariant.changed final (Grows-twice g0 g)) (c.in_ok-one.ensures.changed final g);
     }
 
-pub rewrite_messages-rewrite_nodes-requires : goal.rewrite_messages-rewrite_nodes-requires
-rewrite_messages-rewrite_nodes-requires t c =
-    let l = c.loop-message in
-    let xs : List Message = c.as_mut_slice-message-items.result.now in
-    let x : Message = c.message-item.result in
-    let at : x ≡ get_or xs l.message-index x = c.message-item.is ∙ l.invariant.unvisited.1 l.message-index x (omega arith) in
-    let all : MessagesNames (Known c.args.names.now) (messages_of xs) = subst (λ (ys : List Message). MessagesNames (Known c.args.names.now) (messages_of ys)) (sym c.as_mut_slice-message-items.ensures.value) c.requires.messages in
-    let known = message_in (Known c.args.names.now) xs l.message-index x c.loop-message-test.true at all in (
-      omega (arith, height_message xs l.message-index x c.loop-message-test.true at, ap (λ (m : Message). trees_height (trees_of m.arguments)) c.message-item.is, ap (λ (ys : List Message). messages_height (messages_of ys)) c.as_mut_slice-message-items.ensures.value),
-      (rule_known l.invariant.grows c.args.rule.now c.requires.rule, subst (λ (m : Message). TreesNames (Known l.names) (trees_of m.arguments)) c.message-item.is (trees_known l.invariant.grows (trees_of x.arguments) known.1)),
-    )
+pub rewritten_nodes-returns-clause-changed : goal.rewritten_nodes-returns-clause-changed
+rewritten_nodes-returns-clause-changed t c = λ final g.
+    let l = c.loop-node in
+    paired_all (IsChanged final (becomes final c.args.rule.now)) c.args.nodes.now l.made.items c.from_vec.result l.node-index c.loop-node-test.false c.from_vec.ensures (l.invariant.changed final g)
 
-pub rewrite_messages-loop-message-preserved : goal.rewrite_messages-loop-message-preserved
-rewrite_messages-loop-message-preserved t c =
-    let l = c.loop-message in
-    let xs : List Message = c.as_mut_slice-message-items.result.now in
-    let x : Message = c.message-item.result in
-    let there : Message = get_or l.message-items l.message-index x in
-    let at : x ≡ get_or xs l.message-index x = c.message-item.is ∙ l.invariant.unvisited.1 l.message-index x (omega arith) in
-    let all : MessagesNames (Known c.args.names.now) (messages_of xs) = subst (λ (ys : List Message). MessagesNames (Known c.args.names.now) (messages_of ys)) (sym c.as_mut_slice-message-items.ensures.value) c.requires.messages in
-    let known = message_in (Known c.args.names.now) xs l.message-index x c.loop-message-test.true at all in
-    record {
-      unvisited = search (rules, common_steps);
-      grows = Grows-twice l.invariant.grows c.rewrite_nodes.ensures.grows;
-      changed = λ final g.
-          let whole = Grows-twice l.invariant.grows (Grows-twice c.rewrite_nodes.ensures.grows g) in
-          paired_more (IsMessageChanged final (becomes final c.args.rule.now)) xs l.message-items x (record { selector = there.selector; arguments = c.rewrite_nodes.new.nodes }) l.message-index c.loop-message-test.true (omega (arith, l.invariant.unvisited.0)) at
-          (l.invariant.changed final (Grows-twice c.rewrite_nodes.ensures.grows g))
-          (message_put final (becomes final c.args.rule.now) x there c.rewrite_nodes.new.nodes c.message-item.is (still_known whole x.selector known.0) (c.in_ok-rewrite_nodes.ensures.changed final g));
-    }
+pub rewritten_cascade-boxed_node-requires : goal.rewritten_cascade-boxed_node-requires
+rewritten_cascade-boxed_node-requires t c = (omega arith, (c.requires.rule, c.requires.receiver))
 
-pub rewrite_statements-rewrite_node-requires : goal.rewrite_statements-rewrite_node-requires
-rewrite_statements-rewrite_node-requires t c =
-    let l = c.loop-statement in
-    let xs : List Statement = c.as_mut_slice-statement-items.result.now in
-    let x : Statement = c.statement-item.result in
-    let at : x ≡ get_or xs l.statement-index x = c.statement-item.is ∙ l.invariant.unvisited.1 l.statement-index x (omega arith) in
-    let all : StatementsNames (Known c.args.names.now) (statements_of xs) = subst (λ (ys : List Statement). StatementsNames (Known c.args.names.now) (statements_of ys)) (sym c.as_mut_slice-statement-items.ensures.value) c.requires.statements in (
-      omega (arith, height_statement xs l.statement-index x c.loop-statement-test.true at, ap (λ (s : Statement). height s.node) c.statement-item.is, ap (λ (ys : List Statement). statements_height (statements_of ys)) c.as_mut_slice-statement-items.ensures.value),
+pub rewritten_cascade-rewritten_messages-requires : goal.rewritten_cascade-rewritten_messages-requires
+rewritten_cascade-rewritten_messages-requires t c =
+    let g = c.boxed_node.ensures.grows in
+    (omega arith, (rule_known g c.args.rule.now c.requires.rule, messages_known g (messages_of c.args.messages.now) c.requires.messages))
+
+pub rewritten_cascade-returns-clause-changed : goal.rewritten_cascade-returns-clause-changed
+rewritten_cascade-returns-clause-changed t c = λ final g.
+    made_cascade final (becomes final c.args.rule.now) c.args.receiver.now c.in_ok-receiver.receiver.value c.args.messages.now c.in_ok-messages.messages
+    (c.in_ok-receiver.ensures.changed final (Grows-twice c.rewritten_messages.ensures.grows g)) (c.in_ok-messages.ensures.changed final g)
+
+pub rewritten_assignment-returns-clause-changed : goal.rewritten_assignment-returns-clause-changed
+rewritten_assignment-returns-clause-changed t c = λ final g.
+    made_assignment final (becomes final c.args.rule.now) c.args.name c.args.value.now c.in_ok-value.value.value (still_known (Grows-twice c.boxed_node.ensures.grows g) c.args.name c.requires.name) (c.in_ok-value.ensures.changed final g)
+
+pub rewritten_brace-returns-clause-changed : goal.rewritten_brace-returns-clause-changed
+rewritten_brace-returns-clause-changed t c = λ final g. made_brace final (becomes final c.args.rule.now) c.args.items.now c.in_ok-items.items (c.in_ok-items.ensures.changed final g)
+
+pub rewritten_return-returns-clause-changed : goal.rewritten_return-returns-clause-changed
+rewritten_return-returns-clause-changed t c = λ final g. made_return final (becomes final c.args.rule.now) c.args.value.now c.in_ok-value.value.value (c.in_ok-value.ensures.changed final g)
+
+pub rewritten_messages-loop-message-init : goal.rewritten_messages-loop-message-init
+rewritten_messages-loop-message-init t c = record {
+  grows = Grows-none c.args.names.now;
+  changed = λ final g. paired_none (IsMessageChanged final (becomes final c.args.rule.now)) c.args.messages.now _ c.new-made.ensures.items;
+}
+
+pub rewritten_messages-rewritten_nodes-requires : goal.rewritten_messages-rewritten_nodes-requires
+rewritten_messages-rewritten_nodes-requires t c =
+    let l = c.loop-message in
+    let xs : List Message = c.args.messages.now in
+    let x : Message = c.message-item.result in
+    let known = message_in (Known c.args.names.now) xs l.message-index x c.loop-message-test.true c.message-item.is c.requires.messages in (
+      omega (arith, height_message xs l.message-index x c.loop-message-test.true c.message-item.is, ap (λ (ts : List (TreeOf ℕ)). trees_height (trees_of ts)) c.as_slice.ensures),
       (
         rule_known l.invariant.grows c.args.rule.now c.requires.rule,
-        subst (λ (s : Statement). AllNames (Known l.names) s.node) c.statement-item.is (tree_known l.invariant.grows x.node (statement_in (Known c.args.names.now) xs l.statement-index x c.loop-statement-test.true at all)),
+        subst (λ (ts : List (TreeOf ℕ)). TreesNames (Known l.names) (trees_of ts)) (sym c.as_slice.ensures) (trees_known l.invariant.grows (trees_of x.arguments) known.1),
       ),
     )
 
-pub rewrite_statements-loop-statement-preserved : goal.rewrite_statements-loop-statement-preserved
-rewrite_statements-loop-statement-preserved t c =
-    let l = c.loop-statement in
-    let xs : List Statement = c.as_mut_slice-statement-items.result.now in
-    let x : Statement = c.statement-item.result in
-    let there : Statement = get_or l.statement-items l.statement-index x in
-    let at : x ≡ get_or xs l.statement-index x = c.statement-item.is ∙ l.invariant.unvisited.1 l.statement-index x (omega arith) in
+pub rewritten_messages-loop-message-preserved : goal.rewritten_messages-loop-message-preserved
+rewritten_messages-loop-message-preserved t c =
+    let l = c.loop-message in
+    let xs : List Message = c.args.messages.now in
+    let x : Message = c.message-item.result in
+    let known = message_in (Known c.args.names.now) xs l.message-index x c.loop-message-test.true c.message-item.is c.requires.messages in
+    let g0 = c.rewritten_nodes.ensures.grows in
     record {
-      unvisited = search (rules, common_steps);
-      grows = Grows-twice l.invariant.grows c.rewrite_node.ensures.grows;
+      grows = Grows-twice l.invariant.grows g0;
       changed = λ final g.
-          paired_more (IsStatementChanged final (becomes final c.args.rule.now)) xs l.statement-items x (record { comments = there.comments; node = c.rewrite_node.new.node }) l.statement-index c.loop-statement-test.true (omega (arith, l.invariant.unvisited.0)) at
-          (l.invariant.changed final (Grows-twice c.rewrite_node.ensures.grows g))
-          (statement_put final (becomes final c.args.rule.now) x there c.rewrite_node.new.node c.statement-item.is (c.in_ok-rewrite_node.ensures.changed final g));
+          paired_put (IsMessageChanged final (becomes final c.args.rule.now)) xs l.made.items c.push.new.self.items x (record { selector = x.selector; arguments = c.in_ok-arguments.arguments }) l.message-index c.loop-message-test.true c.message-item.is (search rules)
+          (l.invariant.changed final (Grows-twice g0 g))
+          (message_made final (becomes final c.args.rule.now) x c.in_ok-arguments.arguments (still_known (Grows-twice l.invariant.grows (Grows-twice g0 g)) x.selector known.0)
+          (subst (λ (ts : List (TreeOf ℕ)). Paired (IsChanged final (becomes final c.args.rule.now)) ts c.in_ok-arguments.arguments) c.as_slice.ensures (c.in_ok-arguments.ensures.changed final g)));
     }
 
-pub rewrite_bindings-rewrite_binding-requires : goal.rewrite_bindings-rewrite_binding-requires
-rewrite_bindings-rewrite_binding-requires t c =
-    let l = c.loop-binding in
-    let xs : List Binding = c.args.bindings.now in
-    let x : Binding = c.binding-item.result in
-    let within : l.binding-index < length xs = omega (arith, l.invariant.long) in
-    let at : x ≡ get_or xs l.binding-index x = c.binding-item.is ∙ l.invariant.unvisited l.binding-index x (omega arith) in (
-      omega (arith, height_binding xs l.binding-index x within at, ap (λ (b : Binding). doubled_height (binding_of b)) c.binding-item.is),
+pub rewritten_messages-returns-clause-changed : goal.rewritten_messages-returns-clause-changed
+rewritten_messages-returns-clause-changed t c = λ final g.
+    let l = c.loop-message in
+    paired_all (IsMessageChanged final (becomes final c.args.rule.now)) c.args.messages.now l.made.items c.from_vec.result l.message-index c.loop-message-test.false c.from_vec.ensures (l.invariant.changed final g)
+
+pub rewritten_statements-loop-statement-init : goal.rewritten_statements-loop-statement-init
+rewritten_statements-loop-statement-init t c = record {
+  grows = Grows-none c.args.names.now;
+  changed = λ final g. paired_none (IsStatementChanged final (becomes final c.args.rule.now)) c.args.statements.now _ c.new-made.ensures.items;
+}
+
+pub rewritten_statements-rewritten_node-requires : goal.rewritten_statements-rewritten_node-requires
+rewritten_statements-rewritten_node-requires t c =
+    let l = c.loop-statement in
+    let xs : List Statement = c.args.statements.now in
+    let x : Statement = c.statement-item.result in (
+      omega (arith, height_statement xs l.statement-index x c.loop-statement-test.true c.statement-item.is),
+      (rule_known l.invariant.grows c.args.rule.now c.requires.rule, tree_known l.invariant.grows x.node (statement_in (Known c.args.names.now) xs l.statement-index x c.loop-statement-test.true c.statement-item.is c.requires.statements)),
+    )
+
+pub rewritten_statements-loop-statement-preserved : goal.rewritten_statements-loop-statement-preserved
+rewritten_statements-loop-statement-preserved t c =
+    let l = c.loop-statement in
+    let x : Statement = c.statement-item.result in
+    let g0 = c.rewritten_node.ensures.grows in
+    record {
+      grows = Grows-twice l.invariant.grows g0;
+      changed = λ final g.
+          paired_put (IsStatementChanged final (becomes final c.args.rule.now)) c.args.statements.now l.made.items c.push.new.self.items x (record { comments = c.in_ok-comments.comments; node = c.in_ok-node.node }) l.statement-index c.loop-statement-test.true c.statement-item.is (search rules)
+          (l.invariant.changed final (Grows-twice g0 g)) (statement_made final (becomes final c.args.rule.now) x c.in_ok-comments.comments c.in_ok-node.node c.in_ok-comments.ensures (c.in_ok-node.ensures.changed final g));
+    }
+
+pub rewritten_statements-returns-clause-changed : goal.rewritten_statements-returns-clause-changed
+rewritten_statements-returns-clause-changed t c = λ final g.
+    let l = c.loop-statement in
+    paired_all (IsStatementChanged final (becomes final c.args.rule.now)) c.args.statements.now l.made.items c.from_vec.result l.statement-index c.loop-statement-test.false c.from_vec.ensures (l.invariant.changed final g)
+
+pub rewritten_bindings-loop-one-init : goal.rewritten_bindings-loop-one-init
+rewritten_bindings-loop-one-init t c = record {
+  grows = Grows-none c.args.names.now;
+  changed = λ final g. changed_none final (becomes final c.args.rule.now) c.args.held.now _ c.new-made.ensures.items;
+}
+
+pub rewritten_bindings-rewritten_binding-requires : goal.rewritten_bindings-rewritten_binding-requires
+rewritten_bindings-rewritten_binding-requires t c =
+    let l = c.loop-one in
+    let xs : List Held = c.args.held.now in
+    let x : Held = c.one-item.result in (
+      omega (arith, height_binding xs l.one-index x c.loop-one-test.true c.one-item.is),
       (
         rule_known l.invariant.grows c.args.rule.now c.requires.rule,
-        subst (λ (b : Binding). BindingNames (Known l.names) (binding_of b)) c.binding-item.is (binding_known l.invariant.grows (binding_of x) (binding_in (Known c.args.names.now) xs l.binding-index x within at c.requires.bindings)),
+        binding_known l.invariant.grows (held_of x) (binding_in (Known c.args.names.now) xs l.one-index x c.loop-one-test.true c.one-item.is c.requires.held),
       ),
     )
 
-pub rewrite_bindings-loop-binding-preserved : goal.rewrite_bindings-loop-binding-preserved
-rewrite_bindings-loop-binding-preserved t c =
-    let l = c.loop-binding in
-    let xs : List Binding = c.args.bindings.now in
-    let x : Binding = c.binding-item.result in
-    let within : l.binding-index < length xs = omega (arith, l.invariant.long) in
-    let at : x ≡ get_or xs l.binding-index x = c.binding-item.is ∙ l.invariant.unvisited l.binding-index x (omega arith) in
+pub rewritten_bindings-loop-one-preserved : goal.rewritten_bindings-loop-one-preserved
+rewritten_bindings-loop-one-preserved t c =
+    let l = c.loop-one in
+    let g0 = c.rewritten_binding.ensures.grows in
     record {
-      long = first_of (search (rules, common_steps), grind (arith, common_steps));
-      unvisited = first_of (search (rules, common_steps), grind (arith, common_steps));
-      grows = Grows-twice l.invariant.grows c.rewrite_binding.ensures.grows;
+      grows = Grows-twice l.invariant.grows g0;
       changed = λ final g.
-          paired_more (IsBindingChanged final (becomes final c.args.rule.now)) xs l.bindings x c.rewrite_binding.new.binding l.binding-index within (omega (arith, l.invariant.long)) at (l.invariant.changed final (Grows-twice c.rewrite_binding.ensures.grows g))
-          (subst (λ (b : Binding). IsBindingChanged final (becomes final c.args.rule.now) b c.rewrite_binding.new.binding) (sym c.binding-item.is) (c.in_ok-rewrite_binding.ensures.changed final g));
+          changed_put final (becomes final c.args.rule.now) c.args.held.now l.made.items c.push.new.self.items c.one-item.result c.in_ok-binding.binding l.one-index c.loop-one-test.true c.one-item.is (search rules)
+          (l.invariant.changed final (Grows-twice g0 g)) (c.in_ok-binding.ensures.changed final g);
     }
+
+pub rewritten_bindings-returns-clause-changed : goal.rewritten_bindings-returns-clause-changed
+rewritten_bindings-returns-clause-changed t c = λ final g.
+    let l = c.loop-one in
+    changed_all final (becomes final c.args.rule.now) c.args.held.now l.made.items l.one-index c.loop-one-test.false (l.invariant.changed final g)
+
+pub rewritten_below-returns-in-Var-clause-changed : goal.rewritten_below-returns-in-Var-clause-changed
+rewritten_below-returns-in-Var-clause-changed t c = var_stays c.args.names.now c.args.rule.now (tree_of c.args.kind.now) c.in-Var.name c.requires.node (ap tree_of c.in-Var.is)
+
+pub rewritten_below-returns-in-Literal-clause-changed : goal.rewritten_below-returns-in-Literal-clause-changed
+rewritten_below-returns-in-Literal-clause-changed t c =
+    let names = c.args.names.now in
+    let k : TreeOf ℕ = tree_of c.args.kind.now in
+    IfOk-weaker c.literal_node.result (λ u. u ≡ literal c.in-Literal.value) (BelowBecomes names c.args.rule.now k)
+    (λ u e. literal_stays names c.args.rule.now k u c.in-Literal.value c.requires.node (ap tree_of c.in-Literal.is) e)
+    c.literal_node.ensures
+
+pub rewritten_below-rewritten_send-requires : goal.rewritten_below-rewritten_send-requires
+rewritten_below-rewritten_send-requires t c =
+    let is = send_is (ap tree_of c.in-Send.is) c.deref.ensures c.as_slice-arguments.ensures in
+    let known = of_send (Known c.args.names.now) (tree_of c.args.kind.now) c.requires.node _ _ _ is in
+    (omega (arith, ap (height {N = ℕ}) is), (c.requires.rule, (known.0, (known.1, known.2))))
+
+pub rewritten_below-returns-in-Send-clause-changed : goal.rewritten_below-returns-in-Send-clause-changed
+rewritten_below-returns-in-Send-clause-changed t c =
+    subst (λ (k : TreeOf ℕ). IfOk c.rewritten_send.result (BelowBecomes c.rewritten_send.new.names c.args.rule.now k)) (sym (send_is (ap tree_of c.in-Send.is) c.deref.ensures c.as_slice-arguments.ensures)) c.rewritten_send.ensures.changed
+
+pub rewritten_below-rewritten_cascade-requires : goal.rewritten_below-rewritten_cascade-requires
+rewritten_below-rewritten_cascade-requires t c =
+    let is = cascade_is (ap tree_of c.in-Cascade.is) c.deref-in-Cascade.ensures c.as_slice.ensures in
+    let known = of_cascade (Known c.args.names.now) (tree_of c.args.kind.now) c.requires.node _ _ is in
+    (omega (arith, ap (height {N = ℕ}) is), (c.requires.rule, known))
+
+pub rewritten_below-returns-in-Cascade-clause-changed : goal.rewritten_below-returns-in-Cascade-clause-changed
+rewritten_below-returns-in-Cascade-clause-changed t c =
+    subst (λ (k : TreeOf ℕ). IfOk c.rewritten_cascade.result (BelowBecomes c.rewritten_cascade.new.names c.args.rule.now k)) (sym (cascade_is (ap tree_of c.in-Cascade.is) c.deref-in-Cascade.ensures c.as_slice.ensures)) c.rewritten_cascade.ensures.changed
+
+pub rewritten_below-rewritten_assignment-requires : goal.rewritten_below-rewritten_assignment-requires
+rewritten_below-rewritten_assignment-requires t c =
+    let is = assign_is (ap tree_of c.in-Assign.is) c.deref-in-Assign.ensures in
+    let known = of_assign (Known c.args.names.now) (tree_of c.args.kind.now) c.requires.node _ _ is in
+    (omega (arith, ap (height {N = ℕ}) is), (c.requires.rule, known))
+
+pub rewritten_below-returns-in-Assign-clause-changed : goal.rewritten_below-returns-in-Assign-clause-changed
+rewritten_below-returns-in-Assign-clause-changed t c =
+    subst (λ (k : TreeOf ℕ). IfOk c.rewritten_assignment.result (BelowBecomes c.rewritten_assignment.new.names c.args.rule.now k)) (sym (assign_is (ap tree_of c.in-Assign.is) c.deref-in-Assign.ensures)) c.rewritten_assignment.ensures.changed
+
+pub rewritten_below-rewritten_block-requires : goal.rewritten_below-rewritten_block-requires
+rewritten_below-rewritten_block-requires t c =
+    let is = block_is (ap tree_of c.in-Block.is) c.deref-in-Block.ensures in
+    let known = of_block (Known c.args.names.now) (tree_of c.args.kind.now) c.requires.node _ _ _ _ is in
+    (omega (arith, ap (height {N = ℕ}) is), (c.requires.rule, (known.0, (known.1, known.2))))
+
+pub rewritten_below-returns-in-Block-clause-changed : goal.rewritten_below-returns-in-Block-clause-changed
+rewritten_below-returns-in-Block-clause-changed t c =
+    subst (λ (k : TreeOf ℕ). IfOk c.rewritten_block.result (BelowBecomes c.rewritten_block.new.names c.args.rule.now k)) (sym (block_is (ap tree_of c.in-Block.is) c.deref-in-Block.ensures)) c.rewritten_block.ensures.changed
+
+pub rewritten_below-rewritten_brace-requires : goal.rewritten_below-rewritten_brace-requires
+rewritten_below-rewritten_brace-requires t c =
+    let is = brace_is (ap tree_of c.in-Brace.is) c.as_slice-in-Brace.ensures in
+    (omega (arith, ap (height {N = ℕ}) is), (c.requires.rule, of_brace (Known c.args.names.now) (tree_of c.args.kind.now) c.requires.node _ is))
+
+pub rewritten_below-returns-in-Brace-clause-changed : goal.rewritten_below-returns-in-Brace-clause-changed
+rewritten_below-returns-in-Brace-clause-changed t c =
+    subst (λ (k : TreeOf ℕ). IfOk c.rewritten_brace.result (BelowBecomes c.rewritten_brace.new.names c.args.rule.now k)) (sym (brace_is (ap tree_of c.in-Brace.is) c.as_slice-in-Brace.ensures)) c.rewritten_brace.ensures.changed
+
+pub rewritten_below-rewritten_return-requires : goal.rewritten_below-rewritten_return-requires
+rewritten_below-rewritten_return-requires t c =
+    let is = return_is (ap tree_of c.in-Return.is) c.deref-in-Return.ensures in
+    (omega (arith, ap (height {N = ℕ}) is), (c.requires.rule, of_return (Known c.args.names.now) (tree_of c.args.kind.now) c.requires.node _ is))
+
+pub rewritten_below-returns-in-Return-clause-changed : goal.rewritten_below-returns-in-Return-clause-changed
+rewritten_below-returns-in-Return-clause-changed t c =
+    subst (λ (k : TreeOf ℕ). IfOk c.rewritten_return.result (BelowBecomes c.rewritten_return.new.names c.args.rule.now k)) (sym (return_is (ap tree_of c.in-Return.is) c.deref-in-Return.ensures)) c.rewritten_return.ensures.changed
+
+pub boxed_node-returns-clause-changed : goal.boxed_node-returns-clause-changed
+boxed_node-returns-clause-changed t c = λ final g.
+    subst (λ (u : TreeOf ℕ). IsChanged final (becomes final c.args.rule.now) c.args.node.now u) (sym c.in_ok-new.ensures.ok) (c.in_ok-made.ensures.changed final g)
+
+pub rewritten_block-rewritten_statements-requires : goal.rewritten_block-rewritten_statements-requires
+rewritten_block-rewritten_statements-requires t c = (
+  omega (arith, ap (λ (ss : List Statement). statements_height (statements_of ss)) c.as_slice.ensures),
+  (c.requires.rule, subst (λ (ss : List Statement). StatementsNames (Known c.args.names.now) (statements_of ss)) (sym c.as_slice.ensures) c.requires.statements),
+)
+
+pub rewritten_block-returns-clause-changed : goal.rewritten_block-returns-clause-changed
+rewritten_block-returns-clause-changed t c = λ final g.
+    let all = Grows-twice c.rewritten_statements.ensures.grows g in
+    let b : Sequence = c.args.body.now in
+    let us : List Statement = c.in_ok-statements.statements in
+    block_made final (becomes final c.args.rule.now) c.args.parameters.now c.in_ok-parameters.parameters b c.in_ok-made.made c.in_ok-body.body.value us c.in_ok-parameters.ensures c.in_ok-made.ensures c.in_ok-body.ensures.ok
+    (names_imply (Known c.args.names.now) (Known final) (still_known all) c.args.parameters.now c.requires.parameters) (names_imply (Known c.args.names.now) (Known final) (still_known all) b.temporaries c.requires.temporaries)
+    (subst (λ (ss : List Statement). Paired (IsStatementChanged final (becomes final c.args.rule.now)) ss us) c.as_slice.ensures (c.in_ok-statements.ensures.changed final g))
+
+pub rewritten_part-boxed_node-requires : goal.rewritten_part-boxed_node-requires
+rewritten_part-boxed_node-requires t c =
+    let is = ap bound_from c.in-Part.is in
+    (omega (arith, ap (height_bound {N = ℕ}) is), (c.requires.rule, subst (BoundNames (Known c.args.names.now)) is c.requires.part))
+
+pub rewritten_part-returns-in_ok-made-in-Part-clause-changed : goal.rewritten_part-returns-in_ok-made-in-Part-clause-changed
+rewritten_part-returns-in_ok-made-in-Part-clause-changed t c = λ final g.
+    let f = becomes final c.args.rule.now in
+    subst (λ (b : BoundOf ℕ). IsBoundChanged final f b (a_part c.in_ok-made-in-Part.made.value)) (sym (ap bound_from c.in-Part.is)) (made_part final f _ c.in_ok-made-in-Part.made.value (c.in_ok-made-in-Part.ensures.changed final g))
+
+pub rewritten_part-rewritten_statements-requires : goal.rewritten_part-rewritten_statements-requires
+rewritten_part-rewritten_statements-requires t c =
+    let is = ap bound_from c.in-Run.is in
+    (omega (arith, ap (height_bound {N = ℕ}) is), (c.requires.rule, subst (BoundNames (Known c.args.names.now)) is c.requires.part))
+
+pub rewritten_part-returns-in_ok-run-in-Run-clause-changed : goal.rewritten_part-returns-in_ok-run-in-Run-clause-changed
+rewritten_part-returns-in_ok-run-in-Run-clause-changed t c = λ final g.
+    let f = becomes final c.args.rule.now in
+    subst (λ (b : BoundOf ℕ). IsBoundChanged final f b (a_run (statements_of c.in_ok-run-in-Run.run'))) (sym (ap bound_from c.in-Run.is)) (made_run final f _ c.in_ok-run-in-Run.run' (c.in_ok-run-in-Run.ensures.changed final g))
+
+pub rewritten_part-rewritten_nodes-requires : goal.rewritten_part-rewritten_nodes-requires
+rewritten_part-rewritten_nodes-requires t c =
+    let is = ap bound_from c.in-Message.is in
+    (omega (arith, ap (height_bound {N = ℕ}) is), (c.requires.rule, (subst (BoundNames (Known c.args.names.now)) is c.requires.part).1))
+
+pub rewritten_part-returns-in_ok-arguments-in-Message-clause-changed : goal.rewritten_part-returns-in_ok-arguments-in-Message-clause-changed
+rewritten_part-returns-in_ok-arguments-in-Message-clause-changed t c = λ final g.
+    let f = becomes final c.args.rule.now in
+    let is = ap bound_from c.in-Message.is in
+    let known = subst (BoundNames (Known c.args.names.now)) is c.requires.part in
+    let us : List (TreeOf ℕ) = c.in_ok-arguments-in-Message.arguments in
+    subst (λ (b : BoundOf ℕ). IsBoundChanged final f b (a_message c.in-Message.selector (trees_of us))) (sym is)
+    (made_message final f c.in-Message.selector _ us (still_known (Grows-twice c.rewritten_nodes.ensures.grows g) c.in-Message.selector known.0) (c.in_ok-arguments-in-Message.ensures.changed final g))
+
+pub rewritten_part-returns-in_default-clause-changed : goal.rewritten_part-returns-in_default-clause-changed
+rewritten_part-returns-in_default-clause-changed t c =
+    let names = c.args.names.now in
+    let s : Standing = c.args.standing.now in
+    IfOk-weaker c.copied.result (λ x. bound_of x ≡ bound_from s) (λ x. BoundBecomes names c.args.rule.now (bound_from s) (bound_of x))
+    (λ x e. copied_stays names c.args.rule.now s c.in_default.not-Part c.in_default.not-Run c.in_default.not-Message c.requires.part (bound_of x) e)
+    c.copied.ensures
+
+pub rewritten_binding-rewritten_part-requires : goal.rewritten_binding-rewritten_part-requires
+rewritten_binding-rewritten_part-requires t c =
+    (omega (arith, doubled_same c.args.held.now c.if-held.true), (c.requires.rule, c.requires.held.1))
+
+pub rewritten_binding-returns-in_ok-part-clause-changed : goal.rewritten_binding-returns-in_ok-part-clause-changed
+rewritten_binding-returns-in_ok-part-clause-changed t c = λ final g.
+    let h : Held = c.args.held.now in
+    let one = c.binding_for in
+    made_doubled final (becomes final c.args.rule.now) h.meta (bound_from h.bound) c.in_ok-part.part one.result one.ensures.meta one.ensures.bound c.if-held.true
+    (still_known (Grows-twice c.rewritten_part.ensures.grows g) h.meta.name c.requires.held.0) (c.in_ok-part.ensures.changed final g)
+
+pub rewritten_binding-returns-in_ok-part-2-clause-changed : goal.rewritten_binding-returns-in_ok-part-2-clause-changed
+rewritten_binding-returns-in_ok-part-2-clause-changed t c = λ final g.
+    let h : Held = c.args.held.now in
+    let one = c.binding_for-else-held in
+    made_single final (becomes final c.args.rule.now) h.meta (bound_from h.bound) c.in_ok-part-2.part one.result one.ensures.meta one.ensures.bound c.if-held.false
+    (binding_known g (held_of h) c.requires.held) c.in_ok-part-2.ensures
+
+pub rewritten_match-rewritten_below-requires : goal.rewritten_match-rewritten_below-requires
+rewritten_match-rewritten_below-requires t c =
+    (omega (arith, ap (height {N = ℕ}) c.node.view_is), (c.requires.rule, subst (AllNames (Known c.args.names.now)) (sym c.node.view_is) c.requires.node))
+
+pub rewritten_match-returns-in-None-clause-changed : goal.rewritten_match-returns-in-None-clause-changed
+rewritten_match-returns-in-None-clause-changed t c =
+    let names : List (List ℕ) = c.args.names.now in
+    let r = c.args.rule.now in
+    let x : TreeOf ℕ = c.args.node.now in
+    let g0 = c.rewritten_below.ensures.grows in
+    let none = found_none names r.pattern x c.in_ok-bindings_at.field-0 c.in-None.is c.in_ok-bindings_at.ensures.found in
+    IfOk-weaker c.rewritten_below.result (BelowBecomes c.rewritten_below.new.names r (tree_of c.node.inside.kind)) (Becomes c.rewritten_below.new.names r x)
+    (λ u h final g. goes_on (Grows-twice g0 g) r c.requires.rule x c.requires.node u none (subst (λ (y : TreeOf ℕ). IsChanged final (each_child (becomes final r)) y u) c.node.view_is (h final g)))
+    c.rewritten_below.ensures.changed
+
+pub rewritten_match-rewritten_bindings-requires : goal.rewritten_match-rewritten_bindings-requires
+rewritten_match-rewritten_bindings-requires t c =
+    let names : List (List ℕ) = c.args.names.now in
+    let r = c.args.rule.now in
+    let x : TreeOf ℕ = c.args.node.now in
+    let o = c.in_ok-bindings_at.field-0 in
+    let found = found_some names r.pattern x o c.in-Some.held c.in-Some.is c.in_ok-bindings_at.ensures.found in
+    let low = found_low r.pattern x o c.in-Some.held c.in-Some.is c.in_ok-bindings_at.ensures.lower c.requires.pattern in (
+      omega (arith, low, ap bindings_height c.as_slice.ensures.value),
+      (c.requires.rule, subst (λ (hs : List Held). AllByRecursion (BindingNames (Known names)) (map held_of hs)) (sym c.as_slice.ensures.value) found.known),
+    )
+
+pub rewritten_match-fill-requires : goal.rewritten_match-fill-requires
+rewritten_match-fill-requires t c = record { pattern = (rule_known c.rewritten_bindings.ensures.grows c.args.rule.now c.requires.rule).replacement }
+
+pub rewritten_match-returns-in_ok-bindings-in-Some-clause-changed : goal.rewritten_match-returns-in_ok-bindings-in-Some-clause-changed
+rewritten_match-returns-in_ok-bindings-in-Some-clause-changed t c =
+    let names : List (List ℕ) = c.args.names.now in
+    let r = c.args.rule.now in
+    let x : TreeOf ℕ = c.args.node.now in
+    let hs : List Held = c.as_slice.result.now in
+    let ss : List Binding = c.as_mut_slice.result.now in
+    let new : List (List ℕ) = c.fill.new.names in
+    let a = Grows-twice c.rewritten_bindings.ensures.grows c.fill.ensures.grows in
+    let found = subst (λ (xs : List Held). AreBoundIn names r.pattern x (map held_of xs)) (sym c.as_slice.ensures.value) (found_some names r.pattern x c.in_ok-bindings_at.field-0 c.in-Some.held c.in-Some.is c.in_ok-bindings_at.ensures.found) in
+    let made = c.in_ok-bindings-in-Some in
+    let changed = subst (λ (xs : List Binding). AreChanged new (becomes new r) (map held_of hs) xs) (sym c.as_mut_slice.ensures.value) (made.ensures.changed new c.fill.ensures.grows) in
+    if_both c.fill.result (FillsSame new r ss) (FillsKnown new ss) (Becomes new r x)
+    (λ v e k final g. still_becomes g r (rule_known a r c.requires.rule) x (tree_known a x c.requires.node) v (put_rewritten a r c.requires.rule x c.requires.node (map held_of hs) found ss v e k c.requires.pattern changed))
+    c.fill.ensures.filled c.fill.ensures.known
+
+pub rewritten_node-rewritten_below-requires : goal.rewritten_node-rewritten_below-requires
+rewritten_node-rewritten_below-requires t c =
+    (omega (arith, ap (height {N = ℕ}) c.node.view_is), (c.requires.rule, subst (AllNames (Known c.args.names.now)) (sym c.node.view_is) c.requires.node))
+
+pub rewritten_node-replaced-requires-clause-rule : goal.rewritten_node-replaced-requires-clause-rule
+rewritten_node-replaced-requires-clause-rule t c = rule_known c.rewritten_below.ensures.grows c.args.rule.now c.requires.rule
+
+pub rewritten_node-replaced-requires-clause-pattern : goal.rewritten_node-replaced-requires-clause-pattern
+rewritten_node-replaced-requires-clause-pattern t c = meta_some c.args.rule.now.pattern c.whole_meta.result c.in-Some.meta c.in-Some.is c.whole_meta.ensures
+
+pub rewritten_node-replaced-requires-clause-node : goal.rewritten_node-replaced-requires-clause-node
+rewritten_node-replaced-requires-clause-node t c = (c.in_ok-below-in-Some.ensures.changed c.rewritten_below.new.names (Grows-none c.rewritten_below.new.names)).known
+
+pub rewritten_node-returns-in_ok-below-in-Some-clause-changed : goal.rewritten_node-returns-in_ok-below-in-Some-clause-changed
+rewritten_node-returns-in_ok-below-in-Some-clause-changed t c =
+    let r = c.args.rule.now in
+    let x : TreeOf ℕ = c.args.node.now in
+    let u : TreeOf ℕ = c.in_ok-below-in-Some.below in
+    let new : List (List ℕ) = c.replaced.new.names in
+    let whole = is_whole_by r.pattern (meta_of c.in-Some.meta) (meta_some r.pattern c.whole_meta.result c.in-Some.meta c.in-Some.is c.whole_meta.ensures) in
+    IfOk-weaker c.replaced.result (λ v. (final : List (List ℕ)) → Grows new final → IsChanged final (replaced final r) u v) (Becomes new r x)
+    (λ v h final g.
+    then_replaced final r x u v whole (subst (λ (y : TreeOf ℕ). IsChanged final (each_child (becomes final r)) y u) c.node.view_is (c.in_ok-below-in-Some.ensures.changed final (Grows-twice c.replaced.ensures.grows g))) (h final g))
+    c.replaced.ensures.replaced
+
+pub rewritten_node-rewritten_match-requires : goal.rewritten_node-rewritten_match-requires
+rewritten_node-rewritten_match-requires t c =
+    (omega arith, (c.requires.rule, (c.requires.node, meta_none c.args.rule.now.pattern c.whole_meta.result c.in-None.is c.whole_meta.ensures)))

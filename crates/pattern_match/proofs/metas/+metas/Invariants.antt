@@ -2,7 +2,7 @@ use Rattle.std.proofs.Common.{◌≡◌, ◌+◌, ◌*◌, ◌++◌, drop, map}
 use Rattle.pattern_model.specs.Patterns.{trees_metas, metas_in_turn, messages_metas, statements_metas}
 use Rattle.patterns.specs.View.{meta_of, keyword_of, patterns_of, messages_from, statements_from}
 use Rattle.patterns.specs.Weights.{pattern_weight, patterns_weight, messages_like_weight, statements_like_weight}
-use Rattle.pattern_faults.proofs.metas.+metas.Given as goal
+use Rattle.pattern_match.proofs.metas.+metas.Given as goal
 
 abbrev pub decreases-put_metas : goal.decreases-put_metas
 decreases-put_metas l = 3 * pattern_weight l.pattern.now

@@ -21,7 +21,7 @@ fn put_keyword(keyword: &PatternKeyword, found: &mut Vec<Meta>) -> Result<(), Me
 /// Puts the metavariables of a pattern at the end, in the order of the text.
 #[cycle(metas)]
 #[tactic(auto, using(patterns::proofs::Weights::weight_rules))]
-pub(crate) fn put_metas(pattern: &Pattern, found: &mut Vec<Meta>) -> Result<(), Memory>
+pub fn put_metas(pattern: &Pattern, found: &mut Vec<Meta>) -> Result<(), Memory>
     ensures { OnOk result (map meta_of found.new.items ≡ map meta_of found.old.items ++ metas pattern.now) }
 {
     match &pattern.kind {
