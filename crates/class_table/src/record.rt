@@ -77,7 +77,6 @@ impl Eq for MethodSlot {
 }
 
 /// A class.
-#[derive(Drop)]
 pub struct ClassRec {
     pub name: NameId,
     /// The class above it; `None` for `Object` alone.
@@ -94,8 +93,23 @@ pub struct ClassRec {
     pub kernel: bool,
 }
 
+// Written out, so that for a proof the end of a class is one call.
+impl Drop for ClassRec {
+    fn drop(self) {
+        let ClassRec {
+            name: _,
+            superclass: _,
+            instance: _,
+            shared: _,
+            class_side: _,
+            category: _,
+            comment: _,
+            kernel: _,
+        } = self;
+    }
+}
+
 /// A method.
-#[derive(Drop)]
 pub struct MethodRec {
     pub class: ClassId,
     /// Whether it is a method of the class side.
@@ -108,12 +122,32 @@ pub struct MethodRec {
     pub kernel: bool,
 }
 
+// Written out, so that for a proof the end of a method is one call.
+impl Drop for MethodRec {
+    fn drop(self) {
+        let MethodRec {
+            class: _,
+            meta: _,
+            protocol: _,
+            source: _,
+            tree: _,
+            kernel: _,
+        } = self;
+    }
+}
+
 /// Statements that are run by themselves.
-#[derive(Drop)]
 pub struct DoIt {
     /// The text that spells the body.
     pub source: Text,
     pub body: Sequence,
+}
+
+// Written out, so that for a proof the end of a do-it is one call.
+impl Drop for DoIt {
+    fn drop(self) {
+        let DoIt { source: _, body: _ } = self;
+    }
 }
 
 /// What is known of a method without its tree.

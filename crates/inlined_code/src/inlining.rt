@@ -21,8 +21,7 @@ use tree_lending::put_at;
 fn without_return(node: Node) -> Node
     ensures { result ≡ unreturned node }
 {
-    let Node { kind } = node;
-    match kind {
+    match node.into_kind() {
         NodeKind::Return { value } => Box::into_inner(value),
         kind => Node { kind },
     }

@@ -173,9 +173,15 @@ impl Text {
 }
 
 /// Names in order. Contracts see the list of their numbers.
-#[derive(Drop)]
 pub struct Ids {
     items: Vec<NameId>,
+}
+
+// Written out, so that for a proof the end of a list of names is one call.
+impl Drop for Ids {
+    fn drop(self) {
+        let Ids { items: _ } = self;
+    }
 }
 
 impl Model for Ids {

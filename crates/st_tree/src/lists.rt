@@ -22,14 +22,6 @@ impl Nodes {
         Nodes { items }
     }
 
-    /// The nodes, which are not copied.
-    pub fn into_vec(self) -> Vec<Node>
-        ensures { result.items ≡ self }
-    {
-        let Nodes { items } = self;
-        items
-    }
-
     /// The nodes.
     pub fn as_slice(&self) -> &[Node]
         ensures { result.now ≡ self.now }
@@ -69,14 +61,6 @@ impl Messages {
         ensures { result ≡ items.items }
     {
         Messages { items }
-    }
-
-    /// The messages, which are not copied.
-    pub fn into_vec(self) -> Vec<Message>
-        ensures { result.items ≡ self }
-    {
-        let Messages { items } = self;
-        items
     }
 
     /// The messages.
@@ -120,14 +104,6 @@ impl Statements {
         Statements { items }
     }
 
-    /// The statements, which are not copied.
-    pub fn into_vec(self) -> Vec<Statement>
-        ensures { result.items ≡ self }
-    {
-        let Statements { items } = self;
-        items
-    }
-
     /// The statements.
     pub fn as_slice(&self) -> &[Statement]
         ensures { result.now ≡ self.now }
@@ -167,14 +143,6 @@ impl Comments {
         ensures { result ≡ items.items }
     {
         Comments { items }
-    }
-
-    /// The comments, which are not copied.
-    pub fn into_vec(self) -> Vec<Text>
-        ensures { result.items ≡ self }
-    {
-        let Comments { items } = self;
-        items
     }
 
     /// The comments.

@@ -35,9 +35,16 @@ pub enum LiteralKind {
 
 /// Literals in order. Contracts see a list.
 #[cycle(literal)]
-#[derive(Drop)]
 pub struct Literals {
     pub(crate) items: Vec<Literal>,
+}
+
+// Written out, so that for a proof the end of literals is one call.
+impl Drop for Literals {
+    #[cycle(literal)]
+    fn drop(self) {
+        let Literals { items: _ } = self;
+    }
 }
 
 impl Model for Literal {

@@ -8,9 +8,15 @@ use std::marker::Model;
 /// The steps from a method, a do-it or a node down to a node in it. A step into a sequence or a block is the number of
 /// a statement, into a message or a cascade 0 for the receiver and then the arguments in text order, into a brace array
 /// the number of an item, into an assignment or a return 0. Contracts see a list of numbers.
-#[derive(Drop)]
 pub struct Path {
     steps: Vec<usize>,
+}
+
+// Written out, so that for a proof the end of a path is one call.
+impl Drop for Path {
+    fn drop(self) {
+        let Path { steps: _ } = self;
+    }
 }
 
 impl Model for Path {

@@ -1,4 +1,6 @@
 // The syntax tree of a method.
+ghost use Rattle.std.specs.Prelude.{◌≡◌};
+ghost use Rattle.st_tree.specs.View.{tree_of};
 
 use crate::literal::Literal;
 use rb_base::{Ids, NameId, Text};
@@ -6,10 +8,27 @@ use std::marker::Model;
 
 /// An expression or a return. Contracts see it as abstract data, a `TreeOf ℕ`.
 #[cycle(node)]
-#[derive(Drop)]
 pub struct Node {
     /// What the node is.
     pub kind: NodeKind,
+}
+
+// Written out, so that for a proof the end of a node is one call.
+impl Drop for Node {
+    #[cycle(node)]
+    fn drop(self) {
+        let Node { kind: _ } = self;
+    }
+}
+
+impl Node {
+    /// What the node is, which is not copied.
+    pub fn into_kind(self) -> NodeKind
+        ensures { tree_of result ≡ self }
+    {
+        let Node { kind } = self;
+        kind
+    }
 }
 
 /// What a node is.
@@ -57,9 +76,26 @@ pub enum NodeKind {
 
 /// Nodes in order. Contracts see a list.
 #[cycle(node)]
-#[derive(Drop)]
 pub struct Nodes {
     pub(crate) items: Vec<Node>,
+}
+
+// Written out, so that for a proof the end of nodes is one call.
+impl Drop for Nodes {
+    #[cycle(node)]
+    fn drop(self) {
+        let Nodes { items: _ } = self;
+    }
+}
+
+impl Nodes {
+    /// The nodes, which are not copied.
+    pub fn into_vec(self) -> Vec<Node>
+        ensures { result.items ≡ self }
+    {
+        let Nodes { items } = self;
+        items
+    }
 }
 
 /// A message of a cascade.
@@ -73,9 +109,26 @@ pub struct Message {
 
 /// Messages in order. Contracts see a list.
 #[cycle(node)]
-#[derive(Drop)]
 pub struct Messages {
     pub(crate) items: Vec<Message>,
+}
+
+// Written out, so that for a proof the end of messages is one call.
+impl Drop for Messages {
+    #[cycle(node)]
+    fn drop(self) {
+        let Messages { items: _ } = self;
+    }
+}
+
+impl Messages {
+    /// The messages, which are not copied.
+    pub fn into_vec(self) -> Vec<Message>
+        ensures { result.items ≡ self }
+    {
+        let Messages { items } = self;
+        items
+    }
 }
 
 /// A statement.
@@ -89,9 +142,26 @@ pub struct Statement {
 
 /// Statements in order. Contracts see a list.
 #[cycle(node)]
-#[derive(Drop)]
 pub struct Statements {
     pub(crate) items: Vec<Statement>,
+}
+
+// Written out, so that for a proof the end of statements is one call.
+impl Drop for Statements {
+    #[cycle(node)]
+    fn drop(self) {
+        let Statements { items: _ } = self;
+    }
+}
+
+impl Statements {
+    /// The statements, which are not copied.
+    pub fn into_vec(self) -> Vec<Statement>
+        ensures { result.items ≡ self }
+    {
+        let Statements { items } = self;
+        items
+    }
 }
 
 /// The body of a method or a block, or a piece of code that is run by itself, a do-it.
@@ -118,9 +188,25 @@ pub struct Method {
 }
 
 /// Comments in order, each the bytes between its double quotes. Contracts see a list of lists.
-#[derive(Drop)]
 pub struct Comments {
     pub(crate) items: Vec<Text>,
+}
+
+// Written out, so that for a proof the end of comments is one call.
+impl Drop for Comments {
+    fn drop(self) {
+        let Comments { items: _ } = self;
+    }
+}
+
+impl Comments {
+    /// The comments, which are not copied.
+    pub fn into_vec(self) -> Vec<Text>
+        ensures { result.items ≡ self }
+    {
+        let Comments { items } = self;
+        items
+    }
 }
 
 impl Model for Comments {

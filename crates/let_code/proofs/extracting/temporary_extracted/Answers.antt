@@ -17,7 +17,7 @@ use Rattle.let_code.proofs.Put.{made, extracted}
 use Rattle.let_code.proofs.extracting.temporary_extracted.Goals as goal
 
 -- what is made
-made-is : (c : goal.After-drop-sequence-inside-2) → method_of c.in_ok-normalized.field-0 ≡ normal (made (method_of c.args.method.now) c.args.path.now c.args.variable c.in-Some.value.now (get_or c.as_slice-steps.result.now c.innermost-scope.result 0))
+made-is : (c : goal.After-drop-sequence-2) → method_of c.in_ok-normalized.field-0 ≡ normal (made (method_of c.args.method.now) c.args.path.now c.args.variable c.in-Some.value.now (get_or c.as_slice-steps.result.now c.innermost-scope.result 0))
 made-is c =
     let m = method_of c.args.method.now in
     let path = c.args.path.now in
