@@ -1,6 +1,6 @@
 // Which texts are patterns, and where the others have their faults.
 use rb_base::Names;
-use st_patterns::parse_pattern;
+use st_parser::parse_pattern;
 use st_reading::ParseFault;
 use std::alloc::Global;
 

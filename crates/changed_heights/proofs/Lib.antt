@@ -1,2 +1,5 @@
 pub mod Alls
 pub mod Slots
+mod AbstractedAlls
+mod Sameness
+mod Told

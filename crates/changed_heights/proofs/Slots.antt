@@ -26,7 +26,7 @@ use Rattle.changed_heights.specs.Low.{is_low, is_low_doit, tree_after, is_low_at
 use Rattle.changed_heights.proofs.Alls.{all-alike, all-made}
 
 -- a test of the live slots is one of what they hold
-slots-all : {X : Type 0} (p : X → Bool) (xs : List X) (order ks : List ℕ) → ((k : ℕ) → IsLive ks k → IsLive order k)
+pub slots-all : {X : Type 0} (p : X → Bool) (xs : List X) (order ks : List ℕ) → ((k : ℕ) → IsLive ks k → IsLive order k)
     → list_all (λ k. option_map_or p (live_at xs order k) true) ks ≡ list_all p (live xs ks)
 slots-all p xs order [] l = refl
 slots-all {X} p xs order (k ∷ ks) l =

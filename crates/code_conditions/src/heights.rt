@@ -14,8 +14,7 @@ ghost use Rattle.code_conditions.specs.Trees.{is_shallow_with, is_shallow_extrac
 use crate::trees::{with_body, with_temporary, with_value};
 use crate::words::self_name;
 use abstracted_code::Abstraction;
-use abstracted_heights::is_shallow_abstracted;
-use changed_heights::is_shallow_with;
+use changed_heights::{is_shallow_abstracted, is_shallow_with};
 use class_table::Image;
 use commands::{CodeMove, MethodName, MethodPart};
 use extracted_code::extract;

@@ -1,4 +1,11 @@
 pub mod Users
 pub mod Given
-pub mod Extracted
-pub mod Inlined
+pub mod LetExtracted
+pub mod LetInlined
+pub mod Bodies
+pub mod BodiesKnown
+pub mod BodiesPlanned
+pub mod Places
+pub mod KnownParts
+pub mod Extractions
+pub mod PartsPlanned

@@ -14,10 +14,10 @@ ghost use Rattle.plans.specs.Plan.{IsPlan};
 use abstract_plans::plan_abstraction;
 use abstracted_code::Abstraction;
 use class_table::Image;
-use code_plans::{plan_extracted_temporary, plan_inlined_temporary};
+use code_plans::{
+    plan_extracted_temporary, plan_extraction, plan_inlined_message, plan_inlined_temporary,
+};
 use commands::{CodeMove, MethodPart};
-use extract_plans::plan_extraction;
-use inline_plans::plan_inlined_message;
 use part_lookup::users_part;
 use plans::Plan;
 use rb_base::{Memory, NameId, Steps};

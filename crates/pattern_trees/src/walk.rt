@@ -266,7 +266,7 @@ fn sequence_pattern(
 }
 
 /// The pattern of a tree in which metavariables stand as names, selectors and keywords, spelled with their backquotes and
-/// marks, as `parse_pattern` of st_patterns reads it. The names behind the marks get numbers in `names`; on want of memory
+/// marks, as `parse_pattern` of st_parser reads it. The names behind the marks get numbers in `names`; on want of memory
 /// some may have been added.
 pub fn pattern_of(alloc: Global, tree: &Node, names: &mut Names) -> Result<Pattern, Memory>
     requires { AllNames (λ n. n < length names.old) tree.now }

@@ -1,3 +1,0 @@
-mod Alls
-mod Sameness
-mod Told

@@ -1,4 +1,0 @@
-pub mod Places
-pub mod KnownParts
-pub mod Extractions
-pub mod Planned

@@ -1,5 +1,0 @@
-use Rattle.temporary_plans.proofs.Retelling.{Retelling}
-use Rattle.extract_plans.proofs.planning.plan_extraction.Given as goal
-
-abbrev pub invariant-loop-other : goal.invariant-loop-other
-invariant-loop-other g l = Retelling l.roomy l.part.method l.sender l.other-index l.plan.changes l.plan.touched.items
