@@ -1,39 +1,17 @@
 //! Runs the cases of a table, which is the standard input, and tells which of them are answered otherwise than they say.
-//!
-//! A table has lines of words parted by single blanks, and bytes. The bytes follow the line that gives their length, and a line
-//! feed behind them is not part of them. Numbers are decimal, without a sign or a leading zero, and at most 4294967295.
-//!
-//! - `case NAME` begins a case. The name is the rest of the line.
-//! - `word LENGTH` and the bytes: a word of the command line, in UTF-8.
-//! - `file NAME` and pieces: a file.
-//! - `load NUMBER`: the load of this number fails. The first one is 1.
-//! - `put NUMBER TAKEN`: the put of this number fails after at most so many bytes of its piece.
-//! - `status NUMBER`: the status that is wanted.
-//! - `sent` and pieces: what is to be sent.
-//! - `puts NUMBER`: how many puts are to be called. It may be left out.
-//!
-//! They stand in this order. There are any number of words, files, loads and puts that fail. The pieces of a file and of what is
-//! sent are any number of these:
-//!
-//! - `text LENGTH` and the bytes.
-//! - `repeat TIMES LENGTH` and the bytes, which count so many times.
-//! - `count FROM BEFORE LENGTH` and the bytes, which count once for each number from the first to before the second, whose digits
-//!   stand in the place of each `@`.
+//! `case_tables` says what form a table has.
 //!
 //! Each case is run as soon as it is read, and a line is printed where its answer differs. The last line tells how many cases
 //! agree. A table that is out of form is not read on: its last line tells the line that is wrong, and the cases before it were run.
 #![tactic(auto)]
 
-mod case;
-mod fault;
 mod run;
-mod table;
 
+use case_tables::Table;
 use run::run_cases;
 use std::io;
 use std::io::Read;
 use std::process::ExitCode;
-use table::Table;
 
 /// Ends with 0 where the table is in form and all its cases agree, and with 1 elsewhere.
 fn main(rt: HostRuntime) -> io::Result<ExitCode> {

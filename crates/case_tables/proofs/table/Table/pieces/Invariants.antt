@@ -1,6 +1,6 @@
 -- Each piece leaves less to be read.
 use Rattle.std.proofs.Common.{◌≤◌, length}
-use Rattle.case_runner.proofs.table.Table.pieces.Given as goal
+use Rattle.case_tables.proofs.table.Table.pieces.Given as goal
 
 abbrev pub invariant-loop : goal.invariant-loop
 invariant-loop l = length l.self.rest.now ≤ length l.fn.self.rest.now

@@ -4,7 +4,7 @@ use std::alloc::{AllocError, AllocFailed};
 use thiserror::Error;
 
 /// What is wrong at a place of a table.
-#[derive(Clone, Copy, Debug, PartialEq, Eq, Error)]
+#[derive(Clone, Copy, Debug, Error)]
 pub enum TableFault {
     /// No case begins where one is to begin.
     #[error("a case is wanted")]
@@ -57,7 +57,7 @@ impl<T: Drop> From<AllocFailed<T>> for TableFault {
 }
 
 /// Why a table is refused.
-#[derive(Clone, Copy, Debug, PartialEq, Eq, Error)]
+#[derive(Clone, Copy, Debug, Error)]
 #[error("line {line}: {cause}")]
 pub struct Fault {
     /// The line that is wrong, from 1.

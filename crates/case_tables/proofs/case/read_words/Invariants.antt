@@ -1,6 +1,6 @@
 -- Each word leaves less to be read.
 use Rattle.std.proofs.Common.{◌≤◌, length}
-use Rattle.case_runner.proofs.case.read_words.Given as goal
+use Rattle.case_tables.proofs.case.read_words.Given as goal
 
 abbrev pub invariant-loop-alloc : goal.invariant-loop-alloc
 invariant-loop-alloc l = length l.table.rest.now ≤ length l.fn.table.rest.now
