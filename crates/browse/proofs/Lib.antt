@@ -2,6 +2,4 @@ pub mod Outcomes
 pub mod Loading
 pub mod OneAnswer
 pub mod NoWrite
-pub mod Refusing
-pub mod Spelled
 pub mod Shown

@@ -1,8 +1,8 @@
 -- A part of a call refuses what the whole refuses.
 use Rattle.std.proofs.Common.{ℕ, List, ◌≤◌, ◌<◌, length, inl, inr, subst, arith}
 use Rattle.rb_base.specs.Outside.{Told, IsNoFile, OnFile, RoseBy}
-use Rattle.browse.specs.declared.status.Status.{Status}
-use Rattle.browse.specs.Loads.{World, Within, Refuses, MayFail}
+use Rattle.image_forms.specs.declared.status.Status.{Status}
+use Rattle.image_forms.specs.Loads.{World, Within, Refuses, MayFail}
 
 RoseBy-within : (n a b c d : ℕ) → a ≤ b → c ≤ d → RoseBy n b c → RoseBy n a d
 RoseBy-within n a b c d h k (inl r) = inl (omega arith)

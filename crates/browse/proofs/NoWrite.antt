@@ -7,11 +7,11 @@ use Rattle.run_model.specs.Values.{Outcome, done, failed, spent}
 use Rattle.run_model.specs.Runs.{run}
 use Rattle.query_model.specs.Queries.{QueryOf}
 use Rattle.command_words.specs.Forms.{Form, Apply, Format, Run, Find, Strip, Search, Rewrite, Demo, Help, Version, Later, NoForm, form_of}
-use Rattle.browse.specs.declared.status.Status.{Status}
-use Rattle.browse.specs.declared.status.Status.TheVariants as status
-use Rattle.browse.specs.Statuses.{number_of}
-use Rattle.browse.specs.Loads.{World, Loads, Given, Refused, Refuses}
-use Rattle.browse.specs.Answers.{status_applied, Applies, Formats, Formatted, Refused as Stopped, status_of, RunsIn, NoDoIt, Ran, Runs, NoImage, InImage, Finds, NoImageThere, Found, StripsIn, NoStart, Stripped, Strips, NoImageToStrip, StripsImage, OfImage, Unread, Read, SearchesIn, NoPattern, Matched, RewritesIn, NoRule, NoReplacement, Rewritten, ChangesIn, Unchanged, Changed, DemosIn, NoExpression, Shown, AnswersForm, Answers, image_limit, script_limit}
+use Rattle.image_forms.specs.declared.status.Status.{Status}
+use Rattle.image_forms.specs.declared.status.Status.TheVariants as status
+use Rattle.image_forms.specs.Statuses.{number_of}
+use Rattle.image_forms.specs.Loads.{World, Loads, Given, Refused, Refuses}
+use Rattle.image_forms.specs.Answers.{status_applied, Applies, Formats, Formatted, Refused as Stopped, status_of, RunsIn, NoDoIt, Ran, Runs, NoImage, InImage, Finds, NoImageThere, Found, StripsIn, NoStart, Stripped, Strips, NoImageToStrip, StripsImage, OfImage, Unread, Read, SearchesIn, NoPattern, Matched, RewritesIn, NoRule, NoReplacement, Rewritten, ChangesIn, Unchanged, Changed, DemosIn, NoExpression, Shown, AnswersForm, Answers, image_limit, script_limit}
 
 -- the status does not say that the output failed
 abbrev IsOther : Status → Type 0

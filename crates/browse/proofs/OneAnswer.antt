@@ -8,9 +8,9 @@ use Rattle.st_kernel.specs.KernelText.{prelude_text}
 use Rattle.file_model.specs.Written.{file_of}
 use Rattle.file_model.proofs.OneImage.{one_image, one_refusal, no_image_where_refused}
 use Rattle.canonical_image.specs.Formatted.{formatted}
-use Rattle.browse.specs.declared.status.Status.{Status}
+use Rattle.image_forms.specs.declared.status.Status.{Status}
 use Rattle.command_words.specs.Forms.{Form, Apply, Format, Run, Find, Strip, Search, Rewrite, Demo, Help, Version, Later, NoForm, files_of, form_of}
-use Rattle.browse.specs.Loads.{World, Loads, Given, Refused, Refuses, MayFail, IsTold, IsHonest}
+use Rattle.image_forms.specs.Loads.{World, Loads, Given, Refused, Refuses, MayFail, IsTold, IsHonest}
 use Rattle.grammar_model.specs.Whole.{DoIt}
 use Rattle.grammar_model.proofs.Texts.{no_fault_DoIt, one_SpellsDoIt, one_HasFirstFault}
 use Rattle.tree_model.specs.Tree.{SequenceOf}
@@ -35,8 +35,8 @@ use Rattle.file_model.specs.Causes.{Refusal}
 use Rattle.apply_model.specs.declared.status.Status as applied
 use Rattle.apply_model.specs.declared.status.Status.TheVariants as verdict
 use Rattle.apply_model.specs.Applied as model
-use Rattle.browse.specs.ImageLines.{image_refusal, expression_refusal, text_refusal}
-use Rattle.browse.specs.Answers.{status_applied, Applies, Formats, Formatted, Refused as Stopped, status_of, RunsIn, NoDoIt, Ran, Runs, NoImage, InImage, Finds, NoImageThere, Found, stripped_text, StripsIn, NoStart, Stripped, Strips, NoImageToStrip, StripsImage, OfImage, Unread, Read, SearchesIn, NoPattern, Matched, RewritesIn, NoRule, NoReplacement, Rewritten, summary, ChangesIn, Unchanged, Changed, DemosIn, NoExpression, Shown, AnswersForm, Answers, image_limit, script_limit}
+use Rattle.image_forms.specs.ImageLines.{image_refusal, expression_refusal, text_refusal}
+use Rattle.image_forms.specs.Answers.{status_applied, Applies, Formats, Formatted, Refused as Stopped, status_of, RunsIn, NoDoIt, Ran, Runs, NoImage, InImage, Finds, NoImageThere, Found, stripped_text, StripsIn, NoStart, Stripped, Strips, NoImageToStrip, StripsImage, OfImage, Unread, Read, SearchesIn, NoPattern, Matched, RewritesIn, NoRule, NoReplacement, Rewritten, summary, ChangesIn, Unchanged, Changed, DemosIn, NoExpression, Shown, AnswersForm, Answers, image_limit, script_limit}
 
 -- both answers are one
 abbrev pub SameAnswer : Status → Status → List ℕ → List ℕ → Type 0

@@ -8,8 +8,8 @@ use Rattle.apply_model.specs.Applied.{AppliesIn}
 use Rattle.applied_scripts.specs.declared.apply.Changed.TheVariants as changed
 use Rattle.applied_scripts.specs.Changed.{IsChanged, is_done, is_told}
 use Rattle.image_maker.specs.Generated.{script_text}
-use Rattle.browse.specs.declared.status.Status.TheVariants as status
-use Rattle.browse.specs.Answers.{status_applied, summary, ChangesIn, Unchanged, Changed}
+use Rattle.image_forms.specs.declared.status.Status.TheVariants as status
+use Rattle.image_forms.specs.Answers.{status_applied, summary, ChangesIn, Unchanged, Changed}
 
 -- nothing is told where all is done
 pub nothing_told : (i later : ImageOf (List ℕ)) (script sent : List ℕ) (count : ℕ) → IsChanged i script later sent (changed.Done count) → sent ≡ []

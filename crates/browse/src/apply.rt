@@ -1,34 +1,22 @@
 // `apply IMAGE SCRIPT`: the image after the commands of the script, or the first chunk of the image, line of the script or
 // command that is refused.
-ghost use Rattle.std.specs.Prelude.{◌≡◌, [], IfOk, OnOk};
+ghost use Rattle.std.specs.Prelude.{◌≡◌, [], IfOk};
 ghost use Rattle.command_words.specs.Forms.{Apply};
-ghost use Rattle.browse.specs.Loads.{world};
-ghost use Rattle.browse.specs.Answers.{AnswersForm, Applies, status_applied, unbuilt};
-ghost use Rattle.browse.specs.declared.status.Status.{Status};
+ghost use Rattle.image_forms.specs.Loads.{world};
+ghost use Rattle.image_forms.specs.Answers.{AnswersForm, Applies, status_applied};
+ghost use Rattle.image_forms.specs.declared.status.Status.{Status};
 
-use crate::image_lines::push_image_refusal;
-use crate::load::{IMAGE_LIMIT, load, push_line};
-use crate::status::Status;
 use applied_scripts::apply_script;
 use apply_model::Status as Verdict;
 use file_faults::ImageFault;
 use file_reading::read_image;
+use image_forms::{IMAGE_LIMIT, Status, load, push_image_refusal};
 use rb_base::{Memory, Shelf, Text};
 use std::alloc::Global;
 use std::mem::forget;
 
 /// The most bytes of a script.
 const SCRIPT_LIMIT: u32 = 1048576;
-
-/// The answer to what is in no form that is built.
-pub fn unbuilt(out: &mut Text) -> Result<Status, Memory>
-    requires { out.old ≡ [] }
-    ensures status { IfOk result (λ status. status ≡ Status.Unbuilt) }
-    ensures text { OnOk result (out.new ≡ unbuilt) }
-{
-    push_line(out, "unbuilt", b"")?;
-    Ok(Status::Unbuilt)
-}
 
 /// How a call ends whose files are answered so.
 pub(crate) fn status_of(verdict: Verdict) -> Status

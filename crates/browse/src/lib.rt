@@ -3,19 +3,9 @@
 
 mod apply;
 mod demo;
-mod find;
-mod format;
-mod help;
-mod image_lines;
-mod load;
-mod query;
-mod rewrite;
 mod run;
-mod search;
 mod send;
-mod status;
-mod strip;
 mod top;
 
-pub use status::Status;
+pub use image_forms::Status;
 pub use top::{browse, has_one_answer};

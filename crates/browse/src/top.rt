@@ -1,39 +1,22 @@
 // The one call of the program.
-ghost use Rattle.std.specs.Prelude.{◌≡◌, ◌≢◌, ◌⊎◌, [], IfOk, OnOk, List, ℕ, map, string_bytes};
+ghost use Rattle.std.specs.Prelude.{◌≡◌, ◌≢◌, ◌⊎◌, [], IfOk, List, ℕ, map, string_bytes};
 ghost use Rattle.rb_base.specs.Outside.{Rose, Sends, SendsPart};
-ghost use Rattle.browse.specs.declared.status.Status.{Status};
+ghost use Rattle.image_forms.specs.declared.status.Status.{Status};
 ghost use Rattle.command_words.specs.Forms.{form_of, files_of};
-ghost use Rattle.browse.specs.Loads.{World, world, IsHonest};
-ghost use Rattle.browse.specs.Answers.{Answers, usage};
+ghost use Rattle.image_forms.specs.Loads.{World, world, IsHonest};
+ghost use Rattle.image_forms.specs.Answers.{Answers};
 
-use crate::apply::{apply, unbuilt};
+use crate::apply::apply;
 use crate::demo::demo;
-use crate::find::find;
-use crate::format::format;
-use crate::help::{help, version};
-use crate::load::push_line;
-use crate::rewrite::rewrite;
 use crate::run::run;
-use crate::search::search;
 use crate::send::send;
-use crate::status::Status;
-use crate::strip::strip;
 use apply_model::has_one_answer_in_image;
 use command_words::{Words, words_of};
+use image_forms::{Status, find, format, help, rewrite, search, strip, unbuilt, usage, version};
 use rb_base::{Memory, Shelf, Sink, SinkError, Text};
 use rewrite_model::{has_one_list_of_lines, has_one_pattern, has_one_rule};
 use script_model::has_one_reading;
 use std::alloc::Global;
-
-/// The answer to words in no form.
-fn usage(out: &mut Text) -> Result<Status, Memory>
-    requires { out.old ≡ [] }
-    ensures status { IfOk result (λ status. status ≡ Status.Usage) }
-    ensures text { OnOk result (out.new ≡ usage) }
-{
-    push_line(out, "usage: browse COMMAND ARGUMENTS", b"")?;
-    Ok(Status::Usage)
-}
 
 /// Builds the whole answer.
 fn answer<F: Shelf>(

@@ -7,11 +7,11 @@ use Rattle.apply_model.specs.declared.status.Status.TheVariants as verdict
 use Rattle.apply_model.specs.Applied as model
 use Rattle.apply_laws.specs.Promised.{IsRefusalOf}
 use Rattle.apply_laws.specs.FileOuts.{IsValidFileOut}
-use Rattle.browse.specs.declared.status.Status.{Status}
-use Rattle.browse.specs.declared.status.Status.TheVariants as status
-use Rattle.browse.specs.Loads.{World, Loads, Given, Refused, Refuses}
-use Rattle.browse.specs.ImageLines.{image_refusal}
-use Rattle.browse.specs.Answers.{Applies, status_applied, Answers, image_limit, script_limit}
+use Rattle.image_forms.specs.declared.status.Status.{Status}
+use Rattle.image_forms.specs.declared.status.Status.TheVariants as status
+use Rattle.image_forms.specs.Loads.{World, Loads, Given, Refused, Refuses}
+use Rattle.image_forms.specs.ImageLines.{image_refusal}
+use Rattle.image_forms.specs.Answers.{Applies, status_applied, Answers, image_limit, script_limit}
 use Rattle.browse_laws.specs.Given.{apply_words, AreGiven}
 
 -- the status is that of both files loaded

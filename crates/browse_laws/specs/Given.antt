@@ -1,8 +1,8 @@
 -- The words of a call that performs a script, and the bytes of its files.
 use Rattle.std.specs.Prelude.{ℕ, List, [], ◌∷◌, codes}
 use Rattle.rb_base.specs.Outside.{MayGive}
-use Rattle.browse.specs.Loads.{World}
-use Rattle.browse.specs.Answers.{image_limit, script_limit}
+use Rattle.image_forms.specs.Loads.{World}
+use Rattle.image_forms.specs.Answers.{image_limit, script_limit}
 
 -- `apply IMAGE SCRIPT`
 abbrev pub apply_words : List ℕ → List ℕ → List (List ℕ)

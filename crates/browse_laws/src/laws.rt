@@ -6,9 +6,9 @@ ghost use Rattle.session_model.specs.Scripts.{Request};
 ghost use Rattle.script_model.specs.Scripts.{Says};
 ghost use Rattle.apply_laws.specs.Promised.{IsRefusalOf};
 ghost use Rattle.apply_laws.specs.FileOuts.{IsValidFileOut};
-ghost use Rattle.browse.specs.declared.status.Status.TheVariants as status;
-ghost use Rattle.browse.specs.Loads.{World};
-ghost use Rattle.browse.specs.Answers.{Applies, Answers};
+ghost use Rattle.image_forms.specs.declared.status.Status.TheVariants as status;
+ghost use Rattle.image_forms.specs.Loads.{World};
+ghost use Rattle.image_forms.specs.Answers.{Applies, Answers};
 ghost use Rattle.browse_laws.specs.Given.{apply_words, AreGiven};
 
 /// Where `apply IMAGE SCRIPT` is answered with the status `Done`, what is sent is the changed file: that of the image that the

@@ -1,16 +1,15 @@
 // The cases of a table are run, and their answers compared.
 ghost use Rattle.std.specs.Prelude.{◌≡◌, ◌↔◌, ◌<◌, ℕ, take, IsNone, IfSome, Some};
-ghost use Rattle.browse.specs.Statuses.{number_of};
+ghost use Rattle.image_forms.specs.Statuses.{number_of};
 
-use crate::case::{Case, Wanted};
-use crate::table::Table;
 use browse::{Status, browse};
+use case_tables::{Case, Table, Wanted};
 use rb_base::MemorySink;
 use std::{fmt, io};
 use thiserror::Error;
 
 /// In what an answer differs first from the one that is wanted.
-#[derive(Clone, Copy, Debug, PartialEq, Eq, Error)]
+#[derive(Clone, Copy, Debug, Error)]
 pub enum Difference {
     /// The call wanted memory.
     #[error("memory is wanting")]

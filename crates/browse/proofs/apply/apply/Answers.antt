@@ -1,6 +1,6 @@
 use Rattle.std.proofs.Common.{arith}
 use Rattle.std.proofs.lemmas.Result.{IfOk-weaker}
-use Rattle.browse.specs.Loads.{Given, Refused}
+use Rattle.image_forms.specs.Loads.{Given, Refused}
 use Rattle.browse.proofs.Loading.{Refuses-within}
 use Rattle.browse.proofs.apply.apply.Goals as goal
 

@@ -2,7 +2,7 @@ use Rattle.std.proofs.Common.{refl}
 use Rattle.class_table.specs.View.{image_of}
 use Rattle.apply_model.specs.declared.status.Status.TheVariants as verdict
 use Rattle.apply_model.specs.Applied.{NoImage, InImage}
-use Rattle.browse.proofs.Refusing.{refusal_told}
+use Rattle.image_forms.proofs.Refusing.{refusal_told}
 use Rattle.browse.proofs.apply.apply_texts.Goals as goal
 
 pub returns-in_ok-verdict-in-Ok : goal.returns-in_ok-verdict-in-Ok

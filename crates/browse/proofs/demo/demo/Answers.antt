@@ -4,8 +4,8 @@ use Rattle.st_kernel.specs.KernelText.{prelude_text}
 use Rattle.class_table.specs.View.{image_of}
 use Rattle.file_model.specs.Reading.{IsImageOf, HasRefusal}
 use Rattle.image_maker.specs.Generated.{image_text}
-use Rattle.browse.specs.Answers.{Unread, Read}
-use Rattle.browse.proofs.Refusing.{refusal_told}
+use Rattle.image_forms.specs.Answers.{Unread, Read}
+use Rattle.image_forms.proofs.Refusing.{refusal_told}
 use Rattle.browse.proofs.demo.demo.Goals as goal
 
 pub returns-in-Ok : goal.returns-in-Ok

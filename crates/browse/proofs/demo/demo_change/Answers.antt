@@ -1,8 +1,8 @@
 use Rattle.std.proofs.Common.{ℕ, List, ◌++◌, ap, sym, subst, ◌∙◌}
 use Rattle.image_maker.specs.Generated.{script_text}
 use Rattle.class_table.specs.View.{image_of}
-use Rattle.browse.specs.declared.status.Status.{Status}
-use Rattle.browse.specs.Answers.{ChangesIn}
+use Rattle.image_forms.specs.declared.status.Status.{Status}
+use Rattle.image_forms.specs.Answers.{ChangesIn}
 use Rattle.browse.proofs.Shown.{nothing_told, shown_after, shown_as_told}
 use Rattle.browse.proofs.demo.demo_change.Goals as goal
 

@@ -6,8 +6,8 @@ use Rattle.class_table.specs.Slots.{Slots}
 use Rattle.class_table.specs.View.{image_of}
 use Rattle.image_doits.specs.Added.{IsWithDoIt}
 use Rattle.image_maker.specs.Generated.{expression_text}
-use Rattle.browse.specs.Answers.{ChangesIn, NoExpression, Shown}
-use Rattle.browse.proofs.Refusing.{fault_told}
+use Rattle.image_forms.specs.Answers.{ChangesIn, NoExpression, Shown}
+use Rattle.image_forms.proofs.Refusing.{fault_told}
 use Rattle.browse.proofs.demo.demo_image.Goals as goal
 
 pub returns-in-Ok : goal.returns-in-Ok

@@ -1,5 +1,5 @@
 use Rattle.std.proofs.lemmas.Result.{IfOk-weaker}
-use Rattle.browse.specs.Loads.{Given}
+use Rattle.image_forms.specs.Loads.{Given}
 use Rattle.browse.proofs.run.run.Goals as goal
 
 pub returns-in-Ok-clause-answered : goal.returns-in-Ok-clause-answered

@@ -1,9 +1,9 @@
 use Rattle.std.proofs.Common.{refl}
 use Rattle.std.proofs.lemmas.Result.{IfOk-weaker}
 use Rattle.class_table.specs.View.{image_of}
-use Rattle.browse.specs.Answers.{NoDoIt, Ran}
+use Rattle.image_forms.specs.Answers.{NoDoIt, Ran}
 use Rattle.browse.proofs.Outcomes.{both_ok}
-use Rattle.browse.proofs.Refusing.{fault_told}
+use Rattle.image_forms.proofs.Refusing.{fault_told}
 use Rattle.browse.proofs.run.run_expression.Goals as goal
 
 pub returns-in-Ok : goal.returns-in-Ok

@@ -1,8 +1,8 @@
 use Rattle.std.proofs.Common.{refl}
 use Rattle.class_table.specs.View.{image_of}
 use Rattle.std.proofs.lemmas.Result.{IfOk-weaker}
-use Rattle.browse.specs.Answers.{NoImage, InImage}
-use Rattle.browse.proofs.Refusing.{refusal_told}
+use Rattle.image_forms.specs.Answers.{NoImage, InImage}
+use Rattle.image_forms.proofs.Refusing.{refusal_told}
 use Rattle.browse.proofs.run.run_text.Goals as goal
 
 pub returns-in-Ok : goal.returns-in-Ok

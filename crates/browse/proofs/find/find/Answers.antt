@@ -1,9 +1,0 @@
-use Rattle.std.proofs.lemmas.Result.{IfOk-weaker}
-use Rattle.browse.specs.Loads.{Given}
-use Rattle.browse.proofs.find.find.Goals as goal
-
-pub returns-in-Ok-clause-answered : goal.returns-in-Ok-clause-answered
-returns-in-Ok-clause-answered g c =
-    let loaded = rw c.in-Ok.is at c.in_ok-bytes.ensures.loaded in
-    let answered = rw c.as_slice.ensures.value at c.find_text.ensures in
-    IfOk-weaker c.find_text.result _ _ (λ status done. Given _ loaded.0 done) answered

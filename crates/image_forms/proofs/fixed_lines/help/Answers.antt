@@ -1,0 +1,5 @@
+use Rattle.std.proofs.Common.{ℕ, List, ◌++◌, ap, ◌∙◌}
+use Rattle.image_forms.proofs.fixed_lines.help.Goals as goal
+
+pub returns-clause-text : goal.returns-clause-text
+returns-clause-text c = c.in_ok-push_line.ensures ∙ ap (λ (t : List ℕ). t ++ _) c.requires

@@ -1,0 +1,9 @@
+use Rattle.std.proofs.lemmas.Result.{IfOk-weaker}
+use Rattle.image_forms.specs.Loads.{Given}
+use Rattle.image_forms.proofs.searching.search.Goals as goal
+
+pub returns-in-Ok-clause-answered : goal.returns-in-Ok-clause-answered
+returns-in-Ok-clause-answered g c =
+    let loaded = rw c.in-Ok.is at c.in_ok-bytes.ensures.loaded in
+    let answered = rw (c.as_slice.ensures.value, c.as_bytes.ensures.value) at c.search_text.ensures in
+    IfOk-weaker c.search_text.result _ _ (λ status done. Given _ loaded.0 done) answered
