@@ -24,7 +24,7 @@ pub enum Spot {
 
 /// A condition of a command, with what is printed of it. Which kind a variable has, and which classes and methods are looked
 /// at, the command says.
-#[derive(Clone, Copy, Debug)]
+#[derive(Clone, Copy)]
 pub enum Condition {
     /// No code of a user looks at the program itself.
     NoReflection,

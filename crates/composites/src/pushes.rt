@@ -1,9 +1,10 @@
 // The commands by which variables and methods go up.
-ghost use Rattle.std.specs.Prelude.{◌≡◌, nat_eq, ◌++◌, map, filter, IfOk, OnOk};
+ghost use Rattle.std.specs.Prelude.{◌≡◌, ◌++◌, ◌∷◌, [], false, nat_eq, map, filter, option_map, IfOk, OnOk};
 ghost use Rattle.std.specs.List.{filter_map, list_any};
 ghost use Rattle.session_model.specs.Steps.{shared_pushes};
 ghost use Rattle.mentions.specs.Listing.{pointed};
 ghost use Rattle.commands.specs.Views.{command_of};
+ghost use Rattle.commands.specs.declared.command.Command.TheVariants as kinds;
 ghost use Rattle.class_table.specs.View.{number_image};
 ghost use Rattle.class_table.specs.declared.record.Place.TheVariants as place;
 ghost use Rattle.reference_index.specs.Mentioned.{IsIndexOf, same_place};
@@ -20,6 +21,14 @@ use reference_index::Index;
 use st_tree::Node;
 use std::alloc::Global;
 use std::sync::ledger::Ledger;
+
+/// Puts a command at the end.
+pub(crate) fn put(command: Command, commands: &mut Vec<Command>) -> Result<(), Memory>
+    ensures { OnOk result (commands.new.items ≡ commands.old.items ++ command ∷ []) }
+{
+    commands.push(command)?;
+    Ok(())
+}
 
 /// Whether each of the classes has the instance variable.
 fn have_all(image: &Image, classes: &[NameId], variable: NameId) -> bool
@@ -45,10 +54,11 @@ fn put_shared(
 {
     for variable in variables {
         if have_all(image, others, *variable) {
-            commands.push(Command::Variable(VariableMove::InstanceUp {
+            let up = VariableMove::InstanceUp {
                 class,
                 variable: *variable,
-            }))?;
+            };
+            put(Command::Variable(up), commands)?;
         }
     }
     Ok(())
@@ -116,8 +126,8 @@ fn is_listed(places: &[Place], slot: MethodSlot) -> bool
     false
 }
 
-/// The command by which the method in a slot goes up, if it is a live instance method of the class and names the variable.
-fn slot_push<L: Ledger>(
+/// The selector of the method in a slot, if it goes up as a live instance method of the class that names the variable.
+fn pushed_selector<L: Ledger>(
     alloc: Global,
     image: &Image,
     index: &Index,
@@ -125,9 +135,9 @@ fn slot_push<L: Ledger>(
     variable: NameId,
     slot: MethodSlot,
     steps: &mut Steps<L>,
-) -> Result<Option<Command>, Memory>
+) -> Result<Option<NameId>, Memory>
     requires { IsIndexOf image.now index.now }
-    ensures { IfOk result (λ found. found ≡ slot_push image.now class variable slot) }
+    ensures { IfOk result (λ found. option_map (λ selector. kinds.PushUpMethod (record { class = class; meta = false; selector = selector })) found ≡ slot_push image.now class variable slot) }
 {
     let Some(info) = image.method_info(slot) else {
         return Ok(None);
@@ -145,11 +155,7 @@ fn slot_push<L: Ledger>(
     if !is_used(nodes.as_slice(), variable) {
         return Ok(None);
     }
-    Ok(Some(Command::PushUpMethod(MethodName {
-        class,
-        meta: false,
-        selector: info.selector,
-    })))
+    Ok(Some(info.selector))
 }
 
 /// Puts the commands at the end by which the instance methods of the class that name the variable go up. Opens only those
@@ -167,8 +173,14 @@ pub(crate) fn put_method_pushes<L: Ledger>(
     ensures { OnOk result (commands.new.items ≡ commands.old.items ++ filter_map (slot_push image.now class variable) image.now.method_order) }
 {
     for slot in image.methods() {
-        if let Some(command) = slot_push(alloc, image, index, class, variable, *slot, steps)? {
-            commands.push(command)?;
+        let found = pushed_selector(alloc, image, index, class, variable, *slot, steps)?;
+        if let Some(selector) = found {
+            let method = MethodName {
+                class,
+                meta: false,
+                selector,
+            };
+            put(Command::PushUpMethod(method), commands)?;
         }
     }
     Ok(())

@@ -15,7 +15,7 @@ ghost use Rattle.class_table.specs.View.{image_of, number_image};
 ghost use Rattle.reference_index.specs.Mentioned.{IsIndexOf};
 
 use crate::accessors::accessors;
-use crate::pushes::{put_method_pushes, shared_pushes};
+use crate::pushes::{put, put_method_pushes, shared_pushes};
 use action_numbers::actions_by_numbers;
 use class_table::Image;
 use commands::{Action, Command, NewClass, VariableMove};
@@ -31,7 +31,7 @@ fn extraction(alloc: Global, image: &Image, new: NewClass) -> Result<Vec<Command
 {
     let mut pushes = shared_pushes(alloc, image, new.under.as_slice())?;
     let mut commands = Vec::new(alloc);
-    commands.push(Command::AddClass(new))?;
+    put(Command::AddClass(new), &mut commands)?;
     commands.append(&mut pushes)?;
     Ok(commands)
 }
@@ -51,7 +51,8 @@ fn push_with_methods<L: Ledger>(
         ≡ model.steps_of nat_eq (number_image image.now) (number_writing image.now.names) (PushUpWithMethods class variable)) }
 {
     let mut commands = Vec::new(alloc);
-    commands.push(Command::Variable(VariableMove::InstanceUp { class, variable }))?;
+    let up = VariableMove::InstanceUp { class, variable };
+    put(Command::Variable(up), &mut commands)?;
     put_method_pushes(alloc, image, index, class, variable, &mut commands, steps)?;
     Ok(commands)
 }
@@ -73,7 +74,7 @@ fn commands_of<L: Ledger>(
     match action {
         Action::Single(command) => {
             let mut commands = Vec::new(alloc);
-            commands.push(command)?;
+            put(command, &mut commands)?;
             Ok(commands)
         }
         Action::CreateAccessors {

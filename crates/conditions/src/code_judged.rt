@@ -7,6 +7,8 @@ ghost use Rattle.command_model.specs.CodeHolds.{code_holds};
 ghost use Rattle.command_model.specs.Conditions as asked;
 ghost use Rattle.command_numbers.specs.CommandNames.{ConditionNames};
 ghost use Rattle.commands.specs.Views.{asked_by, command_of, condition_of};
+ghost use Rattle.commands.specs.declared.command.MethodName.{MethodName};
+ghost use Rattle.commands.specs.declared.condition.Condition.TheVariants as kinds;
 ghost use Rattle.reference_index.specs.Mentioned.{IsIndexOf};
 ghost use Rattle.conditions.specs.Concerns.{Concerns};
 ghost use Rattle.conditions.specs.Spots.{spot_passes};
@@ -57,20 +59,20 @@ fn is_shallow<L: Ledger>(
     }
 }
 
-/// Whether the message that the command replaces finds a method whose body may stand in its place.
+/// Whether the message that the command replaces finds a method whose body may stand in its place, which the condition asks.
 fn is_target_inlinable<L: Ledger>(
     alloc: Global,
     image: &Image,
     command: &Command,
-    method: MethodName,
+    condition: &Condition,
     steps: &mut Steps<L>,
 ) -> Result<bool, Memory>
     requires { IsOrderly image.now }
-    ensures { IfOk result (λ is. is ≡ code_holds (asked_by image.now.names) (number_image image.now) (command_of command.now) (asked.Inlinable method.class method.meta method.selector)) }
+    ensures { (m : MethodName) → condition.now ≡ kinds.Inlinable m → IfOk result (λ is. is ≡ code_holds (asked_by image.now.names) (number_image image.now) (command_of command.now) (asked.Inlinable m.class m.meta m.selector)) }
 {
     match command {
         Command::MoveCode(CodeMove::InlineMethod(part)) => {
-            target_holds(alloc, image, part, &Condition::Inlinable(method), steps)
+            target_holds(alloc, image, part, condition, steps)
         }
         _ => Ok(false),
     }
@@ -80,20 +82,24 @@ fn is_target_inlinable<L: Ledger>(
 fn spot_holds<L: Ledger>(
     alloc: Global,
     image: &Image,
-    method: MethodName,
-    spot: Spot,
+    method: &MethodName,
+    spot: &Spot,
     condition: &Condition,
     steps: &mut Steps<L>,
 ) -> Result<bool, Memory>
     requires { IsOrderly image.now }
-    ensures { IfOk result (λ is. is ≡ spot_passes image.now method spot condition.now) }
+    ensures { IfOk result (λ is. is ≡ spot_passes image.now method.now spot.now condition.now) }
 {
     match spot {
         Spot::Part { from, to } => {
-            let part = MethodPart { method, from, to };
+            let part = MethodPart {
+                method: *method,
+                from: *from,
+                to: *to,
+            };
             target_holds(alloc, image, &part, condition, steps)
         }
-        Spot::Name(variable) => let_holds(alloc, image, &method, variable, condition, steps),
+        Spot::Name(variable) => let_holds(alloc, image, method, *variable, condition, steps),
     }
 }
 
@@ -112,29 +118,29 @@ pub(crate) fn code_holds<L: Ledger>(
     requires concerns { Concerns (number_image image.now) (command_of command.now) (condition_of condition.now) }
     ensures { IfOk result (λ is. is ≡ code_holds (asked_by image.now.names) (number_image image.now) (command_of command.now) (condition_of condition.now)) }
 {
-    match *condition {
+    match condition {
         Condition::ParameterUnused { selector, argument } => {
-            is_parameter_unused(alloc, image, index, selector, argument, steps)
+            is_parameter_unused(alloc, image, index, *selector, *argument, steps)
         }
         Condition::PlainArguments { selector, argument } => {
-            are_arguments_plain(alloc, image, index, selector, argument, steps)
+            are_arguments_plain(alloc, image, index, *selector, *argument, steps)
         }
         Condition::AtomLiteral => Ok(passes_atom(image.names(), command)),
         Condition::Declared { method, variable } => {
-            is_declared_once(alloc, image, method, variable, steps)
+            is_declared_once(alloc, image, *method, *variable, steps)
         }
-        Condition::NotIn { method, variable } => is_not_in(alloc, image, method, variable, steps),
+        Condition::NotIn { method, variable } => is_not_in(alloc, image, *method, *variable, steps),
         Condition::Shallow => is_shallow(alloc, image, index, command, steps),
-        Condition::PartIs(part) => part_holds(alloc, image, &part, condition, steps),
-        Condition::NoReturn(part) => part_holds(alloc, image, &part, condition, steps),
-        Condition::AssignsNoOuter(part) => part_holds(alloc, image, &part, condition, steps),
-        Condition::TempsSteady(part) => part_holds(alloc, image, &part, condition, steps),
-        Condition::ValueUnused(part) => part_holds(alloc, image, &part, condition, steps),
-        Condition::FirstEvaluated(part) => part_holds(alloc, image, &part, condition, steps),
-        Condition::SelfSend(part) => is_self_send(alloc, image, &part, steps),
-        Condition::OneTarget(method) => Ok(is_one_target(image, &method)),
-        Condition::Inlinable(method) => is_target_inlinable(alloc, image, command, method, steps),
-        Condition::PlainActuals(part) => target_holds(alloc, image, &part, condition, steps),
+        Condition::PartIs(part) => part_holds(alloc, image, part, condition, steps),
+        Condition::NoReturn(part) => part_holds(alloc, image, part, condition, steps),
+        Condition::AssignsNoOuter(part) => part_holds(alloc, image, part, condition, steps),
+        Condition::TempsSteady(part) => part_holds(alloc, image, part, condition, steps),
+        Condition::ValueUnused(part) => part_holds(alloc, image, part, condition, steps),
+        Condition::FirstEvaluated(part) => part_holds(alloc, image, part, condition, steps),
+        Condition::SelfSend(part) => is_self_send(alloc, image, part, steps),
+        Condition::OneTarget(method) => Ok(is_one_target(image, method)),
+        Condition::Inlinable(_) => is_target_inlinable(alloc, image, command, condition, steps),
+        Condition::PlainActuals(part) => target_holds(alloc, image, part, condition, steps),
         Condition::NoCapture { method, spot } => {
             spot_holds(alloc, image, method, spot, condition, steps)
         }
@@ -142,7 +148,7 @@ pub(crate) fn code_holds<L: Ledger>(
             spot_holds(alloc, image, method, spot, condition, steps)
         }
         Condition::LetForm { method, variable } => {
-            let_holds(alloc, image, &method, variable, condition, steps)
+            let_holds(alloc, image, method, *variable, condition, steps)
         }
         _ => Ok(false),
     }

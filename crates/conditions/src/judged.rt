@@ -50,11 +50,11 @@ fn kind_of(command: &Command) -> VariableKind
 {
     match command {
         Command::Rename(Renaming::Variable { kind, .. }) => *kind,
-        Command::Variable(VariableMove::Add { kind, .. }) => *kind,
-        Command::Variable(VariableMove::Remove { kind, .. }) => *kind,
-        Command::Variable(VariableMove::SharedUp { .. } | VariableMove::SharedDown { .. }) => {
-            VariableKind::Shared
-        }
+        Command::Variable(change) => match change {
+            VariableMove::Add { kind, .. } | VariableMove::Remove { kind, .. } => *kind,
+            VariableMove::SharedUp { .. } | VariableMove::SharedDown { .. } => VariableKind::Shared,
+            _ => VariableKind::Instance,
+        },
         _ => VariableKind::Instance,
     }
 }
@@ -192,45 +192,47 @@ pub fn holds<L: Ledger>(
     requires concerns { Concerns (number_image image.now) (command_of command.now) (condition_of condition.now) }
     ensures { IfOk result (λ is. is ≡ model.holds (asked_by image.now.names) (number_image image.now) (command_of command.now) (condition_of condition.now)) }
 {
-    match *condition {
+    match condition {
         Condition::NoReflection => is_without_reflection(alloc, image, index, command, steps),
-        Condition::IsUserClass { class } => Ok(is_user_class(image, class)),
-        Condition::GoodName { name, kind } => Ok(is_good_name(image.names(), name, kind)),
-        Condition::NameUnused { name } => is_name_unused(alloc, image, index, name, steps),
+        Condition::IsUserClass { class } => Ok(is_user_class(image, *class)),
+        Condition::GoodName { name, kind } => Ok(is_good_name(image.names(), *name, *kind)),
+        Condition::NameUnused { name } => is_name_unused(alloc, image, index, *name, steps),
         Condition::SelectorFresh { selector } => {
-            is_selector_fresh(alloc, image, index, selector, steps)
+            is_selector_fresh(alloc, image, index, *selector, steps)
         }
         Condition::NotKernelSelector { selector } => {
-            is_no_kernel_selector(alloc, image, index, selector, steps)
+            is_no_kernel_selector(alloc, image, index, *selector, steps)
         }
-        Condition::Arity { selector, count } => Ok(arity_of(image.names(), selector) == count),
-        Condition::Implements(method) => Ok(implements(image, method)),
-        Condition::NotImplements(method) => Ok(lacks_method(image, index, method)),
-        Condition::Removable(method) => is_removable(alloc, image, index, method, steps),
-        Condition::NoSubclasses { class } => Ok(has_no_subclasses(image, class)),
-        Condition::NotReferenced { class } => is_not_referenced(alloc, image, index, class, steps),
+        Condition::Arity { selector, count } => Ok(arity_of(image.names(), *selector) == *count),
+        Condition::Implements(method) => Ok(implements(image, *method)),
+        Condition::NotImplements(method) => Ok(lacks_method(image, index, *method)),
+        Condition::Removable(method) => is_removable(alloc, image, index, *method, steps),
+        Condition::NoSubclasses { class } => Ok(has_no_subclasses(image, *class)),
+        Condition::NotReferenced { class } => is_not_referenced(alloc, image, index, *class, steps),
         Condition::HasVariable { class, variable } => {
-            Ok(has_variable(image, kind_of(command), class, variable))
+            Ok(has_variable(image, kind_of(command), *class, *variable))
         }
         Condition::VariableFree { class, variable } => {
-            is_free_for(alloc, image, index, command, class, variable, steps)
+            is_free_for(alloc, image, index, command, *class, *variable, steps)
         }
         Condition::VariableUnused { class, variable } => {
-            is_unused_by(alloc, image, index, command, class, variable, steps)
+            is_unused_by(alloc, image, index, command, *class, *variable, steps)
         }
-        Condition::ParentIsUser { class } => Ok(has_user_parent(image, class)),
-        Condition::NoSuper(method) => is_without_super(alloc, image, method, steps),
+        Condition::ParentIsUser { class } => Ok(has_user_parent(image, *class)),
+        Condition::NoSuper(method) => is_without_super(alloc, image, *method, steps),
         Condition::MeansSame { method, to } => {
-            means_same_in_class(alloc, image, method, to, steps)
+            means_same_in_class(alloc, image, *method, *to, steps)
         }
         Condition::Unreached { selector } => {
-            is_unreached(alloc, image, index, command, selector, steps)
+            is_unreached(alloc, image, index, command, *selector, steps)
         }
-        Condition::IsClass { class } => Ok(is_class(image, class)),
-        Condition::ChildOf { class, superclass } => Ok(is_user_child(image, class, superclass)),
-        Condition::LacksVariable { class, variable } => Ok(lacks_variable(image, class, variable)),
+        Condition::IsClass { class } => Ok(is_class(image, *class)),
+        Condition::ChildOf { class, superclass } => Ok(is_user_child(image, *class, *superclass)),
+        Condition::LacksVariable { class, variable } => Ok(lacks_variable(
+            image, *class, *variable,
+        )),
         Condition::KnownSelector { selector } => {
-            is_known_selector(alloc, image, index, selector, steps)
+            is_known_selector(alloc, image, index, *selector, steps)
         }
         Condition::UndoLeft | Condition::RedoLeft => Ok(false),
         Condition::ParameterUnused { .. } | Condition::PlainArguments { .. } => {

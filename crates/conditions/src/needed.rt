@@ -417,18 +417,16 @@ fn needs_of_method_removal(alloc: Global, method: &MethodName) -> Result<Vec<Con
     Ok(conditions)
 }
 
-/// The conditions of a method that goes up to a superclass.
-fn needs_of_method_up_to(
+/// The conditions of a method that goes up to the superclass, if there is one.
+fn needs_of_method_up(
     alloc: Global,
+    image: &Image,
     method: &MethodName,
-    parent: NameId,
 ) -> Result<Vec<Condition>, Memory>
-    ensures { IfOk result (λ found. map condition_of found.items
-        ≡ needed.NoReflection ∷ needed.IsUserClass method.now.class ∷ needed.Implements method.now.class method.now.meta method.now.selector ∷ needed.ParentIsUser method.now.class
-        ∷ needed.NotImplements parent method.now.meta method.now.selector ∷ needed.NoSuper method.now.class method.now.meta method.now.selector
-        ∷ needed.MeansSame method.now.class method.now.meta method.now.selector parent ∷ needed.Unreached method.now.selector ∷ []) }
+    requires { IsOrderly image.now }
+    ensures { IfOk result (λ found. map condition_of found.items ≡ model.needs (asked_by image.now.names) (number_image image.now) (commands.PushUpMethod method.now.class method.now.meta method.now.selector)) }
 {
-    let conditions = Vec::from_array(
+    let mut conditions = Vec::from_array(
         alloc,
         [
             Condition::NoReflection,
@@ -439,6 +437,10 @@ fn needs_of_method_up_to(
             Condition::ParentIsUser {
                 class: method.class,
             },
+        ],
+    )?;
+    if let Some(parent) = superclass_of(image, method.class) {
+        conditions.extend_from_slice(&[
             Condition::NotImplements(MethodName {
                 class: parent,
                 meta: method.meta,
@@ -452,36 +454,8 @@ fn needs_of_method_up_to(
             Condition::Unreached {
                 selector: method.selector,
             },
-        ],
-    )?;
-    Ok(conditions)
-}
-
-/// The conditions of a method that goes up to the superclass, if there is one.
-fn needs_of_method_up(
-    alloc: Global,
-    image: &Image,
-    method: &MethodName,
-) -> Result<Vec<Condition>, Memory>
-    requires { IsOrderly image.now }
-    ensures { IfOk result (λ found. map condition_of found.items ≡ model.needs (asked_by image.now.names) (number_image image.now) (commands.PushUpMethod method.now.class method.now.meta method.now.selector)) }
-{
-    if let Some(parent) = superclass_of(image, method.class) {
-        return needs_of_method_up_to(alloc, method, parent);
+        ])?;
     }
-    let conditions = Vec::from_array(
-        alloc,
-        [
-            Condition::NoReflection,
-            Condition::IsUserClass {
-                class: method.class,
-            },
-            Condition::Implements(*method),
-            Condition::ParentIsUser {
-                class: method.class,
-            },
-        ],
-    )?;
     Ok(conditions)
 }
 

@@ -1,5 +1,5 @@
 // Code made anew, in which what is renamed has its new name.
-ghost use Rattle.std.specs.Prelude.{◌≡◌, [], ◌∷◌, ◌+◌, ◌<◌, ◌^◌, ◌||◌, length, IfOk, OnOk};
+ghost use Rattle.std.specs.Prelude.{◌≡◌, [], ◌∷◌, ◌+◌, ◌<◌, ◌^◌, ◌||◌, false, true, length, IfSome, IfNone, IfOk, OnOk};
 ghost use Rattle.tree_model.specs.Tree.{trees_of};
 ghost use Rattle.st_tree.specs.View.{messages_of, statements_of, sequence_of, method_of};
 ghost use Rattle.renamed_code.specs.Standing.{beneath, stands_in};
@@ -42,7 +42,7 @@ fn node_anew(
             arguments,
         } => {
             let selector = renaming.selector_after(walk, *selector);
-            let receiver = Box::new(alloc, child_anew(alloc, renaming, 0, receiver, walk)?)?;
+            let receiver = boxed_child(alloc, renaming, receiver, walk)?;
             let arguments = nodes_anew(alloc, renaming, 1, arguments.as_slice(), walk)?;
             let kind = NodeKind::Send {
                 receiver,
@@ -52,14 +52,14 @@ fn node_anew(
             Ok(Node { kind })
         }
         NodeKind::Cascade { receiver, messages } => {
-            let receiver = Box::new(alloc, child_anew(alloc, renaming, 0, receiver, walk)?)?;
+            let receiver = boxed_child(alloc, renaming, receiver, walk)?;
             let messages = messages_anew(alloc, renaming, messages.as_slice(), walk)?;
             let kind = NodeKind::Cascade { receiver, messages };
             Ok(Node { kind })
         }
         NodeKind::Assign { name, value } => {
             let name = renaming.name_after(alloc, walk, *name)?;
-            let value = Box::new(alloc, child_anew(alloc, renaming, 0, value, walk)?)?;
+            let value = boxed_child(alloc, renaming, value, walk)?;
             let kind = NodeKind::Assign { name, value };
             Ok(Node { kind })
         }
@@ -75,7 +75,7 @@ fn node_anew(
             Ok(Node { kind })
         }
         NodeKind::Return { value } => {
-            let value = Box::new(alloc, child_anew(alloc, renaming, 0, value, walk)?)?;
+            let value = boxed_child(alloc, renaming, value, walk)?;
             let kind = NodeKind::Return { value };
             Ok(Node { kind })
         }
@@ -100,6 +100,23 @@ fn child_anew(
     let after = node_anew(alloc, renaming, node, walk)?;
     let _ = walk.steps.pop();
     Ok(after)
+}
+
+/// The node to which the first step below the end of the walk leads, after, in memory of its own.
+#[cycle(anew)]
+fn boxed_child(
+    alloc: Global,
+    renaming: &Renaming<'_>,
+    node: &Node,
+    walk: &mut Walk,
+) -> Result<Box<Node>, Memory>
+    requires { IsReadable renaming.now }
+    ensures tree { IfOk result (λ after. after.value ≡ sends_anew (selector_after renaming.now) (renamed (beyond 0 (beneath walk.old.steps.items (name_after renaming.now))) node.now)) }
+    ensures found { OnOk result (walk.new.found ≡ (walk.old.found || stands_in (is_sent_by renaming.now) (beneath (0 ∷ []) (beneath walk.old.steps.items (is_named_at renaming.now))) node.now)) }
+    ensures steps { OnOk result (walk.new.steps.items ≡ walk.old.steps.items) }
+{
+    let after = child_anew(alloc, renaming, 0, node, walk)?;
+    Ok(Box::new(alloc, after)?)
 }
 
 /// The nodes to which the steps from a number on lead, after.
@@ -183,7 +200,7 @@ fn statements_anew(
 
 /// A sequence, after.
 #[cycle(anew)]
-pub(crate) fn sequence_anew(
+fn sequence_anew(
     alloc: Global,
     renaming: &Renaming<'_>,
     body: &Sequence,
@@ -205,7 +222,7 @@ pub(crate) fn sequence_anew(
 }
 
 /// A method, after.
-pub(crate) fn method_anew(
+fn method_anew(
     alloc: Global,
     renaming: &Renaming<'_>,
     method: &Method,
@@ -226,4 +243,42 @@ pub(crate) fn method_anew(
         primitive: method.primitive,
         body,
     })
+}
+
+/// A method after, if it speaks of what is renamed.
+pub(crate) fn renamed_method(
+    alloc: Global,
+    renaming: &Renaming<'_>,
+    method: &Method,
+) -> Result<Option<Method>, Memory>
+    requires { IsReadable renaming.now }
+    ensures method { IfOk result (λ found. IfSome found (λ after. method_of after ≡ method_after renaming.now [] (method_of method.now))) }
+    ensures found { IfOk result (λ found. IfSome found (λ after. is_in_method renaming.now [] (method_of method.now) ≡ true)) }
+    ensures none { IfOk result (λ found. IfNone found (is_in_method renaming.now [] (method_of method.now) ≡ false)) }
+{
+    let mut walk = Walk::new(alloc);
+    let after = method_anew(alloc, renaming, method, &mut walk)?;
+    if !walk.found {
+        return Ok(None);
+    }
+    Ok(Some(after))
+}
+
+/// The body of a do-it after, if it speaks of what is renamed.
+pub(crate) fn renamed_body(
+    alloc: Global,
+    renaming: &Renaming<'_>,
+    body: &Sequence,
+) -> Result<Option<Sequence>, Memory>
+    requires { IsReadable renaming.now }
+    ensures body { IfOk result (λ found. IfSome found (λ after. sequence_of after ≡ sequence_after renaming.now [] (sequence_of body.now))) }
+    ensures found { IfOk result (λ found. IfSome found (λ after. is_in_statements renaming.now [] 0 (statements_of body.now.statements) ≡ true)) }
+    ensures none { IfOk result (λ found. IfNone found (is_in_statements renaming.now [] 0 (statements_of body.now.statements) ≡ false)) }
+{
+    let mut walk = Walk::new(alloc);
+    let after = sequence_anew(alloc, renaming, body, &mut walk)?;
+    if !walk.found {
+        return Ok(None);
+    }
+    Ok(Some(after))
 }

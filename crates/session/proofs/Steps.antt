@@ -1,5 +1,6 @@
 -- Each way in which a step ends.
 use Rattle.std.proofs.Common.{◌≡◌, ◌<◌, ◌≤◌, ℕ, ◌+◌, List, [], ◌∷◌, ◌++◌, length, take, drop, reverse, get_or, set, Option, None, Some, Result, Ok, Err, refl, sym, ap, subst, ◌∙◌}
+use Rattle.std.specs.Prelude.{OnErr}
 use Rattle.std.specs.Option.{option_map_or}
 use Rattle.std.proofs.lemmas.List.{drop_all, set-get_or}
 use Rattle.rb_base.specs.Names.{name_at, text_eq}
@@ -56,6 +57,20 @@ module _ (s : Slots) (log : Log) (wanted : Outcome) (is : IsLogOf s log) where
         let one : c ≡ d = cc in
         subst (λ (b : Condition). wanted ≡ Err (map_condition (name_at s.names) (condition_of b))) one e;
   }
+
+-- what is made of a log that stands for the same history as a former one
+module _ (s : Slots) (former log : Log) (wanted : Outcome) (same : history_of s log ≡ history_of s former) where
+  pub stepped-since : (t : Slots) (next : Log) (result : Result (Unit {0}) StepRefusal) → IsStepped s log wanted t next result → IsStepped s former wanted t next result
+  stepped-since t next result is = record {
+    log = is.log;
+    names = is.names;
+    done = is.done;
+    same = subst (λ (h : History). OnErr result (history_of t next ≡ h)) same is.same;
+    refused = is.refused;
+  }
+
+  pub refused-since : IsLogOf s log → (e : StepRefusal) → ((c : Condition) → e ≡ refusal.Condition c → wanted ≡ Err (map_condition (name_at s.names) (condition_of c))) → IsStepped s former wanted s log (Err e)
+  refused-since is e why = record { log = is; names = refl; done = tt; same = same; refused = why }
 
 -- where the slots, the index and the entry are as before
 pub stays-with : (s t : Slots) (x y : Mentioned) (stale : List Place) (es : List Done) (k n : ℕ) (d e : Done) (wanted : Outcome) → IsLogOf s (log_at x stale es n) → t ≡ s → e ≡ d → y ≡ x → d ≡ get_or es k d

@@ -5,7 +5,7 @@ use commands::Condition;
 use rb_base::Memory;
 
 /// Why a step is not done. The image shows the same as before then, and its history is the same.
-#[derive(Clone, Copy, Debug)]
+#[derive(Clone, Copy)]
 pub enum StepRefusal {
     /// The first condition that is false.
     Condition(Condition),

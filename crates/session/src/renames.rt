@@ -78,36 +78,37 @@ pub(crate) fn renames_of(image: &Image, command: &Command) -> Renames
     requires known { CommandNames (λ n. n < length image.now.names) (command_of command.now) }
     ensures { renaming_in image.now.names (image_of image.now) result ≡ renaming_of (image_of image.now) (map_command (name_at image.now.names) (command_of command.now)) }
 {
-    match *command {
-        Command::Rename(renaming) => Renames::Renaming(renaming),
-        Command::Variable(VariableMove::SharedUp { class, variable }) => {
-            renames_up(image, class, variable)
-        }
-        Command::Variable(
+    match command {
+        Command::Rename(renaming) => Renames::Renaming(*renaming),
+        Command::Variable(change) => match *change {
+            VariableMove::SharedUp { class, variable } => renames_up(image, class, variable),
             VariableMove::SharedDown {
                 class,
                 variable,
                 to,
+            } => Renames::Moved {
+                class,
+                variable,
+                to,
             },
-        ) => Renames::Moved {
-            class,
-            variable,
-            to,
+            _ => Renames::Nothing,
         },
-        Command::AddParameter(NewParameter { selector, to, .. }) => {
-            Renames::Renaming(Renaming::Selector { selector, to })
-        }
-        Command::RemoveParameter { selector, to, .. } => {
-            Renames::Renaming(Renaming::Selector { selector, to })
-        }
+        Command::AddParameter(new) => Renames::Renaming(Renaming::Selector {
+            selector: new.selector,
+            to: new.to,
+        }),
+        Command::RemoveParameter { selector, to, .. } => Renames::Renaming(Renaming::Selector {
+            selector: *selector,
+            to: *to,
+        }),
         Command::RenameTemporary {
             method,
             variable,
             to,
         } => Renames::Temporary {
-            method,
-            variable,
-            to,
+            method: *method,
+            variable: *variable,
+            to: *to,
         },
         _ => Renames::Nothing,
     }

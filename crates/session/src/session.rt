@@ -1,5 +1,5 @@
 // The steps of a session.
-ghost use Rattle.std.specs.Prelude.{◌≡◌, ◌<◌, ◌++◌, ◌∷◌, [], length, map, take, Ok, Err, IfOk, IfErr, OnOk, OnErr, vec_len};
+ghost use Rattle.std.specs.Prelude.{◌≡◌, ◌<◌, ◌++◌, ◌∷◌, [], length, map, take, None, Ok, Err, IfOk, IfErr, OnOk, OnErr, vec_len};
 ghost use Rattle.std.specs.List.{AllByRecursion};
 ghost use Rattle.std.specs.Vec.{vec_capacity};
 ghost use Rattle.rb_base.specs.Names.{name_at};
@@ -10,8 +10,10 @@ ghost use Rattle.class_table.specs.Valid.{IsOrderly};
 ghost use Rattle.wider_slots.specs.Closed.{IsClosed};
 ghost use Rattle.history_model.specs.Rules.{Perform, Undo, Redo};
 ghost use Rattle.history_model.specs.History.{opened, stepped};
+ghost use Rattle.command_model.specs.Asked.{text_asked};
 ghost use Rattle.command_numbers.specs.CommandNames.{CommandNames};
 ghost use Rattle.command_numbers.specs.MappedCommands.{map_command, map_condition};
+ghost use Rattle.session_model.specs.OwnConditions.{first_own_false};
 ghost use Rattle.session_model.specs.Scripts.{rules};
 ghost use Rattle.commands.specs.Actions.{map_action, ActionNames};
 ghost use Rattle.commands.specs.Views.{action_of, command_of, condition_of, request_in, HasSelf, IsKnownRequest};
@@ -225,6 +227,29 @@ impl Session {
         }
     }
 
+    /// Makes the index that of the image, and refuses the action where one of its own conditions is false.
+    fn judge<L: Ledger>(
+        &mut self,
+        image: &Image,
+        action: &Action,
+        steps: &mut Steps<L>,
+    ) -> Result<(), StepRefusal>
+        requires log { IsLogOf image.now self.old }
+        requires known { ActionNames (λ n. n < length image.now.names) (action_of action.now) }
+        ensures log { IsLogOf image.now self.new }
+        ensures same { history_of image.now self.new ≡ history_of image.now self.old }
+        ensures renewed { OnOk result (self.new.stale ≡ []) }
+        ensures accepted { OnOk result (first_own_false text_asked (image_of image.now) (map_action (name_at image.now.names) (action_of action.now)) ≡ None) }
+        ensures refused { IfErr result (λ e. (c : Condition) → e ≡ refusal.Condition c →
+            stepped rules (history_of image.now self.old) (Perform (map_action (name_at image.now.names) (action_of action.now))) ≡ Err (map_condition (name_at image.now.names) (condition_of c))) }
+    {
+        self.renew(image, steps)?;
+        if let Some(condition) = first_own_false(self.alloc, image, &self.index, action, steps)? {
+            return Err(StepRefusal::Condition(condition));
+        }
+        Ok(())
+    }
+
     /// Does the action, and drops what was undone.
     fn perform<L: Ledger>(
         &mut self,
@@ -233,14 +258,11 @@ impl Session {
         steps: &mut Steps<L>,
     ) -> Result<(), StepRefusal>
         requires log { IsLogOf image.old self.old }
-        requires renewed { self.old.stale ≡ [] }
         requires self_known { HasSelf image.old.names }
         requires known { ActionNames (λ n. n < length image.old.names) (action_of action) }
         ensures { IsStepped image.old self.old (stepped rules (history_of image.old self.old) (Perform (map_action (name_at image.old.names) (action_of action)))) image.new self.new result }
     {
-        if let Some(condition) = first_own_false(self.alloc, image, &self.index, &action, steps)? {
-            return Err(StepRefusal::Condition(condition));
-        }
+        self.judge(image, &action, steps)?;
         let commands = steps_of(self.alloc, image, &self.index, action, steps)?;
         self.perform_all(image, commands.as_slice(), steps)
     }
@@ -263,11 +285,16 @@ impl Session {
         ensures refused { IfErr result (λ e. (c : Condition) → e ≡ refusal.Condition c →
             stepped rules (history_of image.old self.old) (request_in image.old.names request) ≡ Err (map_condition (name_at image.old.names) (condition_of c))) }
     {
-        self.renew(image, steps)?;
         match request {
             Request::Perform(action) => self.perform(image, action, steps),
-            Request::Undo => self.undo(image, steps),
-            Request::Redo => self.redo(image, steps),
+            Request::Undo => {
+                self.renew(image, steps)?;
+                self.undo(image, steps)
+            }
+            Request::Redo => {
+                self.renew(image, steps)?;
+                self.redo(image, steps)
+            }
         }
     }
 }

@@ -7,22 +7,25 @@ use Rattle.renamed_code.proofs.Loops.{onto, put_message, put_statement}
 use Rattle.renamed_code.proofs.anew.+anew.Given as goal
 
 abbrev pub decreases-node_anew : goal.decreases-node_anew
-decreases-node_anew l = 2 * weight l.node.now
+decreases-node_anew l = 3 * weight l.node.now
 
 abbrev pub decreases-child_anew : goal.decreases-child_anew
-decreases-child_anew l = 2 * weight l.node.now + 1
+decreases-child_anew l = 3 * weight l.node.now + 1
+
+abbrev pub decreases-boxed_child : goal.decreases-boxed_child
+decreases-boxed_child l = 3 * weight l.node.now + 2
 
 abbrev pub decreases-nodes_anew : goal.decreases-nodes_anew
-decreases-nodes_anew l = 2 * trees_weight (trees_of l.nodes.now)
+decreases-nodes_anew l = 3 * trees_weight (trees_of l.nodes.now)
 
 abbrev pub decreases-messages_anew : goal.decreases-messages_anew
-decreases-messages_anew l = 2 * messages_weight (messages_of l.messages.now)
+decreases-messages_anew l = 3 * messages_weight (messages_of l.messages.now)
 
 abbrev pub decreases-statements_anew : goal.decreases-statements_anew
-decreases-statements_anew l = 2 * statements_weight (statements_of l.statements.now)
+decreases-statements_anew l = 3 * statements_weight (statements_of l.statements.now)
 
 abbrev pub decreases-sequence_anew : goal.decreases-sequence_anew
-decreases-sequence_anew l = 2 * statements_weight (statements_of l.body.now.statements) + 1
+decreases-sequence_anew l = 3 * statements_weight (statements_of l.body.now.statements) + 1
 
 abbrev pub invariant-nodes_anew-loop-node : goal.invariant-nodes_anew-loop-node
 invariant-nodes_anew-loop-node l = record {

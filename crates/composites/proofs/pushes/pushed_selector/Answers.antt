@@ -1,6 +1,6 @@
 use Rattle.std.proofs.Common.{sym, ◌∙◌}
 use Rattle.composites.proofs.Listed.{unlisted-none}
-use Rattle.composites.proofs.pushes.slot_push.Goals as goal
+use Rattle.composites.proofs.pushes.pushed_selector.Goals as goal
 
 pub returns-then-not-is_listed : goal.returns-then-not-is_listed
 returns-then-not-is_listed g c =
