@@ -32,7 +32,7 @@ use Rattle.st_interp.specs.declared.state.Ending.TheVariants as ending
 use Rattle.st_interp.specs.declared.shape.Shape.{Shape}
 use Rattle.st_interp.specs.declared.shape.Shape.TheVariants as shape
 use Rattle.st_interp.specs.Machine.{ended, returned, runs_doit, turns, tested, resume, plug, next_of, rest, next_load}
-use Rattle.st_interp.proofs.Plug.{plug_pushed}
+use Rattle.st_interp.proofs.Plug.{plug_pushed, plug_empty}
 
 -- what comes after an ending
 pub rest_after : (i : ImageOf Name) (names : List Name) (m : Machine) (e : Ending) → rest i names m (next_of e) ≡ plug i names m.stack.items (ended e (store_of names m.store))
@@ -76,24 +76,22 @@ turn_empty i names ks l f s s' e q =
     ∙ ap (plug i names ks) (sym (evaluates-step i (turn f l.sense (sequence_at names l.test.now) (sequence_at names l.body.now)) s ∙ turn_none (evaluates i) f l.sense (sequence_at names l.test.now) (sequence_at names l.body.now) s (ap (statements_at names) e)))
 
 -- sends, by their shapes
-pub two_ways_begun : (i : ImageOf Name) (names : List Name) (ks js : List Pending) (a b : Branch) (c : Rc Context Global) (f : Frame) (r : TreeOf Name) (n : Name) (args : TreesOf Name) (h : Shape) (sh : run.Shape) (s : Store) → js ≡ ks ++ pending.Branch a b c ∷ [] → c.value ≡ f → h ≡ shape.TwoWays a b → shape_from names h ≡ sh
-    → plug i names js (evaluates i (node f r) s) ≡ plug i names ks (does_send acts i (evaluates i) f r n args sh s)
+pub two_ways_begun : (i : ImageOf Name) (names : List Name) (ks : List Pending) (a b : Branch) (c : Rc Context Global) (f : Frame) (r : TreeOf Name) (n : Name) (args : TreesOf Name) (h : Shape) (sh : run.Shape) (s : Store) → c.value ≡ f → h ≡ shape.TwoWays a b → shape_from names h ≡ sh
+    → plug i names ks (resume i names (pending.Branch a b c) (evaluates i (node f r) s)) ≡ plug i names ks (does_send acts i (evaluates i) f r n args sh s)
 unfolding and_then
-two_ways_begun i names ks js a b c f r n args h sh s e q p w =
-    plug_pushed i names ks js (pending.Branch a b c) _ _ e refl
-    ∙ (λ j. plug i names ks (then_do (evaluates i (node f r) s) (λ v. chooses acts v (takes acts (evaluates i) (q j) (branch_from names a)) (takes acts (evaluates i) (q j) (branch_from names b)))))
+two_ways_begun i names ks a b c f r n args h sh s q p w =
+    (λ j. plug i names ks (then_do (evaluates i (node f r) s) (λ v. chooses acts v (takes acts (evaluates i) (q j) (branch_from names a)) (takes acts (evaluates i) (q j) (branch_from names b)))))
     ∙ ap (λ z. plug i names ks (does_send acts i (evaluates i) f r n args z s)) (sym (ap (shape_from names) p) ∙ w)
 
 pub loop_begun : (i : ImageOf Name) (names : List Name) (ks : List Pending) (l : Loop) (f : Frame) (r : TreeOf Name) (n : Name) (args : TreesOf Name) (h : Shape) (sh : run.Shape) (s : Store) → h ≡ shape.Loops l → shape_from names h ≡ sh
     → plug i names ks (turns i names f l s) ≡ plug i names ks (does_send acts i (evaluates i) f r n args sh s)
 loop_begun i names ks l f r n args h sh s p w = ap (λ z. plug i names ks (does_send acts i (evaluates i) f r n args z s)) (sym (ap (shape_from names) p) ∙ w)
 
-pub message_begun : (i : ImageOf Name) (names : List Name) (ks js : List Pending) (c : Rc Context Global) (f : Frame) (r : Bor (TreeOf ℕ)) (n : ℕ) (args : Bor (List (TreeOf ℕ))) (h : Shape) (sh : run.Shape) (s : Store) → js ≡ ks ++ pending.Receiver r n args c ∷ [] → c.value ≡ f → h ≡ shape.Message → shape_from names h ≡ sh
-    → plug i names js (evaluates i (node f (tree_at names r.now)) s) ≡ plug i names ks (does_send acts i (evaluates i) f (tree_at names r.now) (name_at names n) (trees_at names args.now) sh s)
+pub message_begun : (i : ImageOf Name) (names : List Name) (ks : List Pending) (c : Rc Context Global) (f : Frame) (r : Bor (TreeOf ℕ)) (n : ℕ) (args : Bor (List (TreeOf ℕ))) (h : Shape) (sh : run.Shape) (s : Store) → c.value ≡ f → h ≡ shape.Message → shape_from names h ≡ sh
+    → plug i names ks (resume i names (pending.Receiver r n args c) (evaluates i (node f (tree_at names r.now)) s)) ≡ plug i names ks (does_send acts i (evaluates i) f (tree_at names r.now) (name_at names n) (trees_at names args.now) sh s)
 unfolding and_then
-message_begun i names ks js c f r n args h sh s e q p w =
-    plug_pushed i names ks js (pending.Receiver r n args c) _ _ e refl
-    ∙ (λ j. plug i names ks (then_do (evaluates i (node f (tree_at names r.now)) s) (λ v. and_then (values acts (evaluates i) (q j) (trees_at names args.now)) (λ vs. sends acts i (evaluates i) (q j) (tree_at names r.now) v (name_at names n) vs))))
+message_begun i names ks c f r n args h sh s q p w =
+    (λ j. plug i names ks (then_do (evaluates i (node f (tree_at names r.now)) s) (λ v. and_then (values acts (evaluates i) (q j) (trees_at names args.now)) (λ vs. sends acts i (evaluates i) (q j) (tree_at names r.now) v (name_at names n) vs))))
     ∙ ap (λ z. plug i names ks (does_send acts i (evaluates i) f (tree_at names r.now) (name_at names n) (trees_at names args.now) z s)) (sym (ap (shape_from names) p) ∙ w)
 
 -- nodes
@@ -154,12 +152,13 @@ unfolding and_then with_memory fails
 leave_dead i names ks f v h b s e q p = ap (λ z. plug i names ks (returns_home acts f v z s)) (sym p ∙ q ∙ ap (lives s.memory) e)
 
 -- a do-it in its home
-pub doit_begun : (i : ImageOf Name) (names : List Name) (ks js : List Pending) (c : Option Name) (v : Value) (h : ℕ) (f : Frame) (b : SequenceOf Name) (s s' : Store) → js ≡ ks ++ pending.Home h ∷ [] → v ≡ nil_value → h ≡ length s.memory.homes → s' ≡ changed_by with_home s → f ≡ outermost c false v h
-    → plug i names js (in_place acts (evaluates i) f b s') ≡ plug i names ks (runs_doit i c b s)
+pub doit_begun : (i : ImageOf Name) (names : List Name) (ks js : List Pending) (c : Option Name) (v : Value) (h : ℕ) (f : Frame) (b : SequenceOf Name) (s s' : Store) → ks ≡ [] → js ≡ ks ++ pending.Home h ∷ [] → v ≡ nil_value → h ≡ length s.memory.homes → s' ≡ changed_by with_home s → f ≡ outermost c false v h
+    → plug i names js (in_place acts (evaluates i) f b s') ≡ runs_doit i c b s
 unfolding and_then with_memory at_home
-doit_begun i names ks js c v h f b s s' e z n r g =
+doit_begun i names ks js c v h f b s s' o e z n r g =
     plug_pushed i names ks js (pending.Home h) _ _ e refl
-    ∙ (λ j. plug i names ks (out_of_home (n j) (sequence acts (evaluates i) (at j) [] [] b (r j))))
+    ∙ (λ j. plug i names (o j) (out_of_home (n j) (sequence acts (evaluates i) (at j) [] [] b (r j))))
+    ∙ plug_empty i names _
   where
     at : f ≡ outermost c false nil_value (length s.memory.homes)
     at = g ∙ (λ j. outermost c false (z j) (n j))

@@ -7,7 +7,7 @@ use Rattle.rb_base.specs.Names.{name_at}
 use Rattle.image_model.specs.Image.{ImageOf, EntryOf}
 use Rattle.image_model.specs.Words.{text_words}
 use Rattle.image_model.specs.Lookup.{lookup, super_lookup}
-use Rattle.run_model.specs.Values.{Name, Value, nil_value, bad_argument}
+use Rattle.run_model.specs.Values.{Name, Value, nil_value, bad_argument, does_not_understand}
 use Rattle.run_model.specs.Store.{Frame, Store, Closure, Result, leaves, ends_by, with_new_cells, with_home}
 use Rattle.run_model.specs.Acts.{then_do, gives, fails, and_then, with_memory, at_home, out_of_home, acts}
 use Rattle.run_model.specs.Calls.{enters}
@@ -79,6 +79,12 @@ bare_runs i (Some m) v n vs = by m.tree.primitive
     by : (p : Option ℕ) → does acts i (evaluates i) p (bare m) v vs ≡ does acts i (evaluates i) p m v vs
     by None = refl
     by (Some k) = refl
+
+-- a message that no method is for
+pub no_method : (i : ImageOf Name) (names : List Name) (ks : List Pending) (v : Value) (c n m : Name) (b : Bool) (vs : List Value) (s : Store) → c ≡ class_name_of s.memory.heap v → b ≡ is_meta v → n ≡ m
+    → plug i names ks (leaves (ends_by (does_not_understand c b n)) s) ≡ plug i names ks (runs_found acts i (evaluates i) None v m vs s)
+unfolding and_then with_memory fails
+no_method i names ks v c n m b vs s e q w = λ j. plug i names ks (leaves (ends_by (does_not_understand (e j) (q j) (w j))) s)
 
 -- a message whose method was found
 pub message_found : (i : ImageOf Name) (names : List Name) (ks : List Pending) (o : Option (EntryOf Name)) (v : Value) (c : Name) (b : Bool) (n : Name) (vs : List Value) (s : Store) → o ≡ option_map bare (lookup text_words i (Some c) b n) → c ≡ class_name_of s.memory.heap v → b ≡ is_meta v

@@ -18,7 +18,7 @@ use Rattle.st_interp.specs.declared.state.Pending.{Pending}
 use Rattle.st_interp.specs.declared.state.Pending.TheVariants as pending
 use Rattle.st_interp.specs.Trees.{tree_at, trees_at, messages_at, sequence_at}
 use Rattle.st_interp.specs.Booleans.{boolean_of}
-use Rattle.st_interp.specs.Machine.{completed, completes, turns, tested, plug}
+use Rattle.st_interp.specs.Machine.{completed, completes, turns, tested, resume, plug}
 use Rattle.st_interp.proofs.Plug.{plug_pushed}
 
 then_then : {A B C : Type 0} (r : Result A) (k : A → Act B) (h : B → Act C) → then_do (then_do r k) h ≡ then_do r (λ a s. then_do (k a s) h)
@@ -41,11 +41,10 @@ next_completes i names p f done t ts s =
     ∙ (λ j. then_do (evaluates i (node f (tree_at names t)) s) (λ v s1. then_then (values acts (evaluates i) f (trees_at names ts) s1) (λ vs s2. fine (v ∷ vs) s2) (λ vs. completed i names p f (done ++ vs)) j))
     ∙ (λ j. then_do (evaluates i (node f (tree_at names t)) s) (λ v s1. then_do (values acts (evaluates i) f (trees_at names ts) s1) (λ vs. completed i names p f (sym (append_assoc done (v ∷ []) vs) j))))
 
-pub argument_next : (i : ImageOf Name) (names : List Name) (ks js : List Pending) (p : Purpose) (done : List Value) (f : Frame) (ts : List (TreeOf ℕ)) (t : TreeOf ℕ) (c : Rc Context Global) (left : Bor (List (TreeOf ℕ))) (s : Store) → js ≡ ks ++ pending.Arguments p done left c ∷ [] → ts ≡ t ∷ left.now → c.value ≡ f
-    → plug i names js (evaluates i (node f (tree_at names t)) s) ≡ plug i names ks (completes i names p f done ts s)
-argument_next i names ks js p done f ts t c left s e q w =
-    plug_pushed i names ks js (pending.Arguments p done left c) (evaluates i (node f (tree_at names t)) s) _ e refl
-    ∙ (λ j. plug i names ks (then_do (evaluates i (node f (tree_at names t)) s) (λ v. completes i names p (w j) (done ++ v ∷ []) left.now)))
+pub argument_next : (i : ImageOf Name) (names : List Name) (ks : List Pending) (p : Purpose) (done : List Value) (f : Frame) (ts : List (TreeOf ℕ)) (t : TreeOf ℕ) (c : Rc Context Global) (left : Bor (List (TreeOf ℕ))) (s : Store) → ts ≡ t ∷ left.now → c.value ≡ f
+    → plug i names ks (resume i names (pending.Arguments p done left c) (evaluates i (node f (tree_at names t)) s)) ≡ plug i names ks (completes i names p f done ts s)
+argument_next i names ks p done f ts t c left s q w =
+    (λ j. plug i names ks (then_do (evaluates i (node f (tree_at names t)) s) (λ v. completes i names p (w j) (done ++ v ∷ []) left.now)))
     ∙ ap (plug i names ks) (sym (next_completes i names p f done t left.now s))
     ∙ ap (λ z. plug i names ks (completes i names p f done z s)) (sym q)
 

@@ -5,7 +5,6 @@ ghost use Rattle.image_model.specs.Image.{ImageOf};
 ghost use Rattle.class_table.specs.View.{image_of};
 ghost use Rattle.run_model.specs.Values.{Name, Value as run_value};
 ghost use Rattle.run_model.specs.Acts.{acts};
-ghost use Rattle.run_model.specs.Views.{is_meta};
 ghost use Rattle.run_model.specs.Eval.{is_super, does_primitive, runs_found, message, super_message, makes_brace, evaluates};
 ghost use Rattle.st_program.specs.Found.{entry_from};
 ghost use Rattle.st_interp.specs.Trees.{tree_at};
@@ -15,20 +14,10 @@ use crate::machine::fails;
 use crate::state::{Exit, Machine, Next, Purpose};
 use prim_calls::PrimResult;
 use rb_base::{Memory, NameId};
-use st_meaning::{Context, RunErrorKind, SharedText, Value, ValueKind, Values, same_text};
+use st_meaning::{Context, RunErrorKind, SharedText, Value, Values, same_text};
 use st_prims::primitive;
 use st_program::{Found, Program};
 use st_tree::{Node, NodeKind};
-
-/// Whether the value is a class.
-fn is_class(value: &Value) -> bool
-    ensures { result ≡ is_meta value.now }
-{
-    match &value.kind {
-        ValueKind::Class(_) => true,
-        _ => false,
-    }
-}
 
 /// Whether the node is the name `super`.
 fn is_super_node(program: &Program<'_>, node: &Node) -> bool
@@ -64,7 +53,6 @@ impl<'p> Machine<'p> {
     }
 
     /// The end of a message that no method is for.
-    #[tactic(auto, unfolding(run_model::specs::Acts::fails, run_model::specs::Acts::and_then, run_model::specs::Acts::with_memory))]
     fn not_understood(
         &mut self,
         program: &Program<'p>,
@@ -79,7 +67,7 @@ impl<'p> Machine<'p> {
         let class = SharedText::from_slice(self.store.alloc, class)?;
         Ok(fails(RunErrorKind::DoesNotUnderstand {
             class,
-            meta: is_class(receiver),
+            meta: receiver.is_class(),
             selector: program.names().text(selector)?,
         }))
     }
@@ -107,7 +95,6 @@ impl<'p> Machine<'p> {
     }
 
     /// Sends a message to a value.
-    #[tactic(auto, using(crate::proofs::Plug::message_found))]
     pub fn message(
         &mut self,
         program: &Program<'p>,
@@ -120,12 +107,11 @@ impl<'p> Machine<'p> {
         ensures ticks { IfOk result (λ n. self.new.store.ticks ≤ self.old.store.ticks) }
     {
         let class = self.store.heap.class_name(&receiver);
-        let found = program.method_for(class, is_class(&receiver), selector)?;
+        let found = program.method_for(class, receiver.is_class(), selector)?;
         self.run_found(program, found, receiver, selector, arguments)
     }
 
     /// Sends a message to a value, above the class and side of the running method.
-    #[tactic(auto, using(crate::proofs::Plug::super_found))]
     fn super_message(
         &mut self,
         program: &Program<'p>,

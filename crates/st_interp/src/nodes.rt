@@ -1,5 +1,5 @@
 // What begins a node.
-ghost use Rattle.std.specs.Prelude.{◌≡◌, ◌+◌, ◌<◌, ◌≤◌, ◌∷◌, [], List, IfOk};
+ghost use Rattle.std.specs.Prelude.{◌≡◌, ◌+◌, ◌<◌, ◌≤◌, [], List, IfOk};
 ghost use Rattle.rb_base.specs.Names.{name_at};
 ghost use Rattle.image_model.specs.Image.{ImageOf};
 ghost use Rattle.class_table.specs.View.{image_of};
@@ -9,10 +9,10 @@ ghost use Rattle.run_model.specs.Shapes.{shape_of};
 ghost use Rattle.run_model.specs.Eval.{node as at_node, literal_value, makes_closure, does_send, does_node, evaluates};
 ghost use Rattle.st_interp.specs.Trees.{texts_at, literal_at, tree_at, trees_at, sequence_at};
 ghost use Rattle.st_interp.specs.Shapes.{shape_from};
-ghost use Rattle.st_interp.specs.Machine.{resume as resumed, turns, goes_on_with, rest, load, machine_load};
+ghost use Rattle.st_interp.specs.Machine.{turns, goes_on_with, rest, load, machine_load};
 
 use crate::literals::literal;
-use crate::machine::{after, fails};
+use crate::machine::{after, fails, hold};
 use crate::reading::read;
 use crate::shape::{Shape, shape_at};
 use crate::state::{Loop, Machine, Next, Pending, Purpose};
@@ -80,12 +80,11 @@ impl<'p> Machine<'p> {
             return self.empty_turn(program, blocks, &context);
         }
         let shared = Rc::clone(&context)?;
-        self.stack.push(Pending::Tested { blocks, context })?;
+        hold(&mut self.stack, Pending::Tested { blocks, context })?;
         self.in_place(program, &shared, test)
     }
 
     /// A turn of a loop whose test has no statements.
-    #[tactic(auto, using(crate::proofs::Begun::turn_empty))]
     fn empty_turn(
         &mut self,
         program: &Program<'p>,
@@ -98,7 +97,7 @@ impl<'p> Machine<'p> {
         ensures ticks { IfOk result (λ n. self.new.store.ticks ≤ self.old.store.ticks) }
     {
         let none = Ids::new(self.store.alloc);
-        let _inner = self.store.open(
+        self.store.open(
             context,
             program.names(),
             &none,
@@ -121,42 +120,26 @@ impl<'p> Machine<'p> {
         ensures rest { IfOk result (λ n. (i : ImageOf Name) → rest i program.now.names self.new n ≡ goes_on_with i program.now.names self.old (does_send acts i (evaluates i) context.value (tree_at program.now.names receiver.now) (name_at program.now.names selector) (trees_at program.now.names arguments.now) (shape_of (name_at program.now.names selector) (tree_at program.now.names receiver.now) (trees_at program.now.names arguments.now)))) }
         ensures ticks { IfOk result (λ n. self.new.store.ticks ≤ self.old.store.ticks) }
     {
-        let shared = Rc::clone(&context)?;
         match shape_in(program, selector, receiver, arguments) {
             Shape::TwoWays { yes, no } => {
-                self.stack.push(Pending::Branch {
+                let pending = Pending::Branch {
                     yes,
                     no,
-                    context: shared,
-                })?;
-                Ok(Next::Evaluate(receiver, context))
+                    context: Rc::clone(&context)?,
+                };
+                self.wait(pending, receiver, context)
             }
             Shape::Loops(blocks) => self.turn(program, blocks, context),
             Shape::Message => {
-                self.stack.push(Pending::Receiver {
+                let pending = Pending::Receiver {
                     node: receiver,
                     selector,
                     arguments,
-                    context: shared,
-                })?;
-                Ok(Next::Evaluate(receiver, context))
+                    context: Rc::clone(&context)?,
+                };
+                self.wait(pending, receiver, context)
             }
         }
-    }
-
-    /// Begins an assignment, a cascade or a return: the node is evaluated first for which the frame waits.
-    #[tactic(auto, using(crate::proofs::Plug::plug_push))]
-    fn wait(
-        &mut self,
-        pending: Pending<'p>,
-        node: &'p Node,
-        context: Rc<Context>,
-    ) -> Result<Next<'p>, Memory>
-        ensures rest { IfOk result (λ n. (i : ImageOf Name) (names : List Name) → rest i names self.new n ≡ goes_on_with i names self.old (λ s. resumed i names pending.entry (evaluates i (at_node context.value (tree_at names node.now)) s))) }
-        ensures ticks { IfOk result (λ n. self.new.store.ticks ≤ self.old.store.ticks) }
-    {
-        self.stack.push(pending)?;
-        Ok(Next::Evaluate(node, context))
     }
 
     /// Begins a node whose tick was taken.

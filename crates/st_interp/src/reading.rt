@@ -142,9 +142,9 @@ fn assign_meaning(
     context: &Context,
     name: SharedText,
     value: Value,
-    meaning: Meaning,
+    meaning: &Meaning,
 ) -> Result<Ending, Memory>
-    ensures ended { IfOk result (λ e. (names : List Name) → ended e (store_of names store.new) ≡ assigns_meaning acts context.now name value (meaning_from meaning) (store_of names store.old)) }
+    ensures ended { IfOk result (λ e. (names : List Name) → ended e (store_of names store.new) ≡ assigns_meaning acts context.now name value (meaning_from meaning.now) (store_of names store.old)) }
     ensures ticks { IfOk result (λ e. store.new.ticks ≡ store.old.ticks) }
 {
     match meaning {
@@ -157,7 +157,7 @@ fn assign_meaning(
             Ok(Ending::Value(value))
         }
         Meaning::Shared { definer } => {
-            store.set_shared_variable(&definer, &name, value.share()?)?;
+            store.set_shared_variable(definer, &name, value.share()?)?;
             Ok(Ending::Value(value))
         }
         Meaning::Class { name: _ } => Ok(failed(RunErrorKind::NotAssignable { name })),
@@ -186,7 +186,7 @@ pub(crate) fn assign(
         Some(binding) => assign_binding(store, binding, text, value),
         None => {
             let meaning = program.meaning(context, name)?;
-            assign_meaning(store, context, text, value, meaning)
+            assign_meaning(store, context, text, value, &meaning)
         }
     }
 }

@@ -4,7 +4,7 @@ ghost use Rattle.image_model.specs.Image.{ImageOf};
 ghost use Rattle.class_table.specs.View.{image_of};
 ghost use Rattle.run_model.specs.Values.{Name};
 ghost use Rattle.run_model.specs.Store.{fine, leaves};
-ghost use Rattle.run_model.specs.Acts.{acts};
+ghost use Rattle.run_model.specs.Acts.{acts, out_of_home};
 ghost use Rattle.run_model.specs.Eval.{messages as does_messages, takes, chooses, evaluates};
 ghost use Rattle.st_meaning.specs.StoreView.{store_of};
 ghost use Rattle.st_interp.specs.Trees.{messages_at};
@@ -12,7 +12,7 @@ ghost use Rattle.st_interp.specs.Shapes.{branch_from};
 ghost use Rattle.st_interp.specs.Booleans.{boolean_of};
 ghost use Rattle.st_interp.specs.Machine.{exit_of, completes, returned, tested as does_tested, resume as resumed, plug, goes_on_with, rest, pending_load, load, machine_load};
 
-use crate::machine::{after, fails};
+use crate::machine::{after, fails, hold};
 use crate::reading::assign;
 use crate::state::{Branch, Ending, Exit, Loop, Machine, Next, Pending, Purpose};
 use rb_base::Memory;
@@ -34,7 +34,7 @@ fn boolean(value: &Value) -> Option<bool>
 
 impl<'p> Machine<'p> {
     /// Evaluates the trees that are left, and does what their values are wanted for.
-    #[tactic(auto, using(crate::proofs::Values::argument_next, crate::proofs::Values::arguments_none, crate::proofs::Plug::load_push))]
+    #[tactic(auto, using(crate::proofs::Values::arguments_none))]
     pub fn arguments(
         &mut self,
         program: &Program<'p>,
@@ -51,13 +51,13 @@ impl<'p> Machine<'p> {
             None => self.complete(program, purpose, done, &context),
             Some((first, left)) => {
                 let shared = Rc::clone(&context)?;
-                self.stack.push(Pending::Arguments {
+                let pending = Pending::Arguments {
                     purpose,
                     done,
                     left,
                     context: shared,
-                })?;
-                Ok(Next::Evaluate(first, context))
+                };
+                self.wait(pending, first, context)
             }
         }
     }
@@ -79,13 +79,12 @@ impl<'p> Machine<'p> {
         match left.split_first() {
             None => Ok(Next::Give(value)),
             Some((message, left)) => {
-                let shared = Rc::clone(&context)?;
-                let again = receiver.share()?;
-                self.stack.push(Pending::Cascaded {
-                    receiver: again,
+                let pending = Pending::Cascaded {
+                    receiver: receiver.share()?,
                     left,
-                    context: shared,
-                })?;
+                    context: Rc::clone(&context)?,
+                };
+                hold(&mut self.stack, pending)?;
                 let purpose = Purpose::Message {
                     receiver,
                     selector: message.selector,
@@ -167,7 +166,7 @@ impl<'p> Machine<'p> {
         }
         let body = blocks.body;
         let shared = Rc::clone(&context)?;
-        self.stack.push(Pending::Turned { blocks, context })?;
+        hold(&mut self.stack, Pending::Turned { blocks, context })?;
         self.in_place(program, &shared, body)
     }
 
@@ -252,16 +251,13 @@ impl<'p> Machine<'p> {
         }
     }
 
-    /// Passes an exit on.
+    /// Passes an exit on out of a home, which a return to it or past it ends.
     #[tactic(auto, using(crate::proofs::Exits::exit_home, crate::proofs::Exits::exit_passed))]
-    pub fn unwind(&mut self, pending: Pending<'p>, exit: Exit) -> Next<'p>
-        ensures rest { (i : ImageOf Name) (names : List Name) → rest i names self.new result ≡ goes_on_with i names self.old (λ s. resumed i names pending.entry (leaves (exit_of exit) s)) }
-        ensures load { load self.new result < machine_load self.old + pending_load pending.entry + 4 }
+    fn leave_home(&mut self, home: usize, exit: Exit) -> Next<'p>
+        ensures rest { (i : ImageOf Name) (names : List Name) → rest i names self.new result ≡ goes_on_with i names self.old (λ s. out_of_home home (leaves (exit_of exit) s)) }
+        ensures load { load self.new result ≤ machine_load self.old + 4 }
         ensures ticks { self.new.store.ticks ≤ self.old.store.ticks }
     {
-        let Pending::Home { home } = pending else {
-            return Next::Leave(exit);
-        };
         match exit {
             Exit::Back { home: to, value } => {
                 self.store.end_home(home);
@@ -272,6 +268,18 @@ impl<'p> Machine<'p> {
                 }
             }
             other => Next::Leave(other),
+        }
+    }
+
+    /// Passes an exit on.
+    pub fn unwind(&mut self, pending: &Pending<'p>, exit: Exit) -> Next<'p>
+        ensures rest { (i : ImageOf Name) (names : List Name) → rest i names self.new result ≡ goes_on_with i names self.old (λ s. resumed i names pending.now (leaves (exit_of exit) s)) }
+        ensures load { load self.new result < machine_load self.old + pending_load pending.now + 4 }
+        ensures ticks { self.new.store.ticks ≤ self.old.store.ticks }
+    {
+        match pending {
+            Pending::Home { home } => self.leave_home(*home, exit),
+            _ => Next::Leave(exit),
         }
     }
 }

@@ -1,5 +1,5 @@
 // All steps of a do-it.
-ghost use Rattle.std.specs.Prelude.{◌≡◌, ◌+◌, ◌<◌, ◌≤◌, [], List, IfOk};
+ghost use Rattle.std.specs.Prelude.{◌≡◌, ◌+◌, ◌<◌, ◌≤◌, List, IfOk};
 ghost use Rattle.image_model.specs.Image.{ImageOf};
 ghost use Rattle.class_table.specs.View.{image_of};
 ghost use Rattle.run_model.specs.Values.{Name};
@@ -8,12 +8,11 @@ ghost use Rattle.st_meaning.specs.StoreView.{store_of};
 ghost use Rattle.st_interp.specs.Trees.{sequence_at};
 ghost use Rattle.st_interp.specs.Machine.{IsAtNode, exit_of, ended, runs_doit, goes_on_with, rest, load, machine_load};
 
-use crate::state::{Ending, Exit, Machine, Next, Pending};
+use crate::state::{Ending, Exit, Machine, Next};
 use rb_base::Memory;
-use st_meaning::{Context, SharedText, Value};
+use st_meaning::{SharedText, Value};
 use st_program::Program;
 use st_tree::Sequence;
-use std::rc::Rc;
 
 impl<'p> Machine<'p> {
     /// Gives a value to the innermost that waits.
@@ -37,7 +36,7 @@ impl<'p> Machine<'p> {
         ensures ticks { self.new.store.ticks ≤ self.old.store.ticks }
     {
         match self.stack.pop() {
-            Some(pending) => self.unwind(pending, exit),
+            Some(pending) => self.unwind(&pending, exit),
             None => Next::Over(Ending::Exit(exit)),
         }
     }
@@ -79,25 +78,7 @@ impl<'p> Machine<'p> {
         }
     }
 
-    /// Begins a do-it.
-    fn start(
-        &mut self,
-        program: &Program<'p>,
-        class: Option<SharedText>,
-        body: &'p Sequence,
-    ) -> Result<Next<'p>, Memory>
-        ensures { IfOk result (λ n. (i : ImageOf Name) → rest i program.now.names self.new n ≡ goes_on_with i program.now.names self.old (runs_doit i class (sequence_at program.now.names body.now))) }
-    {
-        let alloc = self.store.alloc;
-        let home = self.store.new_home()?;
-        self.stack.push(Pending::Home { home })?;
-        let outermost = Context::outermost(alloc, class, false, Value::nil(), home);
-        let context = Rc::new(alloc, outermost)?;
-        self.in_place(program, &context, body)
-    }
-
     /// Runs a do-it; what waited before is dropped.
-    #[tactic(auto, using(crate::proofs::Plug::plug_empty))]
     pub fn run_doit(
         &mut self,
         program: &Program<'p>,
@@ -107,7 +88,8 @@ impl<'p> Machine<'p> {
         ensures { IfOk result (λ e. ended e (store_of program.now.names self.new.store) ≡ runs_doit (image_of program.now) class (sequence_at program.now.names body.now) (store_of program.now.names self.old.store)) }
     {
         self.stack = Vec::new(self.store.alloc);
-        let next = self.start(program, class, body)?;
+        let context = self.open_home(class, false, Value::nil())?;
+        let next = self.in_place(program, &context, body)?;
         self.finish(program, next)
     }
 }

@@ -10,5 +10,5 @@ returns-clause-rest c =
     let names = c.args.program.now.names in
     let m = entry_from names c.args.found in
     IfOk-weaker c.sequence.result _ _
-    (λ n h i. h i ∙ activated i names c.args.self.now.stack.items _ _ m c.args.receiver _ c.args.arguments.now c.in_ok-home.home _ m.tree.arguments m.tree.body (store_of names c.args.self.now.store) _ c.in_ok-push.ensures.items c.in_ok-push-2.ensures.items c.in_ok-value.ensures c.in_ok-home.ensures.number (c.in_ok-home.ensures.store names) (c.in_ok-context.ensures.ok ∙ c.outermost-outermost.ensures) refl refl)
+    (λ n h i. h i ∙ activated i names c.args.self.now.stack.items _ _ m c.args.receiver _ c.args.arguments.now _ _ m.tree.arguments m.tree.body (store_of names c.args.self.now.store) _ c.in_ok-context.ensures.stack c.in_ok-hold.ensures c.in_ok-value.ensures refl (c.in_ok-context.ensures.store names) c.in_ok-context.ensures.context refl refl)
     c.sequence.ensures.rest

@@ -10,5 +10,5 @@ returns-clause-rest c =
     let i = image_of c.args.program.now in
     let names = c.args.program.now.names in
     IfOk-weaker c.arguments.result _ _
-    (λ n h. h ∙ message_next i names c.args.self.now.stack.items _ c.args.receiver _ c.args.value c.in-Some.message.now c.args.left.now c.in-Some.left _ c.args.context.value _ _ (store_of names c.args.self.now.store) c.in_ok-push-in-Some.ensures.items c.in-Some.ensures.cases.0 c.in_ok-again-in-Some.ensures c.in_ok-shared-in-Some.ensures.cases c.new-done.ensures c.as_slice.ensures)
+    (λ n h. h ∙ message_next i names c.args.self.now.stack.items _ c.args.receiver _ c.args.value c.in-Some.message.now c.args.left.now c.in-Some.left _ c.args.context.value _ _ (store_of names c.args.self.now.store) c.in_ok-hold-in-Some.ensures c.in-Some.ensures.cases.0 c.in_ok-share-in-Some.ensures c.in_ok-clone-in-Some.ensures.cases c.new-done.ensures c.as_slice.ensures)
     c.arguments.ensures.rest
