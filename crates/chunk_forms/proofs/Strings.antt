@@ -54,6 +54,46 @@ four xs n i s p a b d e =
     ∙ ap (λ ys. String i.text ∷ ys) (string_is i.others s d
     ∙ ap (λ ys. String s.text ∷ ys) (string_is s.others p e)))
 
+-- where the first argument is no symbol, there is no definition
+pub no_name : (xs : List Argument) → None ≡ symbol_first xs → None ≡ strings_first xs
+no_name [] e = refl
+no_name (Symbol t ∷ xs) e = absurd (cc)
+no_name (String t ∷ xs) e = refl
+no_name (Numeral t ∷ xs) e = refl
+no_name (Other ∷ xs) e = refl
+
+-- no string behind the symbol, behind one string and behind two
+missing_instance : (n : List ℕ) (xs : List Argument) → None ≡ string_first xs → strings_first (Symbol n ∷ xs) ≡ None
+missing_instance n [] e = refl
+missing_instance n (Symbol t ∷ xs) e = refl
+missing_instance n (String t ∷ xs) e = absurd (cc)
+missing_instance n (Numeral t ∷ xs) e = refl
+missing_instance n (Other ∷ xs) e = refl
+
+missing_shared : (n i : List ℕ) (xs : List Argument) → None ≡ string_first xs → strings_first (Symbol n ∷ String i ∷ xs) ≡ None
+missing_shared n i [] e = refl
+missing_shared n i (Symbol t ∷ xs) e = refl
+missing_shared n i (String t ∷ xs) e = absurd (cc)
+missing_shared n i (Numeral t ∷ xs) e = refl
+missing_shared n i (Other ∷ xs) e = refl
+
+missing_pools : (n i s : List ℕ) (xs : List Argument) → None ≡ string_first xs → strings_first (Symbol n ∷ String i ∷ String s ∷ xs) ≡ None
+missing_pools n i s [] e = refl
+missing_pools n i s (Symbol t ∷ xs) e = refl
+missing_pools n i s (String t ∷ xs) e = absurd (cc)
+missing_pools n i s (Numeral t ∷ xs) e = refl
+missing_pools n i s (Other ∷ xs) e = refl
+
+pub no_instance : (xs : List Argument) (n : FirstOf) → Some n ≡ symbol_first xs → None ≡ string_first n.others → None ≡ strings_first xs
+no_instance xs n a h = sym (ap strings_first (symbol_is xs n a) ∙ missing_instance n.text n.others h)
+
+pub no_shared : (xs : List Argument) (n i : FirstOf) → Some n ≡ symbol_first xs → Some i ≡ string_first n.others → None ≡ string_first i.others → None ≡ strings_first xs
+no_shared xs n i a b h = sym (ap strings_first (symbol_is xs n a ∙ ap (λ ys. Symbol n.text ∷ ys) (string_is n.others i b)) ∙ missing_shared n.text i.text i.others h)
+
+pub no_pools : (xs : List Argument) (n i s : FirstOf) → Some n ≡ symbol_first xs → Some i ≡ string_first n.others → Some s ≡ string_first i.others → None ≡ string_first s.others → None ≡ strings_first xs
+no_pools xs n i s a b d h =
+    sym (ap strings_first (symbol_is xs n a ∙ ap (λ ys. Symbol n.text ∷ ys) (string_is n.others i b ∙ ap (λ ys. String i.text ∷ ys) (string_is i.others s d))) ∙ missing_pools n.text i.text s.text s.others h)
+
 -- no fifth string
 missing : (n i s p : List ℕ) (xs : List Argument) → None ≡ string_first xs → strings_first (Symbol n ∷ String i ∷ String s ∷ String p ∷ xs) ≡ None
 missing n i s p [] e = refl

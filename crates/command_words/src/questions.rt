@@ -5,7 +5,7 @@ ghost use Rattle.command_words.specs.Questions.{kind_of, kind_shown, variable_qu
 use crate::spelling::is_identifier;
 
 /// The kinds of variables that a class defines.
-#[derive(Clone, Copy, Debug, PartialEq, Eq)]
+#[derive(Clone, Copy)]
 pub enum VariableKind {
     /// Those that each instance has: `inst`.
     Instance,

@@ -7,7 +7,7 @@ use st_faults::ParseFault;
 use thiserror::Error;
 
 /// Why a chunk of a file-out is refused.
-#[derive(Clone, Copy, Debug, PartialEq, Eq, Error)]
+#[derive(Clone, Copy, Debug, Error)]
 pub enum ImageCause {
     /// A definition names a superclass that is no class, or a class that is removed has subclasses.
     #[error("the superclass is unknown, or the class has subclasses")]
@@ -43,7 +43,7 @@ pub enum ImageCause {
 }
 
 /// Why a file-out was not read.
-#[derive(Clone, Copy, Debug, PartialEq, Eq, Error)]
+#[derive(Clone, Copy, Debug, Error)]
 pub enum ImageFault {
     /// The chunk of this number, from 1, is the first that is refused. `at` is an offset in bytes from 0: for `Syntax` in
     /// the source of the chunk, for `Unended` in the file, and 0 for any other cause.

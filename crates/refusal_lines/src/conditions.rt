@@ -14,10 +14,10 @@ use rb_base::{Memory, Names, Text};
 
 /// Appends the number of a condition that only commands have which change code, its name and its arguments, each behind a
 /// blank; of any other condition nothing.
-fn push_code_condition(condition: &Condition, names: &Names, out: &mut Text) -> Result<(), Memory>
-    ensures { OnOk result (out.new ≡ out.old ++ pieces_behind (codes " ") (code_words (map_condition (name_at names.now) (condition_of condition.now)))) }
+fn push_code_condition(condition: Condition, names: &Names, out: &mut Text) -> Result<(), Memory>
+    ensures { OnOk result (out.new ≡ out.old ++ pieces_behind (codes " ") (code_words (map_condition (name_at names.now) (condition_of condition)))) }
 {
-    match *condition {
+    match condition {
         Condition::ParameterUnused { selector, argument } => {
             push_counted(b"C20", b"ParameterUnused", selector, argument, names, out)
         }
@@ -57,13 +57,13 @@ fn push_code_condition(condition: &Condition, names: &Names, out: &mut Text) -> 
 
 /// The same of any condition.
 pub(crate) fn push_condition(
-    condition: &Condition,
+    condition: Condition,
     names: &Names,
     out: &mut Text,
 ) -> Result<(), Memory>
-    ensures { OnOk result (out.new ≡ out.old ++ pieces_behind (codes " ") (condition_words (map_condition (name_at names.now) (condition_of condition.now)))) }
+    ensures { OnOk result (out.new ≡ out.old ++ pieces_behind (codes " ") (condition_words (map_condition (name_at names.now) (condition_of condition)))) }
 {
-    match *condition {
+    match condition {
         Condition::NoReflection => push_title(b"C1", b"NoReflection", out),
         Condition::IsUserClass { class } => push_named(b"C2", b"IsUserClass", class, names, out),
         Condition::GoodName { name, .. } => push_named(b"C3", b"GoodName", name, names, out),

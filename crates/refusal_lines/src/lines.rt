@@ -25,7 +25,7 @@ pub fn push_refusal(
 {
     out.push_slice(b"refused ")?;
     push_number(number, out)?;
-    push_condition(condition, names, out)?;
+    push_condition(*condition, names, out)?;
     out.push_slice(b"\n")
 }
 

@@ -5,15 +5,14 @@ use Rattle.std.proofs.lemmas.Bool.{ltb-true}
 use Rattle.token_model.specs.declared.kind.Dialect.TheVariants.{Second}
 use Rattle.tree_model.specs.Tree.{MethodOf, map_method}
 use Rattle.grammar_model.specs.Spelling.{SpellsMethod}
-use Rattle.rb_base.specs.Names.{text_eq, name_at}
+use Rattle.rb_base.specs.Names.{name_at}
 use Rattle.event_trees.specs.Naming.{Grows}
 use Rattle.command_model.specs.Commands.{AddMethod}
 use Rattle.session_model.specs.Scripts.{Request}
-use Rattle.script_model.specs.Words.{add_method}
 use Rattle.script_model.specs.Makers.{Text, single}
 use Rattle.script_model.specs.Commands.{Cause, TooMany}
-use Rattle.script_model.specs.Additions.{first_word, behind_word, Addition, addition_of, AddsMethod, Spelled}
-use Rattle.script_model.specs.Scripts.{LineSays, InText, IsWrong}
+use Rattle.script_model.specs.Additions.{Addition, addition_of, AddsMethod, Spelled}
+use Rattle.script_model.specs.Scripts.{LineSays, IsWrong}
 use Rattle.script_lang.proofs.Growing.{name_at-grown}
 
 -- a method that a text spells, over a table of names that grew
@@ -23,10 +22,6 @@ pub added : {one later : List Text} {t : Text} (a : Addition) (class : ℕ) (pro
 added {one} {later} a class protocol source m is g known named p s spells =
     let class_is : name_at later class ≡ a.class = name_at-grown g class known ∙ named in
     Spelled a (map_method (name_at later) m) is spells (λ i. let r : Result Request Cause = Ok (single (AddMethod (class_is i) a.meta (p i) (s i) (map_method (name_at later) m))) in r)
-
--- a line of `addMethod` says what is said by what stands behind its first word
-pub in-text : (line word rest : Text) (test : Bool) (answer : Result Request Cause) → word ≡ first_word line → rest ≡ behind_word line → test ≡ text_eq word add_method → test ≡ true → AddsMethod rest answer → LineSays line answer
-in-text line word rest test answer first behind tests is says = InText (ap (λ (w : Text). text_eq w add_method) (sym first) ∙ sym tests ∙ is) (subst (λ (t : Text). AddsMethod t answer) behind says)
 
 -- the cause that a fault tells
 pub told-cause : (line n : ℕ) (told cause : Cause) (P : Cause → Type 0) → P told → (let one : Option (ℕ × Cause) = Some (line, told) in let other : Option (ℕ × Cause) = Some (n, cause) in one ≡ other) → (n ≡ line) × P cause

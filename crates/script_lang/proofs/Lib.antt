@@ -1,4 +1,5 @@
 mod AddedMethods
+mod FirstWords
 pub mod Growing
 mod Identifiers
 mod MethodWords

@@ -13,6 +13,7 @@ use Rattle.session_model.specs.Actions.{ActionOf, Single, ExtractSuperclass}
 use Rattle.session_model.specs.Scripts.{Request}
 use Rattle.command_model.specs.Commands.{AddClass, RemoveClass}
 use Rattle.commands.specs.Actions.{map_action, ActionNames}
+use Rattle.command_numbers.specs.CommandNames.{CommandNames}
 use Rattle.command_numbers.specs.MappedCommands.{map_command}
 use Rattle.name_meanings.specs.declared.meaning.VariableKind.TheVariants as kind
 use Rattle.script_model.specs.Arguments.{Place, a_class, a_variable, a_selector, a_side, a_number, Argument, name, in_front, arguments_of}
@@ -198,6 +199,12 @@ accessor-known : (P : ℕ → Type 0) (v : AccessorVerb) (c x setter parameter :
 accessor-known P accessor.Create c x setter parameter p q r s = (p, q, r, s)
 accessor-known P accessor.Abstract c x setter parameter p q r s = (p, q, r, s)
 
+triple-known : (P : ℕ → Type 0) (v : TripleVerb) (c x y : ℕ) → P c → P x → P y → CommandNames P (triple_command v c x y)
+triple-known P (triple.RenameVariable kind.Instance) c x y p q r = (p, q, r)
+triple-known P (triple.RenameVariable kind.ClassSide) c x y p q r = (p, q, r)
+triple-known P (triple.RenameVariable kind.Shared) c x y p q r = (p, q, r)
+triple-known P triple.SharedDown c x y p q r = (p, q, r)
+
 -- two items, three, and two in front of others
 pub two-items : {X : Type 0} (xs : List X) (a b : X) → length xs ≡ 2 → a ≡ get_or xs 0 a → b ≡ get_or xs 1 b → xs ≡ a ∷ b ∷ []
 two-items [] a b h p q = absurd (omega (arith, h))
@@ -268,6 +275,11 @@ module _ {names : List Text} {ids : List ℕ} {ws : List Text} (a : AreNames nam
       named (verb.Triple v) 3 false (triple-asked v) a
       ∙ ap (λ (ns : List ℕ). made (of_three (λ b z u. Perform (Single (triple_command v b z u)))) (fitting 3 false (map (name_at names) ns))) e
       ∙ ap (λ (s : CommandOf Text). let t : Result Request Cause = Ok (Perform (Single s)) in t) (triple-mapped (name_at names) v c x y ∙ ap (map_command (name_at names)) (sym is))
+
+  pub triple-names_known : (v : TripleVerb) (c x y : ℕ) → ids ≡ c ∷ x ∷ y ∷ [] → (r : CommandOf ℕ) → r ≡ triple_command v c x y → CommandNames known r
+  triple-names_known v c x y e r is =
+      let all = subst (AllByRecursion known) e a.known in
+      subst (CommandNames known) (sym is) (triple-known known v c x y all.0 all.1.0 all.1.1.0)
 
   -- a new class
   names-back : (ts : List Text) → names_in (map name ts) ≡ Some ts

@@ -2,7 +2,7 @@
 use Rattle.std.proofs.Common.{◌≡◌, ℕ, ◌<◌, Bool, true, false, if◌then◌else◌, List, [], ◌∷◌, length, Option, Some, None, Result, Ok, Err, get_or, refl, sym, ap, subst, ◌∙◌, arith}
 use Rattle.std.specs.Option.{option_map, option_map_or}
 use Rattle.token_model.specs.declared.kind.Dialect.TheVariants.{Second}
-use Rattle.rb_base.specs.Names.{text_eq, name_at}
+use Rattle.rb_base.specs.Names.{name_at}
 use Rattle.rb_base.specs.declared.text.Span.{Span}
 use Rattle.tree_model.specs.Tree.{LiteralOf, SequenceOf, map_literal, map_names, map_statements}
 use Rattle.st_tree.specs.declared.tree.Statement.{Statement}
@@ -20,9 +20,6 @@ use Rattle.session_model.specs.Scripts.{Request}
 use Rattle.script_model.specs.Makers.{Text, single}
 use Rattle.script_model.specs.Commands.{Cause, BadArgument}
 use Rattle.script_model.specs.Parameters.{Parameter, parameter_of, literal_of, only_literal, is_alone, stands_alone, literal_in, passing, AddsParameter, Read, Unreadable}
-use Rattle.script_model.specs.Words.{add_parameter}
-use Rattle.script_model.specs.Additions.{first_word, behind_word}
-use Rattle.script_model.specs.Scripts.{LineSays, InLiteral}
 use Rattle.script_lang.specs.Passing as other
 use Rattle.script_lang.specs.Passing.{IsNoLiteral}
 use Rattle.script_lang.proofs.Growing.{name_at-grown}
@@ -78,10 +75,6 @@ module _ {t : Text} (p : Parameter) (is : parameter_of t ≡ Some p) where
       let second : name_at later u ≡ p.to = name_at-grown (Grows-twice h j) u there ∙ b in
       let third : name_at later x ≡ p.name = name_at-grown j x here ∙ c in
       subst (AddsParameter t) (λ i. let r : Result Request Cause = Ok (single (AddParameter (sym first i) (sym second i) (sym third i) (map_literal (name_at later) l))) in r) (passes-literal (map_literal (name_at later) l) found)
-
--- a line of `addParameter` says what is said by what stands behind its first word
-pub in-literal : (line word rest : Text) (test : Bool) (answer : Result Request Cause) → word ≡ first_word line → rest ≡ behind_word line → test ≡ text_eq word add_parameter → test ≡ true → AddsParameter rest answer → LineSays line answer
-in-literal line word rest test answer first behind tests is says = InLiteral (ap (λ (w : Text). text_eq w add_parameter) (sym first) ∙ sym tests ∙ is) (subst (λ (t : Text). AddsParameter t answer) behind says)
 
 -- a statement alone, and statements that are not one
 pub one-statement : (f : ℕ → Text) (ss : List Statement) (a : Statement) → length ss ≡ 1 → a ≡ get_or ss 0 a → literal_of (map_names f a.node) ≡ only_literal (map_statements f (statements_of ss))

@@ -1,5 +1,5 @@
 -- Lines that are read one by one.
-use Rattle.std.proofs.Common.{◌≡◌, ℕ, ◌+◌, ◌<◌, Bool, true, false, not, List, [], ◌∷◌, ◌++◌, length, take, drop, get_or, Option, Some, None, Ok, sym, ap, subst, ◌∙◌, arith, length-append}
+use Rattle.std.proofs.Common.{◌≡◌, ℕ, ◌+◌, ◌<◌, Bool, true, false, not, List, [], ◌∷◌, ◌++◌, length, take, drop, get_or, Ok, sym, ap, subst, ◌∙◌, arith, length-append}
 use Rattle.std.specs.Prelude.{cond}
 use Rattle.std.specs.Borrow.{Bor}
 use Rattle.std.proofs.lemmas.List.{map-append, length-map, append-nil, take-append-drop, take_more, drop_more, length-take-le}
@@ -94,23 +94,20 @@ module _ {names : List Text} {cs : List Request} {before : List Text} (read : Ha
 taken : (ls : List (Bor Text)) (i : ℕ) (d : Bor Text) → i < length ls → texts (take (i + 1) ls) ≡ texts (take i ls) ++ (get_or ls i d).now ∷ []
 taken ls i d lt = ap texts (take_more ls i d lt) ∙ map-append (λ (w : Bor Text). w.now) (take i ls) (get_or ls i d ∷ [])
 
-module _ {names : List Text} {cs : List Request} (ls : List (Bor Text)) (i : ℕ) (d : Bor Text) (read : HasRead names cs (texts (take i ls))) (lt : i < length ls) (later : List Text) (g : Grows names later) (count : ℕ) (counted : count ≡ length cs) where
+module _ {names : List Text} {cs : List Request} (ls : List (Bor Text)) (i : ℕ) (d : Bor Text) (read : HasRead names cs (texts (take i ls))) (lt : i < length ls) (later : List Text) (g : Grows names later) where
   -- behind the line of an index that says nothing
-  pub skipped-at : (o : Option Request) → HasAsked later (get_or ls i d).now count o → (new : List Request) → o ≡ None → new ≡ cs → HasRead later new (texts (take (i + 1) ls))
-  skipped-at o says new none same =
-      subst (HasRead later new) (sym (taken ls i d lt)) (read-skipped read (get_or ls i d).now later new g (subst (HasAsked later (get_or ls i d).now count) none says) same)
+  pub skipped-at : is_skipped (get_or ls i d).now ≡ true → (new : List Request) → new ≡ cs → HasRead later new (texts (take (i + 1) ls))
+  skipped-at says new same = subst (HasRead later new) (sym (taken ls i d lt)) (read-skipped read (get_or ls i d).now later new g says same)
 
   -- behind one that asks for something
-  pub read-at : (o : Option Request) → HasAsked later (get_or ls i d).now count o → (r : Request) (new : List Request) → o ≡ Some r → new ≡ cs ++ r ∷ [] → HasRead later new (texts (take (i + 1) ls))
-  read-at o says r new some more =
-      let h = subst (HasAsked later (get_or ls i d).now count) some says in
-      subst (HasRead later new) (sym (taken ls i d lt)) (read-more read (get_or ls i d).now later r new g h.0 h.1 h.2 (omega (arith, h.3, counted)) more)
+  pub read-at : is_skipped (get_or ls i d).now ≡ false → (new : List Request) → HasAsked later (get_or ls i d).now cs new → HasRead later new (texts (take (i + 1) ls))
+  read-at says new asks = subst (HasRead later new) (sym (taken ls i d lt)) (read-more read (get_or ls i d).now later asks.request new g says asks.says asks.known asks.room asks.added)
 
 -- the line of an index is wrong
 pub wrong-at : {names : List Text} {cs : List Request} (ls : List (Bor Text)) (i : ℕ) (d : Bor Text) → HasRead names cs (texts (take i ls)) → i < length ls
-    → (text : Text) (n : ℕ) (cause : script.Cause) → lines_of text ≡ texts ls → n ≡ i + 1 → is_skipped (get_or ls i d).now ≡ false → (count : ℕ) → count ≡ length cs → IsWrong (get_or ls i d).now count cause → IsRefused text n cause
-wrong-at ls i d read lt text n cause same number h count counted wrong =
+    → (text : Text) (n : ℕ) (cause : script.Cause) → lines_of text ≡ texts ls → n ≡ i + 1 → is_skipped (get_or ls i d).now ≡ false → IsWrong (get_or ls i d).now (length cs) cause → IsRefused text n cause
+wrong-at ls i d read lt text n cause same number h wrong =
     let cut : texts ls ≡ texts (take i ls) ++ (get_or ls i d).now ∷ texts (drop (i + 1) ls) =
     ap texts (sym (take-append-drop i ls) ∙ ap (λ (ws : List (Bor Text)). take i ls ++ ws) (drop_more ls i d lt)) ∙ map-append (λ (w : Bor Text). w.now) (take i ls) (get_or ls i d ∷ drop (i + 1) ls) in
     let numbered : n ≡ length (texts (take i ls)) + 1 = omega (arith, number, length-map (take i ls) (λ (w : Bor Text). w.now), length-take-le i ls (omega (arith, lt))) in
-    read-wrong read (get_or ls i d).now text (texts (drop (i + 1) ls)) n cause (same ∙ cut) numbered h (subst (λ (k : ℕ). IsWrong (get_or ls i d).now k cause) counted wrong)
+    read-wrong read (get_or ls i d).now text (texts (drop (i + 1) ls)) n cause (same ∙ cut) numbered h wrong

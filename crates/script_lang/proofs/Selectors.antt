@@ -17,13 +17,8 @@ use Rattle.script_lang.specs.Shown.{asked, texts}
 use Rattle.script_lang.proofs.Growing.{name_at-grown}
 use Rattle.script_lang.proofs.Named.{made}
 
--- no words, where there are some
-pub no-words : (ws : List (Bor Text)) → (length ws == 0) ≡ false → arguments_of (takes []) (texts ws) ≡ None
-no-words [] h = absurd (true≢false h)
-no-words (w ∷ ws) h = refl
-
 -- nothing is in front of nothing
-nothing : {X : Type 0} (o : Option X) → in_front o None ≡ None
+pub nothing : {X : Type 0} (o : Option X) → in_front o None ≡ None
 nothing None = refl
 nothing (Some x) = refl
 
@@ -37,6 +32,15 @@ other-words (p ∷ ps) (w ∷ ws) h = ap (in_front (argument p w)) (other-words 
 pub other-count : (v : Verb) {m : Maker} (ps : List Place) (asks : (ws : List Text) → asked v ws ≡ made m (arguments_of (takes ps) ws)) (ws : List (Bor Text)) → (length ws ≡ length ps → ⊥) → asked v (texts ws) ≡ Err BadArgument
 other-count v {m} ps asks ws h =
     asks (texts ws) ∙ ap (made m) (other-words ps (texts ws) (λ e. h (sym (length-map ws (λ (w : Bor Text). w.now)) ∙ e)))
+
+-- words where there are to be none
+pub no-words-undo : (ws : List (Bor Text)) → (length ws == 0) ≡ false → asked verb.Undo (texts ws) ≡ Err BadArgument
+no-words-undo [] h = absurd (true≢false h)
+no-words-undo (w ∷ ws) h = refl
+
+pub no-words-redo : (ws : List (Bor Text)) → (length ws == 0) ≡ false → asked verb.Redo (texts ws) ≡ Err BadArgument
+no-words-redo [] h = absurd (true≢false h)
+no-words-redo (w ∷ ws) h = refl
 
 -- as many words as there are to be
 pub texts-two : (ws : List (Bor Text)) (d e : Bor Text) → length ws ≡ 2 → texts ws ≡ (get_or ws 0 d).now ∷ (get_or ws 1 e).now ∷ []
@@ -65,6 +69,19 @@ module _ (one later : List Text) (c : ℕ) (known : c < length one) (g : Grows o
       asked verb.RenameSelector (texts ws) ≡ Ok (single (RenameSelector (name_at later c) (name_at later t)))
   selector-said ws d e t h p q =
       ap (λ (ts : List Text). asked verb.RenameSelector ts) (texts-two ws d e h) ∙ (λ i. made (of_two (λ s u. single (RenameSelector s u))) (in_front ((p ∙ still one later c known g) i) (in_front (q i) (Some []))))
+
+abbrev renaming : Maker
+renaming = of_two (λ s t. single (RenameSelector s t))
+
+-- a word of it that is no selector
+pub renaming-of-none : (ws : List (Bor Text)) (d : Bor Text) → length ws ≡ 2 → argument a_selector (get_or ws 0 d).now ≡ None → asked verb.RenameSelector (texts ws) ≡ Err BadArgument
+renaming-of-none ws d h p =
+    ap (λ (ts : List Text). asked verb.RenameSelector ts) (texts-two ws d d h) ∙ ap (λ (o : Option Argument). made renaming (in_front o (in_front (argument a_selector (get_or ws 1 d).now) (Some [])))) p
+
+pub renaming-to-none : (ws : List (Bor Text)) (d : Bor Text) → length ws ≡ 2 → argument a_selector (get_or ws 1 d).now ≡ None → asked verb.RenameSelector (texts ws) ≡ Err BadArgument
+renaming-to-none ws d h p =
+    let first : Option Argument = argument a_selector (get_or ws 0 d).now in
+    ap (λ (ts : List Text). asked verb.RenameSelector ts) (texts-two ws d d h) ∙ ap (λ (o : Option Argument). made renaming (in_front first (in_front o (Some [])))) p ∙ ap (made renaming) (nothing first)
 
 -- a parameter that goes
 abbrev removal : Maker
@@ -97,3 +114,14 @@ module _ (ws : List (Bor Text)) (d e f : Bor Text) (h : length ws ≡ 3) where
 
 pub number-missing : (ws : List (Bor Text)) (e : Bor Text) → length ws ≡ 3 → number_of (get_or ws 1 e).now ≡ None → asked verb.RemoveParameter (texts ws) ≡ Err BadArgument
 number-missing ws e h p = no-number ws e e e h p
+
+-- a word of it that is no selector
+pub removal-of-none : (ws : List (Bor Text)) (d : Bor Text) → length ws ≡ 3 → argument a_selector (get_or ws 0 d).now ≡ None → asked verb.RemoveParameter (texts ws) ≡ Err BadArgument
+removal-of-none ws d h p = removal-words ws d d d h ∙ ap (λ (o : Option Argument). made removal (in_front o (in_front (second ws d d d h) (in_front (third ws d d d h) (Some []))))) p
+
+pub removal-to-none : (ws : List (Bor Text)) (d : Bor Text) → length ws ≡ 3 → argument a_selector (get_or ws 2 d).now ≡ None → asked verb.RemoveParameter (texts ws) ≡ Err BadArgument
+removal-to-none ws d h p =
+    removal-words ws d d d h
+    ∙ ap (λ (o : Option Argument). made removal (in_front (first ws d d d h) (in_front (second ws d d d h) (in_front o (Some []))))) p
+    ∙ ap (λ (o : Option (List Argument)). made removal (in_front (first ws d d d h) o)) (nothing (second ws d d d h))
+    ∙ ap (made removal) (nothing (first ws d d d h))

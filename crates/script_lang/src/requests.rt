@@ -1,7 +1,6 @@
 // What the words behind that of a command ask for.
-ghost use Rattle.std.specs.Prelude.{◌≡◌, Some, None, Ok, Err, IfOk, IfErr, OnErr, []};
+ghost use Rattle.std.specs.Prelude.{◌≡◌, Ok, Err, IfOk, IfErr};
 ghost use Rattle.event_trees.specs.Naming.{Grows};
-ghost use Rattle.script_model.specs.Arguments as script;
 ghost use Rattle.script_model.specs.Commands.{BadArgument};
 ghost use Rattle.commands.specs.Views.{action_of, command_of, request_in, IsKnownRequest};
 ghost use Rattle.script_lang.specs.declared.words.Wrong.TheVariants as wrong;
@@ -335,18 +334,6 @@ fn inline_temporary(words: &[&[u8]], names: &mut Names) -> Result<Request, Wrong
     Ok(Request::Perform(Action::Single(Command::MoveCode(moved))))
 }
 
-/// A request that takes no words.
-fn without_words(words: &[&[u8]], request: Request) -> Result<Request, Wrong>
-    ensures said { IfOk result (λ r. (r ≡ request) × (script.arguments_of (script.takes []) (texts words.now) ≡ Some [])) }
-    ensures wrong { OnErr result (script.arguments_of (script.takes []) (texts words.now) ≡ None) }
-{
-    if words.is_empty() {
-        Ok(request)
-    } else {
-        Err(Wrong::Argument)
-    }
-}
-
 /// What a command asks for with the words behind its own one.
 pub(crate) fn request_of(
     alloc: Global,
@@ -372,7 +359,8 @@ pub(crate) fn request_of(
         Verb::Extract(verb) => extract(verb, words, names),
         Verb::InlineMethod => inline_method(words, names),
         Verb::InlineTemporary => inline_temporary(words, names),
-        Verb::Undo => without_words(words, Request::Undo),
-        Verb::Redo => without_words(words, Request::Redo),
+        Verb::Undo if words.is_empty() => Ok(Request::Undo),
+        Verb::Redo if words.is_empty() => Ok(Request::Redo),
+        Verb::Undo | Verb::Redo => Err(Wrong::Argument),
     }
 }

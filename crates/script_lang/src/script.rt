@@ -1,22 +1,20 @@
 // The reader of scripts.
-ghost use Rattle.std.specs.Prelude.{◌≡◌, ◌∷◌, ◌++◌, [], ℕ, List, false, Some, Ok, Err, IfOk, IfErr, OnOk};
+ghost use Rattle.std.specs.Prelude.{◌≡◌, ◌∷◌, ◌++◌, [], ℕ, List, length, Some, Ok, Err, IfOk, IfErr, OnOk};
 ghost use Rattle.event_trees.specs.Naming.{Grows};
-ghost use Rattle.script_model.specs.Lines.{is_skipped, lines_of};
+ghost use Rattle.script_model.specs.Lines.{lines_of};
 ghost use Rattle.script_model.specs.Commands as script;
-ghost use Rattle.script_model.specs.Scripts.{said, LineSays, IsWrong, Say, Says, IsRefused};
-ghost use Rattle.script_model.specs.Additions.{AddsMethod};
-ghost use Rattle.script_model.specs.Parameters.{AddsParameter};
+ghost use Rattle.script_model.specs.Scripts.{IsWrong, Say, Says, IsRefused};
 ghost use Rattle.commands.specs.Views.{request_in, IsKnownRequest};
-ghost use Rattle.script_lang.specs.Shown.{asked, requests_in, AreKnown, texts, fault_shown};
-ghost use Rattle.script_lang.specs.Read.{HasAsked};
+ghost use Rattle.script_lang.specs.declared.words.Wrong.TheVariants as wrong;
+ghost use Rattle.script_lang.specs.Shown.{requests_in, AreKnown, texts, fault_shown};
+ghost use Rattle.script_lang.specs.Read.{Asks, HasAsked};
 
 use crate::additions::{add_method, split_word};
-use crate::bytes::same_text;
 use crate::fault::ScriptFault;
 use crate::lines::{is_skipped, lines_of, words_of};
 use crate::parameters::add_parameter;
 use crate::requests::request_of;
-use crate::verb::{Verb, is_to_come, verb_of};
+use crate::verb::{LineVerb, is_to_come, line_verb};
 use crate::words::Wrong;
 use commands::Request;
 use rb_base::{Memory, Names};
@@ -24,26 +22,6 @@ use std::alloc::Global;
 
 /// The most commands of a script.
 const COMMAND_LIMIT: usize = 10000;
-
-/// What the command of a line asks for with the words behind its own one.
-fn said_by_verb(
-    alloc: Global,
-    command: Verb,
-    words: &[&[u8]],
-    line: usize,
-    names: &mut Names,
-) -> Result<Request, ScriptFault>
-    ensures said { IfOk result (λ r. asked command (texts words.now) ≡ Ok (request_in names.new r)) }
-    ensures known { IfOk result (λ r. IsKnownRequest names.new r) }
-    ensures fault { IfErr result (λ f. (n : ℕ) (cause : script.Cause) → fault_shown f ≡ Some (n, cause) → (n ≡ line) × (asked command (texts words.now) ≡ Err cause)) }
-    ensures grows { Grows names.old names.new }
-{
-    match request_of(alloc, command, words, names) {
-        Ok(request) => Ok(request),
-        Err(Wrong::Argument) => Err(ScriptFault::BadArgument { line }),
-        Err(Wrong::Memory) => Err(ScriptFault::Memory),
-    }
-}
 
 /// Why a word is none of a command that is performed.
 fn no_command(word: &[u8], line: usize) -> ScriptFault
@@ -56,108 +34,26 @@ fn no_command(word: &[u8], line: usize) -> ScriptFault
     }
 }
 
-/// What the line of a number asks for, a line of words.
-fn words_request(
+/// What a command asks for with the text behind its word.
+fn request_behind(
     alloc: Global,
+    command: LineVerb,
     text: &[u8],
-    line: usize,
     names: &mut Names,
-) -> Result<Request, ScriptFault>
-    ensures said { IfOk result (λ r. said text.now ≡ Ok (request_in names.new r)) }
+) -> Result<Request, Wrong>
+    ensures said { IfOk result (λ r. Asks command text.now (Ok (request_in names.new r))) }
     ensures known { IfOk result (λ r. IsKnownRequest names.new r) }
-    ensures fault { IfErr result (λ f. (n : ℕ) (cause : script.Cause) → fault_shown f ≡ Some (n, cause) → (n ≡ line) × (said text.now ≡ Err cause)) }
+    ensures wrong { IfErr result (λ e. e ≡ wrong.Argument → Asks command text.now (Err script.BadArgument)) }
     ensures grows { Grows names.old names.new }
 {
-    let words = words_of(alloc, text)?;
-    let Some((word, rest)) = words.as_slice().split_first() else {
-        return Err(ScriptFault::UnknownCommand { line });
-    };
-    match verb_of(word) {
-        Some(command) => said_by_verb(alloc, command, rest, line, names),
-        None => Err(no_command(word, line)),
+    match command {
+        LineVerb::AddMethod => add_method(alloc, text, names),
+        LineVerb::AddParameter => add_parameter(alloc, text, names),
+        LineVerb::Words(verb) => {
+            let words = words_of(alloc, text)?;
+            request_of(alloc, verb, words.as_slice(), names)
+        }
     }
-}
-
-/// What the line of a number asks for, one of `addMethod`, with the text behind the word.
-fn said_by_text(
-    alloc: Global,
-    text: &[u8],
-    line: usize,
-    names: &mut Names,
-) -> Result<Request, ScriptFault>
-    ensures said { IfOk result (λ r. AddsMethod text.now (Ok (request_in names.new r))) }
-    ensures known { IfOk result (λ r. IsKnownRequest names.new r) }
-    ensures fault { IfErr result (λ f. (n : ℕ) (cause : script.Cause) → fault_shown f ≡ Some (n, cause) → (n ≡ line) × AddsMethod text.now (Err cause)) }
-    ensures grows { Grows names.old names.new }
-{
-    match add_method(alloc, text, names) {
-        Ok(request) => Ok(request),
-        Err(Wrong::Argument) => Err(ScriptFault::BadArgument { line }),
-        Err(Wrong::Memory) => Err(ScriptFault::Memory),
-    }
-}
-
-/// What the line of a number asks for, one of `addParameter`, with the text behind the word.
-fn said_by_literal(
-    alloc: Global,
-    text: &[u8],
-    line: usize,
-    names: &mut Names,
-) -> Result<Request, ScriptFault>
-    ensures said { IfOk result (λ r. AddsParameter text.now (Ok (request_in names.new r))) }
-    ensures known { IfOk result (λ r. IsKnownRequest names.new r) }
-    ensures fault { IfErr result (λ f. (n : ℕ) (cause : script.Cause) → fault_shown f ≡ Some (n, cause) → (n ≡ line) × AddsParameter text.now (Err cause)) }
-    ensures grows { Grows names.old names.new }
-{
-    match add_parameter(alloc, text, names) {
-        Ok(request) => Ok(request),
-        Err(Wrong::Argument) => Err(ScriptFault::BadArgument { line }),
-        Err(Wrong::Memory) => Err(ScriptFault::Memory),
-    }
-}
-
-/// What the line of a number asks for.
-fn line_request(
-    alloc: Global,
-    text: &[u8],
-    line: usize,
-    names: &mut Names,
-) -> Result<Request, ScriptFault>
-    ensures said { IfOk result (λ r. LineSays text.now (Ok (request_in names.new r))) }
-    ensures known { IfOk result (λ r. IsKnownRequest names.new r) }
-    ensures fault { IfErr result (λ f. (n : ℕ) (cause : script.Cause) → fault_shown f ≡ Some (n, cause) → (n ≡ line) × LineSays text.now (Err cause)) }
-    ensures grows { Grows names.old names.new }
-{
-    let (word, rest) = split_word(text);
-    if same_text(word, b"addMethod") {
-        said_by_text(alloc, rest, line, names)
-    } else if same_text(word, b"addParameter") {
-        said_by_literal(alloc, rest, line, names)
-    } else {
-        words_request(alloc, text, line, names)
-    }
-}
-
-/// What the line of a number asks for behind so many commands; nothing, where it is one that says nothing.
-fn read_line(
-    alloc: Global,
-    text: &[u8],
-    line: usize,
-    count: usize,
-    names: &mut Names,
-) -> Result<Option<Request>, ScriptFault>
-    ensures ok { IfOk result (λ request. HasAsked names.new text.now count request) }
-    ensures fault { IfErr result (λ f. (n : ℕ) (cause : script.Cause) → fault_shown f ≡ Some (n, cause) → (n ≡ line) × (is_skipped text.now ≡ false) × IsWrong text.now count cause) }
-    ensures grows { Grows names.old names.new }
-{
-    if is_skipped(text) {
-        return Ok(None);
-    }
-    let request = line_request(alloc, text, line, names)?;
-    if count >= COMMAND_LIMIT {
-        return Err(ScriptFault::TooMany { line });
-    }
-    Ok(Some(request))
 }
 
 /// Puts a request behind others.
@@ -165,6 +61,33 @@ fn push(requests: &mut Vec<Request>, request: Request) -> Result<(), Memory>
     ensures { OnOk result (requests.new.items ≡ requests.old.items ++ request ∷ []) }
 {
     requests.push(request)?;
+    Ok(())
+}
+
+/// Reads the line of a number, and puts what it asks for behind what the lines before it ask for.
+fn read_line(
+    alloc: Global,
+    text: &[u8],
+    line: usize,
+    requests: &mut Vec<Request>,
+    names: &mut Names,
+) -> Result<(), ScriptFault>
+    ensures ok { OnOk result (HasAsked names.new text.now requests.old.items requests.new.items) }
+    ensures fault { IfErr result (λ f. (n : ℕ) (cause : script.Cause) → fault_shown f ≡ Some (n, cause) → (n ≡ line) × IsWrong text.now (length requests.old.items) cause) }
+    ensures grows { Grows names.old names.new }
+{
+    let (word, rest) = split_word(text);
+    let Some(command) = line_verb(word) else {
+        return Err(no_command(word, line));
+    };
+    match request_behind(alloc, command, rest, names) {
+        Ok(request) => push(requests, request)?,
+        Err(Wrong::Argument) => return Err(ScriptFault::BadArgument { line }),
+        Err(Wrong::Memory) => return Err(ScriptFault::Memory),
+    }
+    if requests.len() > COMMAND_LIMIT {
+        return Err(ScriptFault::TooMany { line });
+    }
     Ok(())
 }
 
@@ -183,9 +106,8 @@ fn read_lines(
     let mut number = 0;
     for line in lines {
         number += 1;
-        match read_line(alloc, line, number, requests.len(), names)? {
-            Some(request) => push(&mut requests, request)?,
-            None => {}
+        if !is_skipped(line) {
+            read_line(alloc, line, number, &mut requests, names)?;
         }
     }
     Ok(requests)

@@ -4,9 +4,21 @@ ghost use Rattle.std.specs.List.{list_any};
 ghost use Rattle.rb_base.specs.Names.{text_eq};
 ghost use Rattle.script_model.specs.Commands.{words_to_come, no_command, said_by};
 ghost use Rattle.script_lang.specs.Shown.{word_of, FindsVerb};
+ghost use Rattle.script_lang.specs.Read.{BeginsWith, BeginsWithNone};
 
 use crate::bytes::same_text;
 use name_meanings::VariableKind;
+
+/// A command by what stands behind its word.
+#[derive(Clone, Copy)]
+pub(crate) enum LineVerb {
+    /// The text of a method.
+    AddMethod,
+    /// The text of a literal.
+    AddParameter,
+    /// Words.
+    Words(Verb),
+}
 
 /// A command by its word alone, sorted by what stands behind the word. `addMethod` and `addParameter` are none of these,
 /// since a text stands behind them.
@@ -171,11 +183,28 @@ fn find_verb(word: &[u8], rows: &[(&[u8], Verb)]) -> Option<Verb>
 }
 
 /// The command that is performed and has the word.
-pub(crate) fn verb_of(word: &[u8]) -> Option<Verb>
+fn verb_of(word: &[u8]) -> Option<Verb>
     ensures some { IfSome result (λ verb. word.now ≡ word_of verb) }
     ensures none { IfNone result ((ws : List (List ℕ)) → said_by (word.now ∷ ws) ≡ Err (no_command word.now)) }
 {
     find_verb(word, &VERBS)
+}
+
+/// The command that a line begins with.
+pub(crate) fn line_verb(word: &[u8]) -> Option<LineVerb>
+    ensures some { IfSome result (λ verb. BeginsWith verb word.now) }
+    ensures none { IfNone result (BeginsWithNone word.now) }
+{
+    if same_text(word, b"addMethod") {
+        Some(LineVerb::AddMethod)
+    } else if same_text(word, b"addParameter") {
+        Some(LineVerb::AddParameter)
+    } else {
+        match verb_of(word) {
+            Some(verb) => Some(LineVerb::Words(verb)),
+            None => None,
+        }
+    }
 }
 
 /// Whether the word is that of a command which is still to come.

@@ -26,10 +26,10 @@ pub returns-in-LacksVariable : goal.returns-in-LacksVariable
 returns-in-LacksVariable c = rw c.in-LacksVariable.is c.push_pair-in-LacksVariable.ensures
 
 pub returns-in_default : goal.returns-in_default
-returns-in_default c = rw (by c.args.condition.now refl) c.push_code_condition.ensures
+returns-in_default c = rw (by c.args.condition refl) c.push_code_condition.ensures
   where
     -- the words of a condition that only commands have which change code
-    by : (x : Condition) → c.args.condition.now ≡ x → condition_words (map_condition (name_at c.args.names.now) (condition_of x)) ≡ code_words (map_condition (name_at c.args.names.now) (condition_of x))
+    by : (x : Condition) → c.args.condition ≡ x → condition_words (map_condition (name_at c.args.names.now) (condition_of x)) ≡ code_words (map_condition (name_at c.args.names.now) (condition_of x))
     by condition.NoReflection e = absurd (c.in_default.not-NoReflection e)
     by (condition.IsUserClass x) e = absurd (c.in_default.not-IsUserClass x e)
     by (condition.GoodName x y) e = absurd (c.in_default.not-GoodName x y e)

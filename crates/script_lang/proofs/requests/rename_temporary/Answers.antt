@@ -1,5 +1,8 @@
 use Rattle.std.proofs.Common.{arith}
-use Rattle.script_lang.proofs.MethodWords.{temporary-count, temporary-said}
+use Rattle.std.proofs.lemmas.Result.{err_from_is_err_and}
+use Rattle.script_lang.proofs.MethodWords.{temporary-count, temporary-in-none, temporary-of-none, temporary-to-none, temporary-said}
+use Rattle.event_trees.proofs.Known.{Grows-twice}
+use Rattle.script_lang.proofs.Growing.{number-grown}
 use Rattle.script_lang.proofs.requests.rename_temporary.Goals.{in_default-via-then-words-lt5, in_default-via-else-words-lt5+else-words-lt6}
 use Rattle.script_lang.proofs.requests.rename_temporary.Goals as goal
 
@@ -15,3 +18,27 @@ returns-clause-said c =
     temporary-said c.args.words.now _ _ _ _ _ (omega (arith, c.in-len5.len_at_least, c.in-len5.len_below)) c.method_name.new.names c.identifier.new.names c.identifier-2.new.names
     c.in_ok-method.method c.in_ok-variable.variable c.in_ok-to.to c.in_ok-variable.ensures.grows c.in_ok-to.ensures.grows c.in_ok-method.ensures.known c.in_ok-variable.ensures.known c.in_ok-method.ensures.said
     c.in_ok-variable.ensures.said c.in_ok-to.ensures.said
+
+pub returns-in_err-method-clause-wrong : goal.returns-in_err-method-clause-wrong
+returns-in_err-method-clause-wrong c =
+    let p = err_from_is_err_and c.from_residual.result c.from_residual.ensures.1 in
+    rw (p.1, p.2) (λ e. temporary-in-none c.args.words.now _ _ _ (omega (arith, c.in-len5.len_at_least, c.in-len5.len_below)) (c.in_err-method.ensures.wrong e))
+
+pub returns-in_err-variable-clause-wrong : goal.returns-in_err-variable-clause-wrong
+returns-in_err-variable-clause-wrong c =
+    let p = err_from_is_err_and c.from_residual-in_err-variable.result c.from_residual-in_err-variable.ensures.1 in
+    rw (p.1, p.2) (λ e. temporary-of-none c.args.words.now _ (omega (arith, c.in-len5.len_at_least, c.in-len5.len_below)) (c.in_err-variable.ensures.wrong e))
+
+pub returns-in_err-to-clause-wrong : goal.returns-in_err-to-clause-wrong
+returns-in_err-to-clause-wrong c =
+    let p = err_from_is_err_and c.from_residual-in_err-to.result c.from_residual-in_err-to.ensures.1 in
+    rw (p.1, p.2) (λ e. temporary-to-none c.args.words.now _ (omega (arith, c.in-len5.len_at_least, c.in-len5.len_below)) (c.in_err-to.ensures.wrong e))
+
+pub returns-clause-known : goal.returns-clause-known
+returns-clause-known c =
+    let twice = Grows-twice c.in_ok-variable.ensures.grows c.in_ok-to.ensures.grows in (
+      number-grown twice c.in_ok-method.method.class c.in_ok-method.ensures.known.0,
+      number-grown twice c.in_ok-method.method.selector c.in_ok-method.ensures.known.1,
+      number-grown c.in_ok-to.ensures.grows c.in_ok-variable.variable c.in_ok-variable.ensures.known,
+      c.in_ok-to.ensures.known,
+    )

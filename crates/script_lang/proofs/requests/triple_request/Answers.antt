@@ -3,7 +3,7 @@ use Rattle.std.proofs.lemmas.Result.{err_from_is_err_and}
 use Rattle.script_lang.specs.declared.verb.Verb.TheVariants as verb
 use Rattle.script_lang.specs.Shown.{texts}
 use Rattle.commands.specs.Views.{command_of}
-use Rattle.script_lang.proofs.Named.{triple-asked, unspelled, miscounted, three-items, triple-said}
+use Rattle.script_lang.proofs.Named.{triple-asked, unspelled, miscounted, three-items, triple-said, triple-names_known}
 use Rattle.script_lang.proofs.requests.triple_request.Goals.{in_default-via-then-as_slice-lt3, in_default-via-else-as_slice-lt3+else-this-lt4}
 use Rattle.script_lang.proofs.requests.triple_request.Goals as goal
 
@@ -22,4 +22,9 @@ returns-in_default-clause-wrong c = λ _.
 pub returns-clause-said : goal.returns-clause-said
 returns-clause-said c =
     triple-said c.in_ok-ids.ensures.said c.args.verb c.class-item.result c.variable-item.result c.to-item.result
+    (sym c.as_slice.ensures ∙ three-items c.as_slice.result.now c.class-item.result c.variable-item.result c.to-item.result (omega (arith, c.in-len3.len_at_least, c.in-len3.len_below)) c.class-item.is c.variable-item.is c.to-item.is) (command_of c.triple_command-command.result) c.triple_command-command.ensures
+
+pub returns-clause-known : goal.returns-clause-known
+returns-clause-known c =
+    triple-names_known c.in_ok-ids.ensures.said c.args.verb c.class-item.result c.variable-item.result c.to-item.result
     (sym c.as_slice.ensures ∙ three-items c.as_slice.result.now c.class-item.result c.variable-item.result c.to-item.result (omega (arith, c.in-len3.len_at_least, c.in-len3.len_below)) c.class-item.is c.variable-item.is c.to-item.is) (command_of c.triple_command-command.result) c.triple_command-command.ensures

@@ -1,22 +1,33 @@
-use Rattle.std.proofs.Common.{sym, refl, ◌∙◌, Err}
-use Rattle.std.proofs.lemmas.Result.{err_from_is_err_and}
-use Rattle.script_model.specs.Commands.{TooMany}
+use Rattle.std.proofs.Common.{◌∷◌, [], length-append, sym, ap, ◌∙◌, arith}
+use Rattle.std.specs.Prelude.{length}
+use Rattle.script_model.specs.Commands.{BadArgument, TooMany, no_command}
 use Rattle.script_model.specs.Scripts.{IsWrong}
 use Rattle.script_lang.proofs.AddedMethods.{told-cause, no-room}
+use Rattle.script_lang.proofs.FirstWords.{says-in, wrong-in, unknown-in}
 use Rattle.script_lang.proofs.script.read_line.Goals as goal
 
-pub returns-in_err-request-clause-fault : goal.returns-in_err-request-clause-fault
-returns-in_err-request-clause-fault c =
-    let p = err_from_is_err_and c.from_residual.result c.from_residual.ensures.1 in
-    rw (p.1, p.2) (λ n cause e.
-    let h = c.in_err-request.ensures.fault n cause e in
-    (h.0, sym c.is_skipped.ensures ∙ c.if-is_skipped.false, record { answer = Err cause; says = h.1; wrong = refl }))
+pub returns-in_default-clause-fault : goal.returns-in_default-clause-fault
+returns-in_default-clause-fault c = λ n cause e.
+    told-cause c.args.line n (no_command c.split_word.result.0.now) cause (IsWrong c.args.text.now (length c.args.requests.now.items))
+    (unknown-in c.args.text.now c.split_word.result.0.now c.split_word.ensures.word _ c.in_default.ensures.none) (sym c.no_command.ensures ∙ e)
 
-pub returns-then-count-ge-COMMAND_LIMIT-clause-fault : goal.returns-then-count-ge-COMMAND_LIMIT-clause-fault
-returns-then-count-ge-COMMAND_LIMIT-clause-fault c = λ n cause e.
-    let skips = sym c.is_skipped.ensures ∙ c.if-is_skipped.false in
-    let h = told-cause c.args.line n TooMany cause (IsWrong c.args.text.now c.args.count) (no-room c.args.text.now c.args.count _ c.in_ok-request.ensures.said c.if-count-ge-COMMAND_LIMIT.true) e in
-    (h.0, skips, h.1)
+pub returns-in-Err-Argument-clause-fault : goal.returns-in-Err-Argument-clause-fault
+returns-in-Err-Argument-clause-fault c = λ n cause e.
+    told-cause c.args.line n BadArgument cause (IsWrong c.args.text.now (length c.args.requests.now.items))
+    (wrong-in c.args.text.now c.split_word.result.0.now c.split_word.ensures.word _ c.split_word.result.1.now c.in-Some.command c.split_word.ensures.rest c.in-Some.ensures.some (c.in-Err-Argument.ensures.wrong c.in-Err-Argument.field-0-is)) e
+
+pub returns-then-len-gt-COMMAND_LIMIT-clause-fault : goal.returns-then-len-gt-COMMAND_LIMIT-clause-fault
+returns-then-len-gt-COMMAND_LIMIT-clause-fault c = λ n cause e.
+    told-cause c.args.line n TooMany cause (IsWrong c.args.text.now (length c.args.requests.now.items))
+    (no-room c.args.text.now (length c.args.requests.now.items) _
+    (says-in c.args.text.now c.split_word.result.0.now c.split_word.ensures.word c.split_word.result.1.now c.in-Some.command _ c.split_word.ensures.rest c.in-Some.ensures.some c.in-Ok.ensures.said)
+    (omega (arith, c.if-len-gt-COMMAND_LIMIT.true, c.len.ensures, c.push.new.requests.ok.0, ap length c.in_ok-push-in-Ok.ensures, length-append c.args.requests.now.items (c.in-Ok.request ∷ [])))) e
 
 pub returns-clause-ok : goal.returns-clause-ok
-returns-clause-ok c = (sym c.is_skipped.ensures ∙ c.if-is_skipped.false, c.in_ok-request.ensures.said, c.in_ok-request.ensures.known, c.if-count-ge-COMMAND_LIMIT.false)
+returns-clause-ok c = record {
+  request = c.in-Ok.request;
+  says = says-in c.args.text.now c.split_word.result.0.now c.split_word.ensures.word c.split_word.result.1.now c.in-Some.command _ c.split_word.ensures.rest c.in-Some.ensures.some c.in-Ok.ensures.said;
+  known = c.in-Ok.ensures.known;
+  room = omega (arith, c.if-len-gt-COMMAND_LIMIT.false, c.len.ensures, c.push.new.requests.ok.0, ap length c.in_ok-push-in-Ok.ensures, length-append c.args.requests.now.items (c.in-Ok.request ∷ []));
+  added = c.in_ok-push-in-Ok.ensures;
+}
