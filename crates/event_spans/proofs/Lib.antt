@@ -4,6 +4,7 @@ pub mod Descended
 pub mod InOrder
 pub mod Induction
 pub mod Members
+mod Passed
 pub mod PartTold
 pub mod RootsPassed
 pub mod RunsTold

@@ -1,8 +1,9 @@
-// The last items of a list.
-ghost use Rattle.std.specs.Prelude.{◌≡◌, IfOk, OnOk, option_to_list};
+// The last items of a list, and items that come.
+ghost use Rattle.std.specs.Prelude.{◌≡◌, ◌++◌, ◌∷◌, [], IfOk, OnOk, option_to_list};
 ghost use Rattle.event_trees.specs.Stacks.{front, last};
 
 use rb_base::Memory;
+use std::alloc::Global;
 
 /// Takes the last items off, or all where there are fewer.
 #[inline]
@@ -24,4 +25,21 @@ pub fn take_one<T>(items: &mut Vec<T>) -> Option<T>
     ensures taken { last 1 items.old.items ≡ option_to_list result }
 {
     items.pop()
+}
+
+/// Appends an item; on want of memory it is dropped.
+#[inline]
+pub fn put<T: Drop>(items: &mut Vec<T>, item: T) -> Result<(), Memory>
+    ensures { OnOk result (items.new.items ≡ items.old.items ++ item ∷ []) }
+{
+    items.push(item)?;
+    Ok(())
+}
+
+/// Puts a value behind a pointer; on want of memory it is dropped.
+#[inline]
+pub fn boxed<T: Drop>(alloc: Global, value: T) -> Result<Box<T>, Memory>
+    ensures { IfOk result (λ boxed. boxed.value ≡ value) }
+{
+    Ok(Box::new(alloc, value)?)
 }

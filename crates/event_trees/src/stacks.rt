@@ -5,7 +5,7 @@ ghost use Rattle.st_tree.specs.LiteralView.{literal_of};
 ghost use Rattle.event_trees.specs.Stacks.{nothing, with_node, with_literal, with_array, with_operand, with_send, with_message, with_cascade, with_target, with_value, with_scope, with_block, with_brace, with_return, with_statement};
 ghost use Rattle.event_trees.specs.Held.{held};
 
-use crate::last::{take_last, take_one};
+use crate::last::{boxed, put, take_last, take_one};
 use rb_base::{Ids, Memory, NameId};
 use st_tree::{
     Comments, Literal, LiteralKind, Literals, Message, Messages, Node, NodeKind, Nodes, Sequence,
@@ -56,10 +56,12 @@ impl Stacks {
     pub fn variable(&mut self, name: NameId) -> Result<(), Memory>
         ensures { OnOk result (held self.new ≡ with_node (held self.old) (var name)) }
     {
-        self.nodes.push(Node {
-            kind: NodeKind::Var { name },
-        })?;
-        Ok(())
+        put(
+            &mut self.nodes,
+            Node {
+                kind: NodeKind::Var { name },
+            },
+        )
     }
 
     /// One more literal.
@@ -67,8 +69,7 @@ impl Stacks {
     pub fn literal(&mut self, kind: LiteralKind) -> Result<(), Memory>
         ensures { OnOk result (held self.new ≡ with_literal (held self.old) (literal_of kind)) }
     {
-        self.literals.push(Literal { kind })?;
-        Ok(())
+        put(&mut self.literals, Literal { kind })
     }
 
     /// `nil`, `true` or `false` in an array is one more literal.
@@ -84,10 +85,7 @@ impl Stacks {
         ensures { OnOk result (held self.new ≡ with_array array (held self.old) count) }
     {
         let items = Literals::from_vec(take_last(&mut self.literals, count)?);
-        self.literals.push(Literal {
-            kind: LiteralKind::Array { items },
-        })?;
-        Ok(())
+        self.literal(LiteralKind::Array { items })
     }
 
     /// The last literals become a byte array.
@@ -95,10 +93,7 @@ impl Stacks {
         ensures { OnOk result (held self.new ≡ with_array bytes (held self.old) count) }
     {
         let items = Literals::from_vec(take_last(&mut self.literals, count)?);
-        self.literals.push(Literal {
-            kind: LiteralKind::Bytes { items },
-        })?;
-        Ok(())
+        self.literal(LiteralKind::Bytes { items })
     }
 
     /// The last literal becomes a node.
@@ -106,12 +101,15 @@ impl Stacks {
     pub fn operand(&mut self) -> Result<(), Memory>
         ensures { OnOk result (held self.new ≡ with_operand (held self.old)) }
     {
-        if let Some(value) = take_one(&mut self.literals) {
-            self.nodes.push(Node {
-                kind: NodeKind::Literal { value },
-            })?;
+        match take_one(&mut self.literals) {
+            Some(value) => put(
+                &mut self.nodes,
+                Node {
+                    kind: NodeKind::Literal { value },
+                },
+            ),
+            None => Ok(()),
         }
-        Ok(())
     }
 
     /// The last nodes are the arguments of a message to the one before them.
@@ -121,13 +119,17 @@ impl Stacks {
     {
         let arguments = Nodes::from_vec(take_last(&mut self.nodes, count)?);
         if let Some(receiver) = take_one(&mut self.nodes) {
-            self.nodes.push(Node {
-                kind: NodeKind::Send {
-                    receiver: Box::new(alloc, receiver)?,
-                    selector,
-                    arguments,
+            let receiver = boxed(alloc, receiver)?;
+            return put(
+                &mut self.nodes,
+                Node {
+                    kind: NodeKind::Send {
+                        receiver,
+                        selector,
+                        arguments,
+                    },
                 },
-            })?;
+            );
         }
         Ok(())
     }
@@ -138,11 +140,13 @@ impl Stacks {
         ensures { OnOk result (held self.new ≡ with_message (held self.old) selector count) }
     {
         let arguments = Nodes::from_vec(take_last(&mut self.nodes, count)?);
-        self.messages.push(Message {
-            selector,
-            arguments,
-        })?;
-        Ok(())
+        put(
+            &mut self.messages,
+            Message {
+                selector,
+                arguments,
+            },
+        )
     }
 
     /// The last messages go to the last node.
@@ -151,12 +155,13 @@ impl Stacks {
     {
         let messages = Messages::from_vec(take_last(&mut self.messages, count)?);
         if let Some(receiver) = take_one(&mut self.nodes) {
-            self.nodes.push(Node {
-                kind: NodeKind::Cascade {
-                    receiver: Box::new(alloc, receiver)?,
-                    messages,
+            let receiver = boxed(alloc, receiver)?;
+            return put(
+                &mut self.nodes,
+                Node {
+                    kind: NodeKind::Cascade { receiver, messages },
                 },
-            })?;
+            );
         }
         Ok(())
     }
@@ -166,8 +171,7 @@ impl Stacks {
     pub fn target(&mut self, name: NameId) -> Result<(), Memory>
         ensures { OnOk result (held self.new ≡ with_target (held self.old) name) }
     {
-        self.targets.push(name)?;
-        Ok(())
+        put(&mut self.targets, name)
     }
 
     /// The last node is the value of the last target.
@@ -176,15 +180,15 @@ impl Stacks {
         ensures { OnOk result (held self.new ≡ with_value (held self.old)) }
     {
         let target = take_one(&mut self.targets);
-        let value = take_one(&mut self.nodes);
-        if let Some(name) = target {
-            if let Some(value) = value {
-                self.nodes.push(Node {
-                    kind: NodeKind::Assign {
-                        name,
-                        value: Box::new(alloc, value)?,
+        if let Some(value) = take_one(&mut self.nodes) {
+            if let Some(name) = target {
+                let value = boxed(alloc, value)?;
+                return put(
+                    &mut self.nodes,
+                    Node {
+                        kind: NodeKind::Assign { name, value },
                     },
-                })?;
+                );
             }
         }
         Ok(())
@@ -194,11 +198,13 @@ impl Stacks {
     pub fn scope(&mut self, parameters: Ids, temporaries: Ids) -> Result<(), Memory>
         ensures { OnOk result (held self.new ≡ with_scope (held self.old) parameters temporaries) }
     {
-        self.scopes.push(Scope {
-            parameters,
-            temporaries,
-        })?;
-        Ok(())
+        put(
+            &mut self.scopes,
+            Scope {
+                parameters,
+                temporaries,
+            },
+        )
     }
 
     /// The last statements and the last declarations become a block.
@@ -216,12 +222,13 @@ impl Stacks {
                 statements,
                 tail,
             };
-            self.nodes.push(Node {
-                kind: NodeKind::Block {
-                    parameters,
-                    body: Box::new(alloc, body)?,
+            let body = boxed(alloc, body)?;
+            return put(
+                &mut self.nodes,
+                Node {
+                    kind: NodeKind::Block { parameters, body },
                 },
-            })?;
+            );
         }
         Ok(())
     }
@@ -231,10 +238,12 @@ impl Stacks {
         ensures { OnOk result (held self.new ≡ with_brace (held self.old) count) }
     {
         let items = Nodes::from_vec(take_last(&mut self.nodes, count)?);
-        self.nodes.push(Node {
-            kind: NodeKind::Brace { items },
-        })?;
-        Ok(())
+        put(
+            &mut self.nodes,
+            Node {
+                kind: NodeKind::Brace { items },
+            },
+        )
     }
 
     /// The last node is returned.
@@ -243,11 +252,13 @@ impl Stacks {
         ensures { OnOk result (held self.new ≡ with_return (held self.old)) }
     {
         if let Some(value) = take_one(&mut self.nodes) {
-            self.nodes.push(Node {
-                kind: NodeKind::Return {
-                    value: Box::new(alloc, value)?,
+            let value = boxed(alloc, value)?;
+            return put(
+                &mut self.nodes,
+                Node {
+                    kind: NodeKind::Return { value },
                 },
-            })?;
+            );
         }
         Ok(())
     }
@@ -257,9 +268,9 @@ impl Stacks {
     pub fn statement(&mut self, comments: Comments) -> Result<(), Memory>
         ensures { OnOk result (held self.new ≡ with_statement (held self.old) comments) }
     {
-        if let Some(node) = take_one(&mut self.nodes) {
-            self.statements.push(Statement { comments, node })?;
+        match take_one(&mut self.nodes) {
+            Some(node) => put(&mut self.statements, Statement { comments, node }),
+            None => Ok(()),
         }
-        Ok(())
     }
 }

@@ -189,13 +189,17 @@ closed (enclosure.Block f outer) n e r = record (emitted (event.Block f e n r.he
 abbrev pub begun : Enclosure → ℕ → ℕ → Reader → Reader
 begun w n f r = pushed (part.Sequence (sequence.BehindStatement f)) (pushed (part.Sequence (sequence.Statements w (n + 1))) r)
 
+-- behind the first token of a statement
+abbrev pub first_taken : Terminal → ℕ → ℕ → Reader → Reader
+first_taken Caret f e r = pushed (part.Expression expression.Whole) (pushed (part.Sequence (sequence.BehindReturn f)) r)
+first_taken (StatementMeta m) f e r = emitted (event.Var f e m) r
+first_taken k f e r = begin_expression k f e r
+
 -- behind a period or the first token of a statement, or behind the last statement
 abbrev pub statement_taken : Enclosure → ℕ → Terminal → ℕ → ℕ → Reader → Reader
 statement_taken w n Period f e r = pushed (part.Sequence (sequence.Statements w n)) r
-statement_taken w n Caret f e r = pushed (part.Expression expression.Whole) (pushed (part.Sequence (sequence.BehindReturn f)) (begun w n f r))
 statement_taken w n (Closes c) f e r = closed w n e r
-statement_taken w n (StatementMeta m) f e r = emitted (event.Var f e m) (begun w n f r)
-statement_taken w n k f e r = begin_expression k f e (begun w n f r)
+statement_taken w n k f e r = first_taken k f e (begun w n f r)
 
 -- behind a period or the first token of an expression of a brace array, or behind the last one
 abbrev pub item_taken : ℕ → ℕ → Terminal → ℕ → ℕ → Reader → Reader

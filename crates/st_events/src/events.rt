@@ -43,52 +43,56 @@ fn blank_head(alloc: Global) -> Head
     }
 }
 
-/// A reader before a text in which this part comes next.
-fn reader_before(alloc: Global, text: &[u8], part: SequencePart) -> Result<Reader, Memory>
-    ensures { IfOk result (λ reader. reader ≡ beginning_with (Part.Sequence part ∷ [])) }
+/// A reader before a text in which these parts come next.
+fn reader_before(alloc: Global, text: &[u8], stack: Stack) -> Result<Reader, Memory>
+    ensures { IfOk result (λ reader. reader ≡ beginning_with stack) }
 {
-    let mut stack = Stack::with_room(alloc, PARTS)?;
-    stack.push(Part::Sequence(part))?;
+    let events = Events::with_room(alloc, text.len() / BYTES_OF_EVENT)?;
     Ok(Reader {
         stack,
-        events: Events::with_room(alloc, text.len() / BYTES_OF_EVENT)?,
+        events,
         held: Comments::new(alloc),
         last: 0,
         head: blank_head(alloc),
     })
 }
 
-/// A reader before a do-it.
-fn doit_reader(alloc: Global, text: &[u8]) -> Result<Reader, Memory>
-    ensures { IfOk result (λ reader. reader ≡ doit_start) }
+/// The parts of a text, of which this one comes last.
+fn parts_up_to(alloc: Global, part: SequencePart) -> Result<Stack, Memory>
+    ensures { IfOk result (λ stack. stack ≡ Part.Sequence part ∷ []) }
 {
-    let mut reader = reader_before(
-        alloc,
-        text,
-        SequencePart::Statements {
-            enclosure: Enclosure::Text,
-            count: 0,
-        },
-    )?;
-    reader.push(Part::Head(HeadPart::DoitTemporaries))?;
-    Ok(reader)
+    let mut stack = Stack::with_room(alloc, PARTS)?;
+    stack.push(Part::Sequence(part))?;
+    Ok(stack)
 }
 
-/// A reader before a method.
-fn method_reader(alloc: Global, text: &[u8]) -> Result<Reader, Memory>
-    ensures { IfOk result (λ reader. reader ≡ method_start) }
+/// The statements of a text.
+fn statements() -> SequencePart
+    ensures { result ≡ SequencePart.Statements Enclosure.Text 0 }
 {
-    let mut reader = reader_before(
-        alloc,
-        text,
-        SequencePart::Statements {
-            enclosure: Enclosure::Text,
-            count: 0,
-        },
-    )?;
-    reader.push(Part::Head(HeadPart::MethodTemporaries))?;
-    reader.push(Part::Head(HeadPart::Pattern))?;
-    Ok(reader)
+    SequencePart::Statements {
+        enclosure: Enclosure::Text,
+        count: 0,
+    }
+}
+
+/// The parts of a do-it.
+fn doit_parts(alloc: Global) -> Result<Stack, Memory>
+    ensures { IfOk result (λ stack. beginning_with stack ≡ doit_start) }
+{
+    let mut stack = parts_up_to(alloc, statements())?;
+    stack.push(Part::Head(HeadPart::DoitTemporaries))?;
+    Ok(stack)
+}
+
+/// The parts of a method.
+fn method_parts(alloc: Global) -> Result<Stack, Memory>
+    ensures { IfOk result (λ stack. beginning_with stack ≡ method_start) }
+{
+    let mut stack = parts_up_to(alloc, statements())?;
+    stack.push(Part::Head(HeadPart::MethodTemporaries))?;
+    stack.push(Part::Head(HeadPart::Pattern))?;
+    Ok(stack)
 }
 
 /// Reads the tokens of a text of a form up to its end, or up to the first at which it has a fault, and tells whether it has none.
@@ -122,6 +126,27 @@ fn read_all(
             Sort::TextEnd => return Ok(true),
             _ => place = token.to,
         }
+    }
+}
+
+/// Reads a text of a form, in which these parts come next, up to its end. `None` where it has a fault.
+fn reader_behind(
+    alloc: Global,
+    form: TextForm,
+    text: &[u8],
+    judgement: Judgement,
+    stack: Stack,
+) -> Result<Option<Reader>, Memory>
+    ensures read { IfOk result (λ reader. IfSome reader (λ _. IsReadTo (form_of form) text.now 0 judgement → IsRead (form_of form) text.now)) }
+    ensures found { IfOk result (λ reader. IfSome reader (λ reader. (ts : List input.Lexeme) → IsLexedAs (form_of form) Second text.now ts → reader ≡ run (beginning_with stack) ts)) }
+    ensures fault { IfOk result (λ reader. IfNone reader (IsReadTo (form_of form) text.now 0 judgement → ¬ IsRead (form_of form) text.now)) }
+{
+    let mut judgement = judgement;
+    let mut reader = reader_before(alloc, text, stack)?;
+    if read_all(alloc, form, text, &mut judgement, &mut reader)? {
+        Ok(Some(reader))
+    } else {
+        Ok(None)
     }
 }
 
@@ -177,12 +202,12 @@ pub fn doit_events(alloc: Global, text: &[u8]) -> Result<Option<SequenceEvents>,
     ensures found { IfOk result (λ found. IfSome found (λ found. (ts : List input.Lexeme) (s : SpannedSequence) → IsLexed Second text.now ts → IsDoIt Longest ts s → found ≡ sequence_events s)) }
     ensures none { IfOk result (λ found. IfNone found (¬ IsRead DoIt text.now)) }
 {
-    let mut judgement = Judgement::of_doit(alloc)?;
-    let mut reader = doit_reader(alloc, text)?;
-    if !read_all(alloc, TextForm::DoIt, text, &mut judgement, &mut reader)? {
-        return Ok(None);
+    let stack = doit_parts(alloc)?;
+    let judgement = Judgement::of_doit(alloc)?;
+    match reader_behind(alloc, TextForm::DoIt, text, judgement, stack)? {
+        Some(reader) => Ok(Some(found_sequence(reader))),
+        None => Ok(None),
     }
-    Ok(Some(found_sequence(reader)))
 }
 
 /// What a method spells, of the kernel or not, in the order in which its tree is built, or `None` where the text has a
@@ -197,18 +222,12 @@ pub fn method_events(
     ensures found { IfOk result (λ found. IfSome found (λ found. (ts : List input.Lexeme) (m : SpannedMethod) → IsLexed Second text.now ts → IsMethod Longest kernel ts m → found ≡ method_events m)) }
     ensures none { IfOk result (λ found. IfNone found (¬ IsRead (Method kernel) text.now)) }
 {
-    let mut judgement = Judgement::of_method(alloc, kernel)?;
-    let mut reader = method_reader(alloc, text)?;
-    if !read_all(
-        alloc,
-        TextForm::Method(kernel),
-        text,
-        &mut judgement,
-        &mut reader,
-    )? {
-        return Ok(None);
+    let stack = method_parts(alloc)?;
+    let judgement = Judgement::of_method(alloc, kernel)?;
+    match reader_behind(alloc, TextForm::Method(kernel), text, judgement, stack)? {
+        Some(reader) => Ok(Some(found_method(reader))),
+        None => Ok(None),
     }
-    Ok(Some(found_method(reader)))
 }
 
 /// What a pattern spells, as a do-it of one statement in which metavariables stand as names and keywords with their
@@ -220,10 +239,10 @@ pub fn pattern_events(alloc: Global, text: &[u8]) -> Result<Option<SequenceEvent
     ensures found { IfOk result (λ found. IfSome found (λ found. (ts : List input.Lexeme) (t : SpannedTree) → IsPatternLexed Second text.now ts → IsPatternText Longest ts t → found ≡ sequence_events (alone ts t))) }
     ensures none { IfOk result (λ found. IfNone found (¬ IsRead PatternText text.now)) }
 {
-    let mut judgement = Judgement::of_pattern(alloc)?;
-    let mut reader = reader_before(alloc, text, SequencePart::Pattern)?;
-    if !read_all(alloc, TextForm::Pattern, text, &mut judgement, &mut reader)? {
-        return Ok(None);
+    let stack = parts_up_to(alloc, SequencePart::Pattern)?;
+    let judgement = Judgement::of_pattern(alloc)?;
+    match reader_behind(alloc, TextForm::Pattern, text, judgement, stack)? {
+        Some(reader) => Ok(Some(found_sequence(reader))),
+        None => Ok(None),
     }
-    Ok(Some(found_sequence(reader)))
 }

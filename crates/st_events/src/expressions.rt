@@ -21,17 +21,19 @@ impl Reader {
     {
         let from = place(token.from)?;
         match token.sort {
-            Sort::GroupStart => {
-                self.push(Part::Sequence(SequencePart::Mark))?;
-                self.push(Part::Expression(ExpressionPart::Whole))
-            }
+            Sort::GroupStart => self.push_two(
+                Part::Expression(ExpressionPart::Whole),
+                Part::Sequence(SequencePart::Mark),
+            ),
             Sort::BlockStart => {
                 let outer = BoxedComments::new(alloc, self.take_held(alloc))?;
-                self.push(Part::Sequence(SequencePart::Statements {
-                    enclosure: Enclosure::Block { from, outer },
-                    count: 0,
-                }))?;
-                self.push(Part::Block(BlockPart::Start))
+                self.push_two(
+                    Part::Block(BlockPart::Start),
+                    Part::Sequence(SequencePart::Statements {
+                        enclosure: Enclosure::Block { from, outer },
+                        count: 0,
+                    }),
+                )
             }
             Sort::BraceStart => self.push(Part::Sequence(SequencePart::Items { from, count: 0 })),
             _ => {
@@ -108,8 +110,10 @@ impl Reader {
         match token.sort {
             Sort::Assignment => {
                 self.emit(Event::Target { from, name })?;
-                self.push(Part::Expression(ExpressionPart::BehindValue { from }))?;
-                self.push(Part::Expression(ExpressionPart::Whole))
+                self.push_two(
+                    Part::Expression(ExpressionPart::Whole),
+                    Part::Expression(ExpressionPart::BehindValue { from }),
+                )
             }
             _ => {
                 self.emit(Event::Var { from, to, name })?;

@@ -1,7 +1,7 @@
 // What texts declare.
 ghost use Rattle.std.specs.Prelude.{◌≡◌, IfOk};
 ghost use Rattle.std.specs.Str.Parse.{digits_value};
-ghost use Rattle.st_events.specs.Steps.{head_taken};
+ghost use Rattle.st_events.specs.Steps.{head_taken, pushed};
 ghost use Rattle.st_events.specs.Tokens.{seen};
 
 use crate::numbers::number_of;
@@ -13,6 +13,16 @@ use st_faults::Sort;
 use std::alloc::Global;
 
 impl Reader {
+    /// The argument of a keyword comes next.
+    fn await_argument(&mut self) -> Result<(), Memory>
+        ensures { IfOk result (λ _. self.new ≡ pushed (Part.Head HeadPart.Argument) (pushed (Part.Head HeadPart.BehindArgument) self.old)) }
+    {
+        self.push_two(
+            Part::Head(HeadPart::Argument),
+            Part::Head(HeadPart::BehindArgument),
+        )
+    }
+
     /// The first token of a method's pattern.
     fn take_pattern(&mut self, alloc: Global, token: Token<'_>) -> Result<(), Memory>
         ensures { IfOk result (λ _. self.new ≡ head_taken HeadPart.Pattern (seen token.entry) token.entry.from self.old) }
@@ -28,8 +38,7 @@ impl Reader {
             }
             Sort::Keyword | Sort::PrimitiveKeyword | Sort::AnyKey => {
                 self.head.selector = Text::from_slice(alloc, token.text)?;
-                self.push(Part::Head(HeadPart::BehindArgument))?;
-                self.push(Part::Head(HeadPart::Argument))
+                self.await_argument()
             }
             _ => Ok(()),
         }
@@ -52,8 +61,7 @@ impl Reader {
         match token.sort {
             Sort::Keyword | Sort::PrimitiveKeyword | Sort::AnyKey => {
                 self.head.selector.push_slice(token.text)?;
-                self.push(Part::Head(HeadPart::BehindArgument))?;
-                self.push(Part::Head(HeadPart::Argument))
+                self.await_argument()
             }
             _ => Ok(()),
         }

@@ -79,6 +79,23 @@ impl Reader {
         self.push(Part::Message(part))
     }
 
+    /// A message with one argument, to a receiver that begins at a place or of a cascade.
+    fn one_argument(
+        &mut self,
+        alloc: Global,
+        from: Option<u32>,
+        argument: ExpressionPart,
+        token: Token<'_>,
+    ) -> Result<(), Memory>
+        ensures { IfOk result (λ _. self.new ≡ pushed (Part.Expression argument) (pushed (Part.Message (MessagePart.BehindArgument from token.entry.text.now)) self.old)) }
+    {
+        let selector = Text::from_slice(alloc, token.text)?;
+        self.push_two(
+            Part::Expression(argument),
+            Part::Message(MessagePart::BehindArgument { from, selector }),
+        )
+    }
+
     /// A binary message, and the part that reads further ones.
     fn binary(
         &mut self,
@@ -89,40 +106,34 @@ impl Reader {
     ) -> Result<(), Memory>
         ensures { IfOk result (λ _. self.new ≡ pushed (Part.Expression ExpressionPart.BinaryArgument) (pushed (Part.Message (MessagePart.BehindArgument (Some from) token.entry.text.now)) (pushed (Part.Message part) self.old))) }
     {
-        let selector = Text::from_slice(alloc, token.text)?;
         self.push(Part::Message(part))?;
-        self.push(Part::Message(MessagePart::BehindArgument {
-            from: Some(from),
-            selector,
-        }))?;
-        self.push(Part::Expression(ExpressionPart::BinaryArgument))
+        self.one_argument(alloc, Some(from), ExpressionPart::BinaryArgument, token)
     }
 
-    /// The keywords of a message, of which this is the first.
+    /// The first keyword of a message, to a receiver that begins at a place or of a cascade.
     fn keywords(&mut self, alloc: Global, from: Option<u32>, token: Token<'_>) -> Result<(), Memory>
         ensures { IfOk result (λ _. self.new ≡ pushed (Part.Expression ExpressionPart.KeywordArgument) (pushed (Part.Message (MessagePart.BehindKeyword from 1 token.entry.text.now)) self.old)) }
     {
         let selector = Text::from_slice(alloc, token.text)?;
-        self.push(Part::Message(MessagePart::BehindKeyword {
-            from,
-            selector,
-            arguments: 1,
-        }))?;
-        self.push(Part::Expression(ExpressionPart::KeywordArgument))
+        self.push_two(
+            Part::Expression(ExpressionPart::KeywordArgument),
+            Part::Message(MessagePart::BehindKeyword {
+                from,
+                selector,
+                arguments: 1,
+            }),
+        )
     }
 
-    /// A whole message of a pattern, to a receiver that begins at a place or of a cascade.
-    fn any_message(
-        &mut self,
-        alloc: Global,
-        from: Option<u32>,
-        token: Token<'_>,
-    ) -> Result<(), Memory>
-        ensures { IfOk result (λ _. self.new ≡ pushed (Part.Expression ExpressionPart.AnyArgument) (pushed (Part.Message (MessagePart.BehindArgument from token.entry.text.now)) self.old)) }
+    /// The first semicolon of a cascade, behind a message to a receiver that begins at a place.
+    fn begin_cascade(&mut self, from: u32) -> Result<(), Memory>
+        ensures { IfOk result (λ _. self.new ≡ pushed (Part.Message MessagePart.InCascade) (pushed (Part.Message (MessagePart.BehindCascade from 2)) (record self.old { events = recast self.old.events }))) }
     {
-        let selector = Text::from_slice(alloc, token.text)?;
-        self.push(Part::Message(MessagePart::BehindArgument { from, selector }))?;
-        self.push(Part::Expression(ExpressionPart::AnyArgument))
+        recast(&mut self.events)?;
+        self.push_two(
+            Part::Message(MessagePart::InCascade),
+            Part::Message(MessagePart::BehindCascade { from, messages: 2 }),
+        )
     }
 
     /// A message to the receiver from a place on, or its cascade.
@@ -148,54 +159,27 @@ impl Reader {
             }
             Sort::AnyMessage => {
                 self.push(Part::Message(MessagePart::BehindAny { from }))?;
-                self.any_message(alloc, Some(from), token)
+                self.one_argument(alloc, Some(from), ExpressionPart::AnyArgument, token)
             }
-            Sort::Semicolon => {
-                recast(&mut self.events)?;
-                self.push(Part::Message(MessagePart::BehindCascade { from, messages: 2 }))?;
-                self.push(Part::Message(MessagePart::InCascade))
-            }
+            Sort::Semicolon => self.begin_cascade(from),
             _ => Ok(()),
         }
     }
 
-    /// A unary or binary message in a keyword's argument that begins at a place.
-    fn take_of_keyword(&mut self, alloc: Global, from: u32, token: Token<'_>) -> Result<(), Memory>
-        ensures { IfOk result (λ _. self.new ≡ operator_taken (Part.Message (MessagePart.OfKeyword from)) from (seen token.entry) token.entry.to self.old) }
+    /// A unary or binary message in an argument that begins at a place, of which the part reads further ones.
+    fn take_operator(
+        &mut self,
+        alloc: Global,
+        part: MessagePart,
+        from: u32,
+        token: Token<'_>,
+    ) -> Result<(), Memory>
+        ensures { IfOk result (λ _. self.new ≡ operator_taken (Part.Message part) from (seen token.entry) token.entry.to self.old) }
     {
         match token.sort {
-            Sort::Name | Sort::Super | Sort::AnyName => self.unary(
-                alloc,
-                MessagePart::OfKeyword { from },
-                from,
-                token,
-            ),
+            Sort::Name | Sort::Super | Sort::AnyName => self.unary(alloc, part, from, token),
             Sort::Binary | Sort::Sign | Sort::Less | Sort::Greater | Sort::Bar => self.binary(
-                alloc,
-                MessagePart::OfKeyword { from },
-                from,
-                token,
-            ),
-            _ => Ok(()),
-        }
-    }
-
-    /// A unary message in a binary message's argument that begins at a place.
-    fn take_of_binary(&mut self, alloc: Global, from: u32, token: Token<'_>) -> Result<(), Memory>
-        ensures { IfOk result (λ _. self.new ≡ operator_taken (Part.Message (MessagePart.OfBinary from)) from (seen token.entry) token.entry.to self.old) }
-    {
-        match token.sort {
-            Sort::Name | Sort::Super | Sort::AnyName => self.unary(
-                alloc,
-                MessagePart::OfBinary { from },
-                from,
-                token,
-            ),
-            Sort::Binary | Sort::Sign | Sort::Less | Sort::Greater | Sort::Bar => self.binary(
-                alloc,
-                MessagePart::OfBinary { from },
-                from,
-                token,
+                alloc, part, from, token,
             ),
             _ => Ok(()),
         }
@@ -213,18 +197,16 @@ impl Reader {
                     arguments: 0,
                 })
             }
-            Sort::Binary | Sort::Sign | Sort::Less | Sort::Greater | Sort::Bar => {
-                let selector = Text::from_slice(alloc, token.text)?;
-                self.push(Part::Message(MessagePart::BehindArgument {
-                    from: None,
-                    selector,
-                }))?;
-                self.push(Part::Expression(ExpressionPart::BinaryArgument))
-            }
+            Sort::Binary | Sort::Sign | Sort::Less | Sort::Greater | Sort::Bar => self.one_argument(
+                alloc,
+                None,
+                ExpressionPart::BinaryArgument,
+                token,
+            ),
             Sort::Keyword | Sort::PrimitiveKeyword | Sort::AnyKey => self.keywords(
                 alloc, None, token,
             ),
-            Sort::AnyMessage => self.any_message(alloc, None, token),
+            Sort::AnyMessage => self.one_argument(alloc, None, ExpressionPart::AnyArgument, token),
             _ => Ok(()),
         }
     }
@@ -244,12 +226,14 @@ impl Reader {
                 let mut selector = selector;
                 selector.push_slice(token.text)?;
                 let arguments = one_more(arguments)?;
-                self.push(Part::Message(MessagePart::BehindKeyword {
-                    from,
-                    selector,
-                    arguments,
-                }))?;
-                self.push(Part::Expression(ExpressionPart::KeywordArgument))
+                self.push_two(
+                    Part::Expression(ExpressionPart::KeywordArgument),
+                    Part::Message(MessagePart::BehindKeyword {
+                        from,
+                        selector,
+                        arguments,
+                    }),
+                )
             }
             _ => Ok(()),
         }
@@ -260,8 +244,10 @@ impl Reader {
         ensures { IfOk result (λ _. self.new ≡ pushed (Part.Message MessagePart.InCascade) (pushed (Part.Message (MessagePart.BehindCascade from (messages + 1))) self.old)) }
     {
         let messages = one_more(messages)?;
-        self.push(Part::Message(MessagePart::BehindCascade { from, messages }))?;
-        self.push(Part::Message(MessagePart::InCascade))
+        self.push_two(
+            Part::Message(MessagePart::InCascade),
+            Part::Message(MessagePart::BehindCascade { from, messages }),
+        )
     }
 
     /// A token that a part of messages takes.
@@ -277,8 +263,18 @@ impl Reader {
             MessagePart::All { from } | MessagePart::BehindAny { from } => self.take_message(
                 alloc, from, token,
             ),
-            MessagePart::OfKeyword { from } => self.take_of_keyword(alloc, from, token),
-            MessagePart::OfBinary { from } => self.take_of_binary(alloc, from, token),
+            MessagePart::OfKeyword { from } => self.take_operator(
+                alloc,
+                MessagePart::OfKeyword { from },
+                from,
+                token,
+            ),
+            MessagePart::OfBinary { from } => self.take_operator(
+                alloc,
+                MessagePart::OfBinary { from },
+                from,
+                token,
+            ),
             MessagePart::BehindArgument { .. } => Ok(()),
             MessagePart::BehindKeyword {
                 from,

@@ -119,6 +119,15 @@ impl Reader {
         self.stack.push(part)
     }
 
+    /// Puts two parts before all others, of which the first comes next.
+    #[inline]
+    pub fn push_two(&mut self, first: Part, second: Part) -> Result<(), Memory>
+        ensures { IfOk result (λ _. self.new ≡ pushed first (pushed second self.old)) }
+    {
+        self.stack.push(second)?;
+        self.stack.push(first)
+    }
+
     /// Appends an event.
     #[inline]
     pub fn emit(&mut self, event: Event) -> Result<(), Memory>

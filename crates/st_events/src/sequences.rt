@@ -1,6 +1,6 @@
 // Statements and brace arrays.
 ghost use Rattle.std.specs.Prelude.{◌≡◌, IfOk};
-ghost use Rattle.st_events.specs.Steps.{closed, begun, statement_taken, item_taken, sequence_taken, passed};
+ghost use Rattle.st_events.specs.Steps.{closed, begun, first_taken, statement_taken, item_taken, sequence_taken, passed};
 ghost use Rattle.st_events.specs.Tokens.{seen};
 
 use crate::part::{Enclosure, ExpressionPart, Part, SequencePart};
@@ -20,7 +20,7 @@ impl Reader {
         alloc: Global,
         enclosure: Enclosure,
         statements: u32,
-        to: u32,
+        to: usize,
     ) -> Result<(), Memory>
         ensures { IfOk result (λ _. self.new ≡ closed enclosure statements to self.old) }
     {
@@ -32,6 +32,7 @@ impl Reader {
             Enclosure::Block { from, outer } => {
                 let tail = mem::replace(&mut self.held, outer.into_comments());
                 let tail = BoxedComments::new(alloc, tail)?;
+                let to = place(to)?;
                 self.emit(Event::Block {
                     from,
                     to,
@@ -42,13 +43,38 @@ impl Reader {
         }
     }
 
-    /// The first token of a statement behind so many others.
-    fn begin_statement(&mut self, enclosure: Enclosure, count: u32, from: u32) -> Result<(), Memory>
+    /// A statement begins at a place behind so many others.
+    fn begin_statement(
+        &mut self,
+        enclosure: Enclosure,
+        count: u32,
+        from: usize,
+    ) -> Result<(), Memory>
         ensures { IfOk result (λ _. self.new ≡ begun enclosure count from self.old) }
     {
+        let from = place(from)?;
         let count = one_more(count)?;
-        self.push(Part::Sequence(SequencePart::Statements { enclosure, count }))?;
-        self.push(Part::Sequence(SequencePart::BehindStatement { from }))
+        self.push_two(
+            Part::Sequence(SequencePart::BehindStatement { from }),
+            Part::Sequence(SequencePart::Statements { enclosure, count }),
+        )
+    }
+
+    /// The first token of a statement.
+    fn take_first(&mut self, alloc: Global, token: Token<'_>) -> Result<(), Memory>
+        ensures { IfOk result (λ _. self.new ≡ first_taken (seen token.entry) token.entry.from token.entry.to self.old) }
+    {
+        match token.sort {
+            Sort::Caret => {
+                let from = place(token.from)?;
+                self.push_two(
+                    Part::Expression(ExpressionPart::Whole),
+                    Part::Sequence(SequencePart::BehindReturn { from }),
+                )
+            }
+            Sort::AnyStatement => self.variable(alloc, token),
+            _ => self.begin_expression(alloc, token),
+        }
     }
 
     /// A period or the first token of a statement, or the mark behind the last statement.
@@ -61,28 +87,17 @@ impl Reader {
     ) -> Result<(), Memory>
         ensures { IfOk result (λ _. self.new ≡ statement_taken enclosure count (seen token.entry) token.entry.from token.entry.to self.old) }
     {
-        let from = place(token.from)?;
         match token.sort {
             Sort::Period => self.push(Part::Sequence(SequencePart::Statements {
                 enclosure,
                 count,
             })),
-            Sort::Caret => {
-                self.begin_statement(enclosure, count, from)?;
-                self.push(Part::Sequence(SequencePart::BehindReturn { from }))?;
-                self.push(Part::Expression(ExpressionPart::Whole))
-            }
-            Sort::GroupEnd | Sort::BlockEnd | Sort::BraceEnd | Sort::TextEnd => {
-                let to = place(token.to)?;
-                self.close(alloc, enclosure, count, to)
-            }
-            Sort::AnyStatement => {
-                self.begin_statement(enclosure, count, from)?;
-                self.variable(alloc, token)
-            }
+            Sort::GroupEnd | Sort::BlockEnd | Sort::BraceEnd | Sort::TextEnd => self.close(
+                alloc, enclosure, count, token.to,
+            ),
             _ => {
-                self.begin_statement(enclosure, count, from)?;
-                self.begin_expression(alloc, token)
+                self.begin_statement(enclosure, count, token.from)?;
+                self.take_first(alloc, token)
             }
         }
     }

@@ -1,17 +1,18 @@
+use Rattle.std.proofs.lemmas.Result.{on_ok_weaker}
 use Rattle.event_trees.specs.Held.{held}
 use Rattle.event_trees.proofs.Lists.{front_messages, received, unreceived}
 use Rattle.event_trees.proofs.stacks.Stacks.cascade.Goals as goal
 
-pub returns-in_ok-push : goal.returns-in_ok-push
-returns-in_ok-push c =
+pub returns-in-Some : goal.returns-in-Some
+returns-in-Some c =
     let s = c.args.self.now in
-    λ i. record (held s) {
+    on_ok_weaker c.put.result (λ put i. record (held s) {
       messages = front_messages c.args.count s.messages.items c.take_last.new.items.items c.in_ok-take_last.ensures.kept i;
-      nodes = received c.args.count s.nodes.items c.take_one.new.items.items c.push.new.self.items c.in-Some.receiver c.in_ok-new.field-0.value s.messages.items c.from_vec-messages.result c.in-Some.ensures.kept c.in-Some.ensures.taken c.in_ok-new.ensures.ok (cc (c.in_ok-take_last.ensures.taken, c.from_vec-messages.ensures)) c.in_ok-push.ensures.items i;
-    }
+      nodes = received c.args.count s.nodes.items c.take_one.new.items.items c.put.new.items.items c.in-Some.receiver c.in_ok-receiver.receiver.value s.messages.items c.from_vec-messages.result c.in-Some.ensures.kept c.in-Some.ensures.taken c.in_ok-receiver.ensures (cc (c.in_ok-take_last.ensures.taken, c.from_vec-messages.ensures)) put i;
+    }) c.put.ensures
 
-pub returns-in_default : goal.returns-in_default
-returns-in_default c =
+pub returns : goal.returns
+returns c =
     let s = c.args.self.now in
     λ i. record (held s) {
       messages = front_messages c.args.count s.messages.items c.take_last.new.items.items c.in_ok-take_last.ensures.kept i;
