@@ -4,6 +4,7 @@ ghost use Rattle.std.specs.Option.{option_and_then};
 ghost use Rattle.indexmap.specs.IndexMap.{get};
 ghost use Rattle.draft_orders.specs.Chains.{IsChained, IsLinked};
 
+use crate::lists::push_last;
 use indexmap::IndexMap;
 use rb_base::Memory;
 use std::alloc::Global;
@@ -23,22 +24,6 @@ fn note(table: &mut IndexMap<usize, usize>, name: usize, place: usize) -> Result
     ensures { OnOk result ((n : ℕ) → get nat_eq table.new n ≡ (if nat_eq name n then Some place else get nat_eq table.old n)) }
 {
     table.insert(name, place)?;
-    Ok(())
-}
-
-/// Puts a link at the end.
-fn push_link(links: &mut Vec<Option<usize>>, link: Option<usize>) -> Result<(), Memory>
-    ensures { OnOk result (links.new.items ≡ links.old.items ++ link ∷ []) }
-{
-    links.push(link)?;
-    Ok(())
-}
-
-/// Puts a superclass at the end.
-fn push_above(above: &mut Vec<Option<usize>>, name: Option<usize>) -> Result<(), Memory>
-    ensures { OnOk result (above.new.items ≡ above.old.items ++ name ∷ []) }
-{
-    above.push(name)?;
     Ok(())
 }
 
@@ -75,11 +60,11 @@ impl Chains {
         ensures above { self.new.above ≡ self.old.above }
     {
         let Some(name) = superclass else {
-            return push_link(&mut self.before, None);
+            return push_last(&mut self.before, None);
         };
         let place = self.above.len();
         let last = self.last_below(name);
-        push_link(&mut self.before, last)?;
+        push_last(&mut self.before, last)?;
         note(&mut self.last, name, place)
     }
 
@@ -90,7 +75,7 @@ impl Chains {
         ensures chained { OnOk result (IsChained self.new) }
     {
         self.link(superclass)?;
-        push_above(&mut self.above, superclass)?;
+        push_last(&mut self.above, superclass)?;
         Ok(())
     }
 }

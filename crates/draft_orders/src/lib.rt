@@ -5,6 +5,7 @@
 mod chains;
 mod classes;
 mod gap;
+mod lists;
 mod methods;
 mod parts;
 mod places;

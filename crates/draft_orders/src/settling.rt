@@ -9,6 +9,7 @@ ghost use Rattle.draft_orders.specs.Ready.{stands};
 ghost use Rattle.draft_orders.specs.Settling.{is_there, left, AreReady, IsStep};
 
 use crate::chains::Chains;
+use crate::lists::push_last;
 use crate::ready;
 use image_draft::ClassDraft;
 use rb_base::Memory;
@@ -40,14 +41,6 @@ fn name_of(class: &ClassDraft) -> usize
     class.name.0
 }
 
-/// Puts a slot at the end.
-fn push_slot(slots: &mut Vec<Option<ClassDraft>>, class: ClassDraft) -> Result<(), Memory>
-    ensures { OnOk result (slots.new.items ≡ slots.old.items ++ Some class ∷ []) }
-{
-    slots.push(Some(class))?;
-    Ok(())
-}
-
 /// Takes the class at a position out of its slot.
 fn take_slot(slots: &mut Vec<Option<ClassDraft>>, place: usize) -> Option<ClassDraft>
     requires { place < length slots.old.items }
@@ -65,14 +58,6 @@ fn is_there(slots: &[Option<ClassDraft>], place: usize) -> bool
         Some(slot) => slot.is_some(),
         None => false,
     }
-}
-
-/// Puts a class last.
-fn push_taken(taken: &mut Vec<ClassDraft>, class: ClassDraft) -> Result<(), Memory>
-    ensures { OnOk result (taken.new.items ≡ taken.old.items ++ class ∷ []) }
-{
-    taken.push(class)?;
-    Ok(())
 }
 
 /// Makes the class at a position ready, if it has no superclass.
@@ -142,9 +127,9 @@ impl Settling {
     {
         let place = self.slots.len();
         let above = above_of(&class);
+        push_last(&mut self.slots, Some(class))?;
         wake_free(&mut self.ready, place, above)?;
         self.chains.push(above)?;
-        push_slot(&mut self.slots, class)?;
         Ok(())
     }
 
@@ -160,23 +145,38 @@ impl Settling {
             return Ok(false);
         };
         let name = name_of(&class);
-        push_taken(&mut self.taken, class)?;
+        push_last(&mut self.taken, class)?;
         wake(&mut self.ready, &self.slots, &self.chains, name)?;
         Ok(true)
     }
-}
 
-/// The classes, of which none is taken.
-fn start(alloc: Global, classes: Vec<ClassDraft>) -> Result<Settling, Memory>
-    ensures ready { IfOk result (λ begun. AreReady begun) }
-    ensures taken { IfOk result (λ begun. begun.taken.items ≡ []) }
-    ensures left { IfOk result (λ begun. left begun.slots.items ≡ classes.items) }
-{
-    let mut begun = Settling::new(alloc);
-    for class in classes {
-        begun.add(class)?;
+    /// Puts classes at the next positions, before any is taken.
+    fn add_all(&mut self, classes: Vec<ClassDraft>) -> Result<(), Memory>
+        requires ready { AreReady self.old }
+        requires none { self.old.taken.items ≡ [] }
+        requires nothing { left self.old.slots.items ≡ [] }
+        ensures ready { OnOk result (AreReady self.new) }
+        ensures none { OnOk result (self.new.taken.items ≡ []) }
+        ensures left { OnOk result (left self.new.slots.items ≡ classes.items) }
+    {
+        for class in classes {
+            self.add(class)?;
+        }
+        Ok(())
     }
-    Ok(begun)
+
+    /// Takes a number of classes, one after the other, or all that can be taken.
+    fn take(&mut self, count: usize) -> Result<(), Memory>
+        requires { AreReady self.old }
+        ensures { OnOk result (self.new.taken.items ≡ hierarchy.settle_behind nat_eq count self.old.taken.items (left self.old.slots.items)) }
+    {
+        for _ in 0..count {
+            if !self.step()? {
+                return Ok(());
+            }
+        }
+        Ok(())
+    }
 }
 
 /// The classes in order: again and again the first one whose superclass is taken, or that has none, is taken.
@@ -184,11 +184,8 @@ pub fn settle(alloc: Global, classes: Vec<ClassDraft>) -> Result<Vec<ClassDraft>
     ensures { IfOk result (λ ordered. ordered.items ≡ hierarchy.settled nat_eq classes.items) }
 {
     let count = classes.len();
-    let mut settling = start(alloc, classes)?;
-    for _ in 0..count {
-        if !settling.step()? {
-            return Ok(settling.taken);
-        }
-    }
+    let mut settling = Settling::new(alloc);
+    settling.add_all(classes)?;
+    settling.take(count)?;
     Ok(settling.taken)
 }

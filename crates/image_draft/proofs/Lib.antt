@@ -1,3 +1,4 @@
+mod Answered
 mod Numbers
 mod Steps
 mod Entries

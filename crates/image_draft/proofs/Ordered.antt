@@ -42,10 +42,6 @@ order_of cs o = record { distinct = once_of cs o.differ; before = o.before }
 ordered_of : (cs : List (ClassOf ℕ)) → AreInOrder cs → AreOrdered cs
 ordered_of cs o = record { differ = differ_of cs o.distinct; before = o.before }
 
--- no classes
-pub ordered_none : AreOrdered []
-ordered_none = record { differ = tt; before = λ k c n e q. absurd (cc) }
-
 -- what is known of a definition that the classes before it do not refuse
 abbrev pub IsLet : List (ClassOf ℕ) → DefinitionOf ℕ → Type 0
 IsLet cs d = first_cause (early_refusals cs d) ≡ None

@@ -71,10 +71,6 @@ module _ (P : ClassOf ℕ → Type 0) (d : DefinitionOf ℕ) (kernel : Bool) (ag
       by true = changed_each P d.name (class_again d) again cs all
       by false = all-end P cs (new_class kernel d) all first
 
--- no classes
-pub owned_none : (t : Owners) (cs : List (ClassOf ℕ)) → cs ≡ [] → AreOwned t cs
-owned_none t cs e = subst (AreOwned t) (sym e) (record { instance = tt; class_side = tt; superclasses = tt })
-
 -- a definition whose instance variables are noted
 module _ (cs new : List (ClassOf ℕ)) (d : DefinitionOf ℕ) (kernel : Bool) (s : AreSound cs) (let_in : IsLet cs d) (is : new ≡ defined nat_eq kernel d cs) (before after : Owners) (owned : AreOwned before cs)
     (instance_kept : KeepsNotes before.instance after.instance) (class_side_kept : KeepsNotes before.class_side after.class_side) (superclasses_kept : KeepsNames before.superclasses after.superclasses) (noted : AllByRecursion (λ m. is_noted_for after.instance d.name m ≡ true) d.instance)

@@ -32,7 +32,7 @@ use Rattle.image_draft.specs.Table.{place_in}
 use Rattle.image_draft.specs.Once.{NoneTwice, AreSound, KeepsChains, KeepsSide}
 use Rattle.image_draft.proofs.Numbers.{nat_itself, nat_equal}
 use Rattle.image_draft.proofs.Beside.{or_false, finds, all_place, all_places, IsBeside, first_other, chain_outside, changed_beside, new_beside, without_beside, without_clear}
-use Rattle.image_draft.proofs.Ordered.{IsLet, once_of, order_of, lacks_none, cycle_none, ordered_none, defined_ordered, changed_ordered, removed_ordered}
+use Rattle.image_draft.proofs.Ordered.{IsLet, once_of, order_of, lacks_none, cycle_none, defined_ordered, changed_ordered, removed_ordered}
 use Rattle.image_draft.proofs.ClassPlaces.{find_place}
 use Rattle.image_draft.proofs.Places.{placed, changed-none}
 
@@ -77,10 +77,6 @@ each_once cs kind none = all_places (Once cs kind) cs at
 
 pub none_of : (cs : List (ClassOf ℕ)) (kind : VariableKind) → AllByRecursion (Once cs kind) cs → NoneTwice cs kind
 none_of cs kind all = λ n. none_any (λ (x : ClassOf ℕ). has_repeat nat_eq (chain_variables nat_eq cs kind x)) (λ (x : ClassOf ℕ). stands_in nat_eq n (chain_from nat_eq cs (Some x))) cs all
-
--- no classes
-pub sound_none : (cs : List (ClassOf ℕ)) → cs ≡ [] → AreSound cs
-sound_none cs e = subst AreSound (sym e) (record { order = ordered_none; instance = λ n. refl; class_side = λ n. refl })
 
 -- where two lists differ in one class, below which no variable stands twice
 pub beside_once : (n : ℕ) (mid old : List (ClassOf ℕ)) → IsBeside n mid old → (kind : VariableKind) → NoneTwice old kind → stands_twice nat_eq mid kind n ≡ false → NoneTwice mid kind

@@ -35,21 +35,21 @@ fn places_in(
     Ok(places)
 }
 
-/// Each class in a slot of its own.
-fn in_slots(alloc: Global, classes: Vec<ClassDraft>) -> Result<Vec<Option<ClassDraft>>, Memory>
-    ensures { IfOk result (λ slots. slots.items ≡ map Some classes.items) }
+/// Each item in a slot of its own.
+fn in_slots<T: Drop>(alloc: Global, items: Vec<T>) -> Result<Vec<Option<T>>, Memory>
+    ensures { IfOk result (λ slots. slots.items ≡ map Some items.items) }
 {
-    let mut slots = Vec::with_capacity(alloc, classes.len())?;
-    for class in classes {
-        slots.push(Some(class))?;
+    let mut slots = Vec::with_capacity(alloc, items.len())?;
+    for item in items {
+        slots.push(Some(item))?;
     }
     Ok(slots)
 }
 
-/// Takes the class out of a slot, if there is such a slot and a class in it.
-fn take_slot(slots: &mut Vec<Option<ClassDraft>>, place: usize) -> Option<ClassDraft>
-    ensures taken { IfSome result (λ class. slice_get slots.old.items place ≡ Some (Some class)) }
-    ensures left { (k : ℕ) (c : ClassOf ℕ) → slice_get slots.new.items k ≡ Some (Some c) → slice_get slots.old.items k ≡ Some (Some c) }
+/// Takes the item out of a slot, if there is such a slot and an item in it.
+fn take_slot<T: Drop>(slots: &mut Vec<Option<T>>, place: usize) -> Option<T>
+    ensures taken { IfSome result (λ item. slice_get slots.old.items place ≡ Some (Some item)) }
+    ensures left { (k : ℕ) (x : T) → slice_get slots.new.items k ≡ Some (Some x) → slice_get slots.old.items k ≡ Some (Some x) }
 {
     if place < slots.len() {
         slots[place].take()

@@ -1,10 +1,10 @@
 // Changes of classes.
-ghost use Rattle.std.specs.Prelude.{◌≡◌, ℕ, ◌||◌, is_some, nat_eq, IfNone, IfSome, IfOk};
+ghost use Rattle.std.specs.Prelude.{◌≡◌, ℕ, ◌||◌, None, is_some, nat_eq, IfNone, IfSome, IfOk, OnOk};
 ghost use Rattle.file_model.specs.Causes.{first_cause};
 ghost use Rattle.file_model.specs.Hierarchy.{has_class};
 ghost use Rattle.file_model.specs.Refusals.{comment_refusals, class_side_refusals};
 ghost use Rattle.file_model.specs.Applied.{with_comment, with_class_side};
-ghost use Rattle.image_draft.specs.Early.{told};
+ghost use Rattle.image_draft.specs.Early.{told, early_side_refusals};
 ghost use Rattle.image_draft.specs.Names.{NamesDiffer, AreOrdered};
 ghost use Rattle.image_draft.specs.Once.{AreSound};
 ghost use Rattle.image_draft.specs.Owners.{AreOwned};
@@ -90,14 +90,36 @@ pub fn change_class_side(
     if refusal.is_some() {
         return Ok(refusal);
     }
-    let kept = keeps_side(classes, name, names.as_slice());
-    let mut after = classes.take_all();
-    let apart = owners.note_side(alloc, name, names.as_slice())?;
-    put_class_side(&mut after, name, names);
-    let refusal = late_side_refusal(alloc, &after, name, is_either(kept, apart))?;
-    if refusal.is_some() {
-        return Ok(refusal);
+    match make_class_side(alloc, classes, owners, name, names) {
+        Ok(None) => Ok(None),
+        refused => {
+            classes.take_all();
+            refused
+        }
     }
-    *classes = after;
-    Ok(None)
+}
+
+/// Gives the class of a name other class-instance variables that the classes before it do not refuse, or tells why the classes
+/// with them refuse them.
+fn make_class_side(
+    alloc: Global,
+    classes: &mut ClassList,
+    owners: &mut Owners,
+    name: NameId,
+    names: Ids,
+) -> Result<Option<ImageCause>, Memory>
+    requires sound { AreSound classes.old }
+    requires owned { AreOwned owners.old classes.old }
+    requires free { first_cause (early_side_refusals classes.old name names) ≡ None }
+    ensures cause { IfOk result (λ cause. told cause ≡ first_cause (class_side_refusals nat_eq classes.old name names (with_class_side nat_eq name names classes.old))) }
+    ensures some { IfOk result (λ cause. is_some cause ≡ is_some (first_cause (class_side_refusals nat_eq classes.old name names (with_class_side nat_eq name names classes.old)))) }
+    ensures changed { OnOk result (classes.new ≡ with_class_side nat_eq name names classes.old) }
+    ensures sound { IfOk result (λ cause. IfNone cause (AreSound classes.new)) }
+    ensures owned { OnOk result (AreOwned owners.new classes.new) }
+    ensures names { OnOk result ((n : ℕ) → has_class nat_eq classes.new n ≡ has_class nat_eq classes.old n) }
+{
+    let kept = keeps_side(classes, name, names.as_slice());
+    let apart = owners.note_side(alloc, name, names.as_slice())?;
+    put_class_side(classes, name, names);
+    late_side_refusal(alloc, classes, name, is_either(kept, apart))
 }

@@ -69,13 +69,6 @@ impl Classes {
         self.list.as_slice()
     }
 
-    /// The classes in order, given away.
-    pub fn into_items(self) -> Result<Vec<ClassDraft>, Memory>
-        ensures { IfOk result (λ items. items.items ≡ self) }
-    {
-        self.list.into_items()
-    }
-
     /// Takes the classes out, and leaves none.
     pub fn take_items(&mut self) -> Result<Vec<ClassDraft>, Memory>
         ensures taken { IfOk result (λ items. items.items ≡ self.old) }

@@ -290,11 +290,13 @@ impl Draft {
         ensures doits { IfOk result (λ parts. parts.doits ≡ self.doits) }
         ensures heads { IfOk result (λ parts. parts.heads ≡ self.heads) }
     {
+        let mut draft = self;
+        let classes = draft.classes.take_items()?;
         Ok(DraftParts {
-            classes: self.classes.into_items()?,
-            methods: self.methods.into_slots(),
-            doits: self.doits,
-            heads: self.heads,
+            classes,
+            methods: draft.methods.into_slots(),
+            doits: draft.doits,
+            heads: draft.heads,
         })
     }
 }

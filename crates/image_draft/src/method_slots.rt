@@ -1,5 +1,5 @@
 // Methods in slots.
-ghost use Rattle.std.specs.Prelude.{◌≡◌, ◌+◌, ◌<◌, ◌∷◌, ◌++◌, [], filter, if◌then◌else◌, length, map, not, nat_eq, is_some, option_copied, slice_get, slice_set, vec_len, None, Some, IfNone, IfSome, IfOk, OnErr, OnOk};
+ghost use Rattle.std.specs.Prelude.{◌≡◌, ◌+◌, ◌<◌, ◌∷◌, ◌++◌, [], filter, if◌then◌else◌, length, map, not, nat_eq, is_some, option_copied, slice_get, slice_set, vec_len, Option, None, Some, IfNone, IfSome, IfOk, OnErr, OnOk};
 ghost use Rattle.indexmap.specs.IndexMap.{get};
 ghost use Rattle.image_model.specs.Lookup as lookup;
 ghost use Rattle.st_tree.specs.View.{method_of};
@@ -8,12 +8,11 @@ ghost use Rattle.file_model.specs.Refusals as refusals;
 ghost use Rattle.file_model.specs.Refusals.{method_refusals};
 ghost use Rattle.file_model.specs.Applied.{with_method};
 ghost use Rattle.image_draft.specs.Early.{told};
-ghost use Rattle.image_draft.specs.Fronts.{in_front};
 ghost use Rattle.image_draft.specs.Entries.{entry_of, run_of};
 ghost use Rattle.image_draft.specs.MethodSlots.{same_key, key_of, those_there, without_its, KeepsMethods};
+ghost use Rattle.std.specs.List.{filter_map};
 ghost use Rattle.std.specs.Option.{option_and_then};
 
-use crate::fronts::kernel_slots_first;
 use crate::method_draft::MethodDraft;
 use file_faults::ImageCause;
 use indexmap::IndexMap;
@@ -85,9 +84,9 @@ impl MethodSlots {
     fn is_kernel_at(&self, place: usize) -> bool
         ensures { IfSome (slice_get self.now.slots.items place) (λ slot. IfSome slot (λ m. result ≡ m.kernel)) }
     {
-        match self.slots.get(place) {
-            Some(Some(method)) => method.kernel,
-            _ => false,
+        match item_at(&self.slots, place) {
+            None => false,
+            Some(method) => method.kernel,
         }
     }
 
@@ -100,15 +99,6 @@ impl MethodSlots {
             None => false,
             Some(place) => self.is_kernel_at(place),
         }
-    }
-
-    /// Writes a slot.
-    fn set_slot(&mut self, place: usize, slot: Option<MethodDraft>)
-        requires { place < vec_len self.old.slots }
-        ensures slots { self.new.slots.items ≡ slice_set self.old.slots.items place slot }
-        ensures rest { self.new ≡ record self.old { slots = self.new.slots } }
-    {
-        self.slots[place] = slot;
     }
 
     /// Puts a slot at the end.
@@ -179,7 +169,7 @@ impl MethodSlots {
         if self.is_kernel_at(place) {
             return Some(ImageCause::KernelReplaced);
         }
-        self.set_slot(place, Some(method));
+        set_slot(&mut self.slots, place, Some(method));
         None
     }
 
@@ -216,7 +206,7 @@ impl MethodSlots {
         ensures keeps { KeepsMethods self.new }
     {
         if let Some(place) = self.unlist(key) {
-            self.set_slot(place, None);
+            set_slot(&mut self.slots, place, None);
             self.count -= 1;
         }
     }
@@ -225,8 +215,8 @@ impl MethodSlots {
     fn key_at(&self, place: usize, class: NameId) -> Option<MethodKey>
         ensures { IfSome (slice_get self.now.slots.items place) (λ slot. result ≡ option_and_then (λ m. if nat_eq class m.class then Some (key_of m) else None) slot) }
     {
-        match self.slots.get(place) {
-            Some(Some(method)) if class == method.class => Some(key_of(method)),
+        match item_at(&self.slots, place) {
+            Some(method) if class == method.class => Some(key_of(method)),
             _ => None,
         }
     }
@@ -278,32 +268,36 @@ impl MethodSlots {
         }
         Ok(slots)
     }
+}
 
-    /// Whether no method of the kernel stands behind one of the user.
-    pub fn kernel_first(&self) -> bool
-        ensures { result ≡ in_front (λ m. m.kernel) (those_there self.now.slots.items) }
-    {
-        kernel_slots_first(&self.slots)
-    }
+/// What is in the slot at a place, if there is such a slot and something in it.
+fn item_at<T>(slots: &[Option<T>], place: usize) -> Option<&T>
+    ensures { IfSome (slice_get slots.now place) (λ slot. option_copied result ≡ slot) }
+{
+    slots.get(place)?.as_ref()
+}
 
-    /// The slots in order, for one who takes the methods one after another: the methods are not copied to a list of their
-    /// own. A slot is empty where its method was removed.
-    pub fn into_slots(self) -> Vec<Option<MethodDraft>>
-        ensures { those_there result.items ≡ those_there self.slots.items }
-    {
-        self.slots
-    }
+/// Writes a slot.
+fn set_slot<T: Drop>(slots: &mut Vec<Option<T>>, place: usize, slot: Option<T>)
+    requires { place < vec_len slots.old }
+    ensures { slots.new.items ≡ slice_set slots.old.items place slot }
+{
+    slots[place] = slot;
+}
 
-    /// The methods that are there, in order.
-    pub fn into_items(self, alloc: Global) -> Result<Vec<MethodDraft>, Memory>
-        ensures { IfOk result (λ items. items.items ≡ those_there self.slots.items) }
-    {
-        let mut items = Vec::with_capacity(alloc, self.count)?;
-        for slot in self.slots {
-            if let Some(method) = slot {
-                items.push(method)?;
-            }
+/// What is in the slots, in order, where it is known in how many of them there is something.
+pub fn those_there<T: Drop>(
+    alloc: Global,
+    slots: Vec<Option<T>>,
+    count: usize,
+) -> Result<Vec<T>, Memory>
+    ensures { IfOk result (λ items. items.items ≡ filter_map (λ (slot : Option T). slot) slots.items) }
+{
+    let mut items = Vec::with_capacity(alloc, count)?;
+    for slot in slots {
+        if let Some(item) = slot {
+            items.push(item)?;
         }
-        Ok(items)
     }
+    Ok(items)
 }

@@ -11,8 +11,9 @@ ghost use Rattle.image_draft.specs.Fronts.{in_front};
 ghost use Rattle.image_draft.specs.Entries.{entry_of, run_of};
 ghost use Rattle.image_draft.specs.MethodSlots.{those_there};
 
+use crate::fronts::kernel_slots_first;
 use crate::method_draft::MethodDraft;
-use crate::method_slots::{MethodKey, MethodSlots};
+use crate::method_slots::{MethodKey, MethodSlots, those_there};
 use file_faults::ImageCause;
 use rb_base::{Memory, NameId};
 use std::alloc::Global;
@@ -86,14 +87,15 @@ impl Methods {
     pub fn kernel_first(&self) -> bool
         ensures { result ≡ in_front (λ m. m.kernel) self.now }
     {
-        self.slots.kernel_first()
+        kernel_slots_first(&self.slots.slots)
     }
 
     /// Takes the methods out, in order, and leaves none.
     pub fn take_items(&mut self, alloc: Global) -> Result<Vec<MethodDraft>, Memory>
         ensures { IfOk result (λ items. items.items ≡ self.old) }
     {
-        replace(self, Methods::new(alloc)).into_items(alloc)
+        let taken = replace(self, Methods::new(alloc)).slots;
+        those_there(alloc, taken.slots, taken.count)
     }
 
     /// These methods, of which no two have one class, one side and one selector, and which are not too many; for others it
@@ -111,13 +113,6 @@ impl Methods {
     pub fn into_slots(self) -> Vec<Option<MethodDraft>>
         ensures { those_there result.items ≡ self }
     {
-        self.slots.into_slots()
-    }
-
-    /// The methods, in order.
-    pub fn into_items(self, alloc: Global) -> Result<Vec<MethodDraft>, Memory>
-        ensures { IfOk result (λ items. items.items ≡ self) }
-    {
-        self.slots.into_items(alloc)
+        self.slots.slots
     }
 }

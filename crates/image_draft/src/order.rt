@@ -1,5 +1,5 @@
 // The order of classes, once one of them is defined again under another superclass.
-ghost use Rattle.std.specs.Prelude.{◌≡◌, ◌<◌, ◌≤◌, ◌∷◌, ◌++◌, [], List, ℕ, Some, drop, length, take, true, false, nat_eq, IfSome, IfOk, OnOk};
+ghost use Rattle.std.specs.Prelude.{◌≡◌, ◌<◌, ◌≤◌, ◌∷◌, ◌++◌, [], List, ℕ, Some, drop, length, take, true, false, nat_eq, IfSome, OnOk};
 ghost use Rattle.std.specs.Option.{option_map_or};
 ghost use Rattle.image_model.specs.Image.{ClassOf};
 ghost use Rattle.file_model.specs.Hierarchy as hierarchy;
@@ -82,20 +82,19 @@ fn first_place(classes: &ClassList, name: NameId) -> usize
     classes.place(name).unwrap_or(0)
 }
 
-/// The classes with the one of a name, and those that wait for it, behind the class of a second name.
-fn pass(classes: ClassList, name: NameId, above: NameId) -> Result<ClassList, Memory>
-    ensures { IfOk result (λ ordered. ordered ≡ settling.passed nat_eq name above [] classes) }
+/// Puts the class of a name, and those that wait for it, behind the class of a second name.
+fn pass(classes: &mut ClassList, name: NameId, above: NameId) -> Result<(), Memory>
+    ensures { OnOk result (classes.new ≡ settling.passed nat_eq name above [] classes.old) }
 {
-    let mut placed = classes;
-    let first = first_place(&placed, name);
-    let rest = placed.split_off(first)?;
-    let mut waiting = placed.with_spare();
+    let first = first_place(classes, name);
+    let rest = classes.split_off(first)?;
+    let mut waiting = classes.with_spare();
     for class in rest {
-        place(&mut placed, &mut waiting, name, above, class)?;
+        place(classes, &mut waiting, name, above, class)?;
     }
-    waiting.move_behind(&mut placed)?;
-    placed.keep_spare(waiting);
-    Ok(placed)
+    waiting.move_behind(classes)?;
+    classes.keep_spare(waiting);
+    Ok(())
 }
 
 /// The places of the classes of two names, where the first stands before the second.
@@ -113,36 +112,35 @@ fn places_of(classes: &ClassList, name: NameId, above: NameId) -> Option<(usize,
 }
 
 /// The same for a class that is the superclass of none: it goes alone, and no other class waits.
-fn pass_alone(classes: ClassList, name: NameId, above: NameId) -> Result<ClassList, Memory>
-    requires differ { NamesDiffer classes }
-    requires childless { hierarchy.has_subclass nat_eq classes name ≡ false }
-    ensures { IfOk result (λ ordered. ordered ≡ settling.passed nat_eq name above [] classes) }
+fn pass_alone(classes: &mut ClassList, name: NameId, above: NameId) -> Result<(), Memory>
+    requires differ { NamesDiffer classes.old }
+    requires childless { hierarchy.has_subclass nat_eq classes.old name ≡ false }
+    ensures { OnOk result (classes.new ≡ settling.passed nat_eq name above [] classes.old) }
 {
-    let Some((from, to)) = places_of(&classes, name, above) else {
+    let Some((from, to)) = places_of(classes, name, above) else {
         return pass(classes, name, above);
     };
-    let mut ordered = classes;
-    ordered.put_back(from, to);
-    Ok(ordered)
+    classes.put_back(from, to);
+    Ok(())
 }
 
-/// The classes in order, once the class of a name is defined again with a superclass or without one, where it may be known
-/// that it is the superclass of none.
+/// Puts the classes in order, once the class of a name is defined again with a superclass or without one, where it may be
+/// known that it is the superclass of none.
 pub fn put_behind(
-    classes: ClassList,
+    classes: &mut ClassList,
     name: NameId,
     superclass: Option<NameId>,
     childless: bool,
-) -> Result<ClassList, Memory>
-    requires differ { NamesDiffer classes }
-    requires childless { childless ≡ true → hierarchy.has_subclass nat_eq classes name ≡ false }
-    ensures { IfOk result (λ ordered. ordered ≡ settling.put_behind nat_eq name superclass classes) }
+) -> Result<(), Memory>
+    requires differ { NamesDiffer classes.old }
+    requires childless { childless ≡ true → hierarchy.has_subclass nat_eq classes.old name ≡ false }
+    ensures { OnOk result (classes.new ≡ settling.put_behind nat_eq name superclass classes.old) }
 {
     let Some(above) = superclass else {
-        return Ok(classes);
+        return Ok(());
     };
-    if comes_first(&classes, above, name) {
-        return Ok(classes);
+    if comes_first(classes, above, name) {
+        return Ok(());
     }
     if childless {
         return pass_alone(classes, name, above);

@@ -5,4 +5,4 @@ use Rattle.image_draft.proofs.order.pass.Given as goal
 
 abbrev pub invariant-loop-class : goal.invariant-loop-class
 invariant-loop-class l =
-    l.placed ++ settling.passed nat_eq l.name l.above l.waiting (into_iter_items l.class-iterator) ≡ settling.passed nat_eq l.name l.above [] l.fn.classes
+    l.classes ++ settling.passed nat_eq l.name l.above l.waiting (into_iter_items l.class-iterator) ≡ settling.passed nat_eq l.name l.above [] l.fn.classes

@@ -12,7 +12,7 @@ returns-clause-ready c =
     let above : List (Option ℕ) = c.args.self.now.chains.above.items in
     let slots : List (Option (ClassOf ℕ)) = c.args.self.now.slots.items in
     let above_is : c.push.new.self.above.items ≡ above ++ c.args.class.superclass ∷ [] = c.in_ok-push.ensures.above ∙ ap (λ (o : Option ℕ). above ++ o ∷ []) c.above_of-above.ensures in
-    let slots_are : c.push_slot.new.slots.items ≡ slots ++ Some c.args.class ∷ [] = c.in_ok-push_slot.ensures in
+    let slots_are : c.push_last.new.items.items ≡ slots ++ Some c.args.class ∷ [] = c.in_ok-push_last.ensures in
     let place : c.len-place.result ≡ length slots = omega arith in
     let put : (j : ℕ) → stands c.wake_free.new.ready j ≡ (stands c.args.self.now.ready j || (nat_eq (length slots) j && not (is_some c.args.class.superclass))) =
     λ j. c.in_ok-wake_free.ensures j ∙ (λ i. stands c.args.self.now.ready j || (nat_eq (place i) j && not (is_some (c.above_of-above.ensures i)))) in
@@ -26,4 +26,4 @@ returns-clause-ready c =
     }
 
 pub returns-clause-left : goal.returns-clause-left
-returns-clause-left c = ap left c.in_ok-push_slot.ensures ∙ left_more c.args.self.now.slots.items c.args.class
+returns-clause-left c = ap left c.in_ok-push_last.ensures ∙ left_more c.args.self.now.slots.items c.args.class

@@ -30,7 +30,7 @@ returns c =
     let follows : can_follow nat_eq taken class ≡ true = ap (λ (o : Option (Option (ClassOf ℕ))). option_map_or (fits taken) o false) (sym at) ∙ sym (c.requires.ready place) ∙ c.in-Some.ensures.0 in
     let first : (find (can_follow nat_eq taken) (left slots) ≡ Some class) × (without_first (can_follow nat_eq taken) (left slots) ≡ left (slice_set slots place None)) =
     first_left (can_follow nat_eq taken) slots place class at follows (λ j l. sym (c.requires.ready j) ∙ least_first (stands c.args.self.now.ready) place c.in-Some.ensures.1 j l) in
-    let taken_is : c.push_taken.new.taken.items ≡ taken ++ class ∷ [] = c.in_ok-push_taken.ensures in
+    let taken_is : c.push_last.new.items.items ≡ taken ++ class ∷ [] = c.in_ok-push_last.ensures in
     let slots_are : c.take_slot.new.slots.items ≡ slice_set slots place None = c.take_slot.ensures.left in
     let woken : (j : ℕ) → stands c.wake.new.ready j ≡ (stands c.pop.new.ready j || (is_below above class.name j && is_there (slice_set slots place None) j)) =
     λ j. c.in_ok-wake.ensures j ∙ (λ i. stands c.pop.new.ready j || (is_below above (c.name_of-name.ensures i) j && is_there (ap (λ (s : List (Option (ClassOf ℕ))). s) (c.deref.ensures.value ∙ slots_are) i) j)) in (

@@ -1,4 +1,4 @@
-use Rattle.std.proofs.Common.{Bool, cond, List, map, Option, Some, None, is_some, sym, ap, ◌∙◌, arith}
+use Rattle.std.proofs.Common.{Bool, cond, List, map, Option, Some, None, is_some, refl, sym, ap, ◌∙◌, arith}
 use Rattle.std.proofs.lemmas.Option.{slice_get_within}
 use Rattle.file_model.specs.Causes.{KernelReplaced}
 use Rattle.image_draft.specs.declared.method_draft.MethodDraft.{MethodDraft}
@@ -34,11 +34,11 @@ pub returns-clause-changed : goal.returns-clause-changed
 returns-clause-changed c =
     let s : MethodSlots = c.args.self.now in
     let f = c.requires.keeps.found (key_of c.args.method) c.args.place c.requires.there in
-    with-again c.args.method (entries_in s) (entries_in c.set_slot.new.self) (has-listed s c.requires.keeps (key_of c.args.method) c.args.place f.0 c.requires.there f.1 f.2)
-    (ap (λ (slots : List (Option MethodDraft)). map entry_of (those_there slots)) c.set_slot.ensures.slots ∙ replaced s c.requires.keeps (key_of c.args.method) c.args.place f.0 c.requires.there f.1 f.2 c.args.method)
+    with-again c.args.method (entries_in s) (map entry_of (those_there c.set_slot.new.slots.items)) (has-listed s c.requires.keeps (key_of c.args.method) c.args.place f.0 c.requires.there f.1 f.2)
+    (ap (λ (slots : List (Option MethodDraft)). map entry_of (those_there slots)) c.set_slot.ensures ∙ replaced s c.requires.keeps (key_of c.args.method) c.args.place f.0 c.requires.there f.1 f.2 c.args.method)
 
 pub returns-clause-keeps : goal.returns-clause-keeps
 returns-clause-keeps c =
     let f = c.requires.keeps.found (key_of c.args.method) c.args.place c.requires.there in
-    keeps-replaced c.args.self.now c.set_slot.new.self c.args.place f.0 c.args.method c.requires.keeps f.1 (sym f.2) c.set_slot.ensures.slots
-    (ap (λ (t : MethodSlots). t.places) c.set_slot.ensures.rest) (ap (λ (t : MethodSlots). t.count) c.set_slot.ensures.rest)
+    let s : MethodSlots = c.args.self.now in
+    keeps-replaced s (record s { slots = c.set_slot.new.slots }) c.args.place f.0 c.args.method c.requires.keeps f.1 (sym f.2) c.set_slot.ensures refl refl
