@@ -1,5 +1,5 @@
 // The image of a draft.
-ghost use Rattle.std.specs.Prelude.{◌≡◌, ◌<◌, [], length, IfOk};
+ghost use Rattle.std.specs.Prelude.{◌≡◌, ◌<◌, [], length, IfOk, OnOk};
 ghost use Rattle.image_model.specs.ImageNames.{ImageNames};
 ghost use Rattle.class_table.specs.View.{number_image};
 ghost use Rattle.class_table.specs.Valid.{IsOrderly};
@@ -28,15 +28,25 @@ fn image_with(alloc: Global, names: Names) -> Image
     image
 }
 
-/// Says how many of the do-its stand before the definitions.
-fn count_heads(image: &mut Image, heads: usize)
+/// Fills an image of nothing but names with what is in a draft. The error is want of memory.
+fn fill(alloc: Global, image: &mut Image, draft: Draft) -> Result<(), Memory>
+    requires blank { image.old ≡ record { names = image.old.names; classes = []; class_order = []; methods = []; method_order = []; doits = []; heads = 0 } }
     requires orderly { IsOrderly image.old }
     requires live { AllLive image.old }
-    ensures image { image.new ≡ record image.old { heads = heads } }
-    ensures orderly { IsOrderly image.new }
-    ensures live { AllLive image.new }
+    requires known { ImageNames (λ n. n < length image.old.names) (image_of draft) }
+    requires whole { IsWhole draft }
+    ensures names { OnOk result (image.new.names ≡ image.old.names) }
+    ensures image { OnOk result (number_image image.new ≡ image_of draft) }
+    ensures orderly { OnOk result (IsOrderly image.new) }
+    ensures live { OnOk result (AllLive image.new) }
 {
-    image.set_heads(heads);
+    let parts = draft.into_parts()?;
+    let mut table = IndexMap::new(alloc);
+    add_classes(image, &mut table, parts.classes)?;
+    add_methods(image, &table, parts.methods)?;
+    add_doits(image, parts.doits)?;
+    image.set_heads(parts.heads);
+    Ok(())
 }
 
 /// The image of a draft, with the names to which its numbers belong. The error is want of memory. It takes time in the number
@@ -49,12 +59,7 @@ pub fn image_from(alloc: Global, names: Names, draft: Draft) -> Result<Image, Me
     ensures orderly { IfOk result IsOrderly }
     ensures live { IfOk result AllLive }
 {
-    let parts = draft.into_parts()?;
     let mut image = image_with(alloc, names);
-    let mut table = IndexMap::new(alloc);
-    add_classes(&mut image, &mut table, parts.classes)?;
-    add_methods(&mut image, &table, parts.methods)?;
-    add_doits(&mut image, parts.doits)?;
-    count_heads(&mut image, parts.heads);
+    fill(alloc, &mut image, draft)?;
     Ok(image)
 }

@@ -1,32 +1,12 @@
-use Rattle.std.proofs.Common.{ℕ, ◌<◌, List, length, map, vec_items, sym, ap, subst, ◌∙◌}
-use Rattle.std.specs.List.{AllByRecursion}
-use Rattle.image_model.specs.Image.{ClassOf}
-use Rattle.image_model.specs.ImageNames.{ClassNames, EntryNames, DoItNames}
-use Rattle.image_model.specs.Valid.{SuperclassesStandBefore}
-use Rattle.class_table.specs.declared.record.DoIt.{DoIt}
+use Rattle.std.proofs.Common.{◌≡◌, ◌<◌, length, refl, sym, subst}
+use Rattle.image_model.specs.ImageNames.{ImageNames}
 use Rattle.class_table.specs.Slots.{Slots}
-use Rattle.class_table.specs.View.{doit_of}
-use Rattle.image_draft.specs.declared.method_draft.MethodDraft.{MethodDraft}
-use Rattle.image_draft.specs.Entries.{entry_of}
-use Rattle.image_draft.specs.MethodSlots.{those_there}
+use Rattle.image_draft.specs.Drafted.{image_of}
+use Rattle.image_building.proofs.Blank.{only_names}
 use Rattle.image_building.proofs.build.image_from.Goals as goal
 
-pub add_classes-requires-clause-known : goal.add_classes-requires-clause-known
-add_classes-requires-clause-known c =
-    subst (λ (ns : List (List ℕ)). AllByRecursion (ClassNames (λ n. n < length ns)) c.in_ok-parts.parts.classes.items) (sym (ap (λ (s : Slots). s.names) c.image_with-image.ensures.image))
-    (subst (AllByRecursion (ClassNames (λ n. n < length c.args.names))) (sym c.in_ok-parts.ensures.classes) c.requires.known.classes)
+pub fill-requires-clause-blank : goal.fill-requires-clause-blank
+fill-requires-clause-blank c = subst (λ (s : Slots). s ≡ only_names s.names) (sym c.image_with-image.ensures.image) refl
 
-pub add_classes-requires-clause-superclasses_before : goal.add_classes-requires-clause-superclasses_before
-add_classes-requires-clause-superclasses_before c = subst (λ (cs : List (ClassOf ℕ)). SuperclassesStandBefore cs) (sym c.in_ok-parts.ensures.classes) c.requires.whole.superclasses_before
-
-pub add_methods-requires-clause-known : goal.add_methods-requires-clause-known
-add_methods-requires-clause-known c =
-    let names = ap (λ (s : Slots). s.names) c.in_ok-add_classes.ensures.rest ∙ ap (λ (s : Slots). s.names) c.image_with-image.ensures.image in
-    subst (λ (ns : List (List ℕ)). AllByRecursion (EntryNames (λ n. n < length ns)) (map entry_of (those_there c.in_ok-parts.parts.methods.items))) (sym names)
-    (subst (λ (ms : List MethodDraft). AllByRecursion (EntryNames (λ n. n < length c.args.names)) (map entry_of ms)) (sym c.in_ok-parts.ensures.methods) c.requires.known.methods)
-
-pub add_doits-requires-clause-known : goal.add_doits-requires-clause-known
-add_doits-requires-clause-known c =
-    let names = ap (λ (s : Slots). s.names) c.in_ok-add_methods.ensures.rest ∙ ap (λ (s : Slots). s.names) c.in_ok-add_classes.ensures.rest ∙ ap (λ (s : Slots). s.names) c.image_with-image.ensures.image in
-    subst (λ (ns : List (List ℕ)). AllByRecursion (DoItNames (λ n. n < length ns)) (map doit_of c.in_ok-parts.parts.doits.items)) (sym names)
-    (subst (λ (ds : List DoIt). AllByRecursion (DoItNames (λ n. n < length c.args.names)) (map doit_of ds)) (sym (ap vec_items c.in_ok-parts.ensures.doits)) c.requires.known.doits)
+pub fill-requires-clause-known : goal.fill-requires-clause-known
+fill-requires-clause-known c = subst (λ (s : Slots). ImageNames (λ n. n < length s.names) (image_of c.args.draft)) (sym c.image_with-image.ensures.image) c.requires.known
