@@ -9,11 +9,9 @@ ghost use Rattle.pattern_faults.specs.Told.{cause_of, IsRefused, IsRefusedRule};
 
 use crate::fault::{PatternFault, RuleFault};
 use crate::lists::{Search, walk_node};
-use crate::places::meta_places;
-use crate::searching::{first_again, first_unknown, placed_metas};
+use crate::searching::{first_again, first_unknown, metas_in, metas_of};
 use event_spans::Places;
 use event_trees::build_doit;
-use pattern_match::put_metas;
 use pattern_trees::pattern_of;
 use patterns::{Pattern, Rule};
 use rb_base::Names;
@@ -51,6 +49,33 @@ pub fn read_pattern(alloc: Global, text: &[u8], names: &mut Names) -> Result<Pat
     Ok(pattern)
 }
 
+/// Whether the metavariables of a replacement, which a text says, are those of the pattern that it replaces, and none that is
+/// doubled there stands twice.
+fn judge_metas(
+    alloc: Global,
+    names: &Names,
+    pattern: &Pattern,
+    replacement: &Pattern,
+    text: &[u8],
+) -> Result<(), PatternFault>
+    requires pattern { PatternNames (λ n. n < length names.now) pattern.now }
+    requires replacement { PatternNames (λ n. n < length names.now) replacement.now }
+    requires said { SaysPattern text.now (map_pattern (name_at names.now) replacement.now) }
+    ensures said { IfOk result (λ _. SaysReplacement (map_pattern (name_at names.now) pattern.now) text.now (map_pattern (name_at names.now) replacement.now)) }
+    ensures fault { IfErr result (λ f. MatchOption (cause_of f) (Unit {0}) (IsRefusedReplacement (map_pattern (name_at names.now) pattern.now) text.now)) }
+{
+    let _ = names.len();
+    let known = metas_of(alloc, pattern)?;
+    let placed = metas_in(alloc, replacement, text)?;
+    if let Some(at) = first_unknown(&known, &placed) {
+        return Err(PatternFault::UnboundInReplacement { at });
+    }
+    if let Some(at) = first_again(alloc, &known, &placed)? {
+        return Err(PatternFault::TwiceDoubled { at });
+    }
+    Ok(())
+}
+
 /// The pattern that the text of a replacement says: its metavariables are those of the pattern that it replaces, and none
 /// that is doubled there stands twice.
 ///
@@ -70,21 +95,7 @@ fn read_replacement(
     ensures grows { Grows names.old names.new }
 {
     let replacement = read_pattern(alloc, text, names)?;
-    let _ = names.len();
-    let Some(places) = meta_places(alloc, text)? else {
-        unreachable!()
-    };
-    let mut known = Vec::new(alloc);
-    put_metas(pattern, &mut known)?;
-    let mut metas = Vec::new(alloc);
-    put_metas(&replacement, &mut metas)?;
-    let placed = placed_metas(alloc, &metas, &places)?;
-    if let Some(at) = first_unknown(&known, &placed) {
-        return Err(PatternFault::UnboundInReplacement { at });
-    }
-    if let Some(at) = first_again(alloc, &known, &placed)? {
-        return Err(PatternFault::TwiceDoubled { at });
-    }
+    judge_metas(alloc, names, pattern, &replacement, text)?;
     Ok(replacement)
 }
 

@@ -1,13 +1,18 @@
 // Faults of the metavariables of a replacement.
-ghost use Rattle.std.specs.Prelude.{◌≡◌, ◌&&◌, [], nat_eq, filter, map, IfOk};
+ghost use Rattle.std.specs.Prelude.{◌≡◌, ◌&&◌, List, [], false, nat_eq, filter, map, IfOk};
 ghost use Rattle.std.specs.List.{list_any};
+ghost use Rattle.token_model.specs.declared.kind.Dialect.TheVariants.{Second};
+ghost use Rattle.grammar_model.specs.Input.{Lexeme};
+ghost use Rattle.grammar_model.specs.PatternTokens.{IsPatternLexed};
+ghost use Rattle.pattern_model.specs.Patterns.{metas};
 ghost use Rattle.pattern_model.specs.Bindings.{same_meta};
 ghost use Rattle.patterns.specs.View.{meta_of};
-ghost use Rattle.pattern_trees.specs.Faults.{at_places, is_doubled_among, first_unknown, first_again};
+ghost use Rattle.pattern_trees.specs.Faults.{at_places, is_doubled_among, first_unknown, first_again, meta_places};
 ghost use Rattle.pattern_faults.specs.Placed.{meta_at};
 
-use pattern_match::same_meta;
-use patterns::Meta;
+use crate::places::meta_places;
+use pattern_match::{put_metas, same_meta};
+use patterns::{Meta, Pattern};
 use rb_base::Memory;
 use std::alloc::Global;
 
@@ -18,12 +23,17 @@ pub(crate) struct PlacedMeta {
     pub(crate) from: usize,
 }
 
+/// The metavariables of a pattern, in the order of the text.
+pub(crate) fn metas_of(alloc: Global, pattern: &Pattern) -> Result<Vec<Meta>, Memory>
+    ensures { IfOk result (λ ms. map meta_of ms.items ≡ metas pattern.now) }
+{
+    let mut found = Vec::new(alloc);
+    put_metas(pattern, &mut found)?;
+    Ok(found)
+}
+
 /// Metavariables in the order of a text, each with its place.
-pub(crate) fn placed_metas(
-    alloc: Global,
-    metas: &[Meta],
-    places: &[usize],
-) -> Result<Vec<PlacedMeta>, Memory>
+fn placed_metas(alloc: Global, metas: &[Meta], places: &[usize]) -> Result<Vec<PlacedMeta>, Memory>
     ensures { IfOk result (λ placed. map meta_at placed.items ≡ at_places (map meta_of metas.now) places.now) }
 {
     let mut placed = Vec::new(alloc);
@@ -36,6 +46,23 @@ pub(crate) fn placed_metas(
         placed.push(PlacedMeta { meta: *meta, from })?;
         rest = others;
     }
+    Ok(placed)
+}
+
+/// The metavariables of a pattern in the order of its text, each with its place.
+pub(crate) fn metas_in(
+    alloc: Global,
+    pattern: &Pattern,
+    text: &[u8],
+) -> Result<Vec<PlacedMeta>, Memory>
+    requires { (tokens : List Lexeme) × IsPatternLexed Second text.now tokens }
+    ensures { IfOk result (λ placed. (tokens : List Lexeme) → IsPatternLexed Second text.now tokens → map meta_at placed.items ≡ at_places (metas pattern.now) (meta_places false tokens)) }
+{
+    let Some(places) = meta_places(alloc, text)? else {
+        unreachable!()
+    };
+    let metas = metas_of(alloc, pattern)?;
+    let placed = placed_metas(alloc, &metas, &places)?;
     Ok(placed)
 }
 

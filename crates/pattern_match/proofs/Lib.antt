@@ -7,3 +7,4 @@ pub mod Matched
 pub mod Numbers
 pub mod Searched
 pub mod FirstBindings
+mod Listed

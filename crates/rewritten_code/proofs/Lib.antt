@@ -7,3 +7,4 @@ pub mod Written
 pub mod Matching
 pub mod NodeKinds
 pub mod Bodies
+pub mod LiteralWeights

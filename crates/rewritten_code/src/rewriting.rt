@@ -60,7 +60,7 @@ fn binding_for(single: bool, meta: Meta, bound: Bound) -> Binding
 }
 
 /// A copy of a literal's node.
-pub(crate) fn literal_node(alloc: Global, value: &Literal) -> Result<Node, Memory>
+fn literal_node(alloc: Global, value: &Literal) -> Result<Node, Memory>
     ensures { IfOk result (λ made. made ≡ literal value.now) }
 {
     let value = value.try_copy(alloc)?;
@@ -457,8 +457,8 @@ fn rewritten_statements(
 {
     let mut made = Vec::new(alloc);
     for statement in statements {
-        let node = rewritten_node(alloc, names, rule, plan, &statement.node)?;
         let comments = statement.comments.try_copy(alloc)?;
+        let node = rewritten_node(alloc, names, rule, plan, &statement.node)?;
         made.push(Statement { comments, node })?;
     }
     Ok(Statements::from_vec(made))
@@ -566,7 +566,7 @@ pub fn rewrite_body(
     let mut wanted = Vec::new(alloc);
     put_metas(&rule.replacement, &mut wanted)?;
     let statements = body.statements.as_slice();
-    let may_be_high = may_be_high(alloc, statements, &rule.replacement)?;
+    let may_be_high = may_be_high(statements, &rule.replacement);
     let plan = Plan {
         wanted,
         may_be_high,

@@ -313,3 +313,81 @@ filled_sequence-returns-clause-filled t c = λ final g bs j k.
     let h : length ps ≤ l.statement-index = subst (λ (ys : List PatternStatement). length ys ≤ l.statement-index) all c.loop-statement-test.false in
     subst (λ (ss : List Statement). IsSequenceFilled final bs (statements_from ps) c.args.body.now.tail (statements_of ss) c.in_ok-whole.whole.waiting) (sym c.from_vec.ensures)
     (made_all final bs (statements_from ps) c.args.body.now.tail ps l.statement-index h (state_of l.made) (state_of c.in_ok-whole.whole) (l.invariant.filled final g bs j k) c.in_ok-whole.ensures)
+
+pub filled_node-returns-in-Meta-clause-grows : goal.filled_node-returns-in-Meta-clause-grows
+filled_node-returns-in-Meta-clause-grows t c = Grows-none c.args.names.now
+
+pub filled_node-returns-in-Var-clause-grows : goal.filled_node-returns-in-Var-clause-grows
+filled_node-returns-in-Var-clause-grows t c = Grows-none c.args.names.now
+
+pub filled_node-returns-in-Literal-clause-grows : goal.filled_node-returns-in-Literal-clause-grows
+filled_node-returns-in-Literal-clause-grows t c = Grows-none c.args.names.now
+
+pub filled_send-returns-in_err-made-clause-left : goal.filled_send-returns-in_err-made-clause-left
+filled_send-returns-in_err-made-clause-left t c = λ bs h. c.filled_message.ensures.left bs (c.boxed_node.ensures.left bs h)
+
+pub filled_send-returns-in_err-made-clause-grows : goal.filled_send-returns-in_err-made-clause-grows
+filled_send-returns-in_err-made-clause-grows t c = Grows-twice c.boxed_node.ensures.grows c.filled_message.ensures.grows
+
+pub filled_send-returns-clause-left : goal.filled_send-returns-clause-left
+filled_send-returns-clause-left t c = λ bs h. c.filled_message.ensures.left bs (c.boxed_node.ensures.left bs h)
+
+pub filled_send-returns-clause-grows : goal.filled_send-returns-clause-grows
+filled_send-returns-clause-grows t c = Grows-twice c.boxed_node.ensures.grows c.filled_message.ensures.grows
+
+pub filled_cascade-returns-in_err-messages-clause-left : goal.filled_cascade-returns-in_err-messages-clause-left
+filled_cascade-returns-in_err-messages-clause-left t c = λ bs h. c.filled_messages.ensures.left bs (c.boxed_node.ensures.left bs h)
+
+pub filled_cascade-returns-in_err-messages-clause-grows : goal.filled_cascade-returns-in_err-messages-clause-grows
+filled_cascade-returns-in_err-messages-clause-grows t c = Grows-twice c.boxed_node.ensures.grows c.filled_messages.ensures.grows
+
+pub filled_cascade-returns-clause-left : goal.filled_cascade-returns-clause-left
+filled_cascade-returns-clause-left t c = λ bs h. c.filled_messages.ensures.left bs (c.boxed_node.ensures.left bs h)
+
+pub filled_cascade-returns-clause-grows : goal.filled_cascade-returns-clause-grows
+filled_cascade-returns-clause-grows t c = Grows-twice c.boxed_node.ensures.grows c.filled_messages.ensures.grows
+
+pub filled_message-returns-in_err-arguments-in_default-clause-grows : goal.filled_message-returns-in_err-arguments-in_default-clause-grows
+filled_message-returns-in_err-arguments-in_default-clause-grows t c = Grows-twice c.filled_selector.ensures.grows c.filled_nodes.ensures.grows
+
+pub filled_message-returns-in_ok-arguments-in_default-clause-grows : goal.filled_message-returns-in_ok-arguments-in_default-clause-grows
+filled_message-returns-in_ok-arguments-in_default-clause-grows t c = Grows-twice c.filled_selector.ensures.grows c.filled_nodes.ensures.grows
+
+pub filled_nodes-returns-in_err-node-clause-left : goal.filled_nodes-returns-in_err-node-clause-left
+filled_nodes-returns-in_err-node-clause-left t c = λ bs h. c.filled_node.ensures.left bs (c.loop-pattern.invariant.left bs h)
+
+pub filled_nodes-returns-in_err-node-clause-grows : goal.filled_nodes-returns-in_err-node-clause-grows
+filled_nodes-returns-in_err-node-clause-grows t c = Grows-twice c.loop-pattern.invariant.grows c.filled_node.ensures.grows
+
+pub filled_nodes-returns-in_err-push-clause-left : goal.filled_nodes-returns-in_err-push-clause-left
+filled_nodes-returns-in_err-push-clause-left t c = λ bs h. c.filled_node.ensures.left bs (c.loop-pattern.invariant.left bs h)
+
+pub filled_nodes-returns-in_err-push-clause-grows : goal.filled_nodes-returns-in_err-push-clause-grows
+filled_nodes-returns-in_err-push-clause-grows t c = Grows-twice c.loop-pattern.invariant.grows c.filled_node.ensures.grows
+
+pub filled_messages-returns-in_err-message-clause-left : goal.filled_messages-returns-in_err-message-clause-left
+filled_messages-returns-in_err-message-clause-left t c = λ bs h. c.filled_message.ensures.left bs (c.loop-pattern.invariant.left bs h)
+
+pub filled_messages-returns-in_err-message-clause-grows : goal.filled_messages-returns-in_err-message-clause-grows
+filled_messages-returns-in_err-message-clause-grows t c = Grows-twice c.loop-pattern.invariant.grows c.filled_message.ensures.grows
+
+pub filled_messages-returns-in_err-push-clause-left : goal.filled_messages-returns-in_err-push-clause-left
+filled_messages-returns-in_err-push-clause-left t c = λ bs h. c.filled_message.ensures.left bs (c.loop-pattern.invariant.left bs h)
+
+pub filled_messages-returns-in_err-push-clause-grows : goal.filled_messages-returns-in_err-push-clause-grows
+filled_messages-returns-in_err-push-clause-grows t c = Grows-twice c.loop-pattern.invariant.grows c.filled_message.ensures.grows
+
+pub put_statement-returns-in_err-made-in-Some-clause-grows : goal.put_statement-returns-in_err-made-in-Some-clause-grows
+put_statement-returns-in_err-made-in-Some-clause-grows t c = Grows-none c.args.names.now
+
+pub put_statement-returns-in_err-run-in-Some-clause-grows : goal.put_statement-returns-in_err-run-in-Some-clause-grows
+put_statement-returns-in_err-run-in-Some-clause-grows t c = Grows-none c.args.names.now
+
+pub put_statement-returns-in_ok-run-in-Some-clause-grows : goal.put_statement-returns-in_ok-run-in-Some-clause-grows
+put_statement-returns-in_ok-run-in-Some-clause-grows t c = Grows-none c.args.names.now
+
+pub filled_sequence-returns-in_err-made-clause-left : goal.filled_sequence-returns-in_err-made-clause-left
+filled_sequence-returns-in_err-made-clause-left t c = λ bs h. c.put_statement.ensures.left bs (c.loop-statement.invariant.left bs h)
+
+pub filled_sequence-returns-in_err-made-clause-grows : goal.filled_sequence-returns-in_err-made-clause-grows
+filled_sequence-returns-in_err-made-clause-grows t c = Grows-twice c.loop-statement.invariant.grows c.put_statement.ensures.grows

@@ -9,16 +9,23 @@ use Rattle.pattern_model.specs.MatchTree.{PlaceOf}
 use Rattle.pattern_model.specs.Search.{searched_in, found_among, found}
 use Rattle.pattern_match.specs.declared.standing.Place.{Place}
 use Rattle.pattern_match.specs.Gathering.{place_of, kept}
-use Rattle.pattern_match.specs.Parts.{placed_parts, searched_height, onward}
+use Rattle.pattern_match.specs.Parts.{placed_parts, parts_height, searched_height, onward}
 use Rattle.pattern_match.specs.Words.{number_words}
-use Rattle.pattern_match.proofs.Searched.{part_more, place_more, parts_kept, lower_match, found_none, found_some, path_first, on_ok, match_parts}
+use Rattle.pattern_match.proofs.Searched.{part_low, place_low, part_more, place_more, parts_kept, lower_match, found_none, found_some, path_first, on_ok, match_parts}
 use Rattle.pattern_match.proofs.searching.+finding.Goals as goal
+
+pub search_places-search_parts-requires : goal.search_places-search_parts-requires
+search_places-search_parts-requires t c =
+    (omega (arith, place_low c.args.places.now c.loop-place.place-index c.place-item.result c.loop-place-test.true c.place-item.is, ap parts_height c.deref.ensures.value), tt)
 
 pub search_places-loop-place-preserved : goal.search_places-loop-place-preserved
 search_places-loop-place-preserved t c =
     let l = c.loop-place in
     place_more (found (number_words c.args.names.now) c.args.pattern.now) c.args.path.now c.args.places.now c.place-item.result l.place-index l.out.items c.search_parts.new.out.items _ c.loop-place-test.true c.place-item.is
     (first_of (search rules, cc)) l.invariant
+
+pub search_parts-search_node-requires : goal.search_parts-search_node-requires
+search_parts-search_node-requires t c = (omega (arith, part_low c.args.parts.now c.loop-part.part-index c.part-item.result c.loop-part-test.true c.part-item.is), tt)
 
 pub search_parts-loop-part-preserved : goal.search_parts-loop-part-preserved
 search_parts-loop-part-preserved t c =

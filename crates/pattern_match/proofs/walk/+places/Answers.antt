@@ -12,10 +12,11 @@ use Rattle.pattern_model.specs.MatchTree.{FoundOf, placed, numbered_statements, 
 use Rattle.patterns.specs.View.{meta_of, keyword_of, selector_of, patterns_of, messages_from, statements_from}
 use Rattle.patterns.specs.declared.tree.PatternMessage.{PatternMessage}
 use Rattle.patterns.specs.declared.tree.PatternStatement.{PatternStatement}
+use Rattle.patterns.proofs.Weights.{weight-pattern, weight-message_like, weight-statement_like}
 use Rattle.pattern_match.specs.Words.{number_words}
 use Rattle.pattern_match.specs.Gathering.{State, place_of, state_of, reached, gathered}
 use Rattle.pattern_match.proofs.Gathered.{go_on, stop, child, popped, goes_on, stops, finishes}
-use Rattle.pattern_match.proofs.Walked.{trees_next, trees_end, trees_left, turn_next, AsLong, keywords_apart, one_message, messages_next, messages_end, messages_left, statements_run, statements_one, statements_end, statements_left}
+use Rattle.pattern_match.proofs.Walked.{trees_next, trees_short, trees_end, trees_left, turn_next, AsLong, keywords_apart, one_message, messages_next, messages_short, messages_end, messages_left, statements_run, statements_one, statements_end, statements_left}
 use Rattle.pattern_match.proofs.walk.+places.Goals as goal
 use Rattle.pattern_match.proofs.walk.+places.Goals.{statements_places-in-Some+in_ok-put_run-in-Some+in_ok-step-in-Some, statements_places-in-None+in-Some-split_first+in_ok-child_places-in-None+else-not-branch+in_ok-step-in-None, message_places-then-len-count-via-then-len-count, message_places-then-len-count-via-else-len-count+then-patterns-count, message_places-then-len-count-via-else-len-count+else-patterns-count+then-len-count-2}
 
@@ -52,6 +53,15 @@ cascade_places-returns-else-fits t c =
     stop (state_of c.args.walk.now) (state_of c.child_places.new.walk) (deeper 0 (places (number_words c.args.names.now) c.args.receiver.now c.args.node.now)) _
     (ap (λ b. reached b (state_of c.child_places.new.walk)) (sym c.if-fits.false) ∙ c.in_ok-fits.ensures)
 
+pub nodes_places-returns-in_default : goal.nodes_places-returns-in_default
+nodes_places-returns-in_default t c =
+    let l = c.loop-pattern in
+    sym (ap (gathered (state_of l.walk)) (trees_short (number_words c.args.names.now) c.args.patterns.now l.step l.pattern-index c.pattern-item.result l.rest.now c.loop-pattern-test.true c.pattern-item.is (rw c.in_default.is at c.split_first.ensures.cases)))
+    ∙ l.invariant
+
+pub nodes_places-child_places-requires : goal.nodes_places-child_places-requires
+nodes_places-child_places-requires t c = (omega (arith, weight-pattern c.args.patterns.now c.loop-pattern.pattern-index c.pattern-item.result c.loop-pattern-test.true c.pattern-item.is), tt)
+
 pub nodes_places-loop-pattern-preserved : goal.nodes_places-loop-pattern-preserved
 nodes_places-loop-pattern-preserved t c =
     let l = c.loop-pattern in
@@ -79,6 +89,9 @@ nodes_places-returns t c =
     finishes (state_of l.walk) (trees_places w l.step (patterns_of (drop l.pattern-index c.args.patterns.now)) (trees_of l.rest.now)) _ l.invariant
     c.is_empty.result (length l.rest.now) c.is_empty.ensures
     (trees_end w c.args.patterns.now l.step l.pattern-index l.rest.now c.loop-pattern-test.false) (trees_left w c.args.patterns.now l.step l.pattern-index l.rest.now c.loop-pattern-test.false)
+
+pub places_in_turn-child_places-requires : goal.places_in_turn-child_places-requires
+places_in_turn-child_places-requires t c = (omega (arith, weight-pattern c.args.patterns.now c.loop-node.at c.index-patterns-at.result (omega arith) c.index-patterns-at.is), tt)
 
 pub places_in_turn-loop-node-preserved : goal.places_in_turn-loop-node-preserved
 places_in_turn-loop-node-preserved t c =
@@ -126,6 +139,15 @@ message_places-returns-then-len-count t c =
     ] in
     ap (gathered (state_of c.args.walk.now))
     (sym (keywords_apart w (selector_of m.selector) c.in-Keywords.keywords.items c.args.selector m.arguments.items c.args.arguments.now c.in-Some.texts.items c.args.first (first_of (search rules, cc)) (first_of (search rules, cc)) apart))
+
+pub messages_places-returns-in_default : goal.messages_places-returns-in_default
+messages_places-returns-in_default t c =
+    let l = c.loop-pattern in
+    sym (ap (gathered (state_of l.walk)) (messages_short (number_words c.args.names.now) c.args.patterns.now l.step l.pattern-index c.pattern-item.result l.rest.now c.loop-pattern-test.true c.pattern-item.is (rw c.in_default.is at c.split_first.ensures.cases)))
+    ∙ l.invariant
+
+pub messages_places-message_places-requires : goal.messages_places-message_places-requires
+messages_places-message_places-requires t c = (omega (arith, weight-message_like c.args.patterns.now c.loop-pattern.pattern-index c.pattern-item.result c.loop-pattern-test.true c.pattern-item.is), tt)
 
 pub messages_places-loop-pattern-preserved : goal.messages_places-loop-pattern-preserved
 messages_places-loop-pattern-preserved t c =
@@ -207,6 +229,9 @@ statements_places-loop-pattern-preserved t c =
                 v.if-not-branch.false v.in_ok-child_places-in-None.ensures)
           ];
     }
+
+pub statements_places-child_places-requires : goal.statements_places-child_places-requires
+statements_places-child_places-requires t c = (omega (arith, weight-statement_like c.args.patterns.now c.loop-pattern.pattern-index c.pattern-item.result c.loop-pattern-test.true c.pattern-item.is), tt)
 
 pub statements_places-returns : goal.statements_places-returns
 statements_places-returns t c =
