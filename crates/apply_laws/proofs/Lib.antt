@@ -1,4 +1,4 @@
-mod SpelledRequests
+pub mod SpelledRequests
 mod SpelledLiterals
 mod Kept
 mod SomeAnswer

@@ -2,7 +2,7 @@
 use Rattle.std.proofs.Common.{◌≡◌, ℕ, ◌+◌, suc, List, [], ◌∷◌, ◌++◌, length, Result, Ok, Err, refl, sym, ap, ◌∙◌, arith}
 use Rattle.history_model.specs.Rules.{RulesOf, RequestOf, Perform, Undo, Redo}
 use Rattle.history_model.specs.History.{VersionOf, HistoryOf, by_result, appended, after_action, stepped}
-use Rattle.history_model.specs.Verdicts.{RefusalOf, judged_from, verdict}
+use Rattle.history_model.specs.Verdicts.{judged_from, verdict}
 
 module _ {I C X Q R : Type 0} (rules : RulesOf I C X Q R) where
   -- where a script is accepted, so is its first part, and the second one in the history after that

@@ -12,7 +12,6 @@ use Rattle.apply_model.specs.declared.status.Status as applied
 use Rattle.apply_model.specs.declared.status.Status.TheVariants as verdict
 use Rattle.apply_model.specs.Applied.{AppliesIn, NoScript, Refused, Accepted}
 use Rattle.apply_model.specs.Applied as model
-use Rattle.image_forms.specs.declared.status.Status.{Status}
 use Rattle.image_forms.specs.declared.status.Status.TheVariants as status
 use Rattle.image_forms.specs.ImageLines.{image_refusal}
 use Rattle.image_forms.specs.Answers.{Applies, status_applied}

@@ -1,4 +1,4 @@
--- The words of a call that performs a script, and the bytes of its files.
+-- The words of calls, and the bytes of their files.
 use Rattle.std.specs.Prelude.{ℕ, List, [], ◌∷◌, codes}
 use Rattle.rb_base.specs.Outside.{MayGive}
 use Rattle.image_forms.specs.Loads.{World}
@@ -8,6 +8,14 @@ use Rattle.image_forms.specs.Answers.{image_limit, script_limit}
 abbrev pub apply_words : List ℕ → List ℕ → List (List ℕ)
 apply_words image script = codes "apply" ∷ image ∷ script ∷ []
 
+-- `strip IMAGE EXPRESSION`
+abbrev pub strip_words : List ℕ → List ℕ → List (List ℕ)
+strip_words image expression = codes "strip" ∷ image ∷ expression ∷ []
+
+-- `format IMAGE`
+abbrev pub format_words : List ℕ → List (List ℕ)
+format_words image = codes "format" ∷ image ∷ []
+
 -- the outside gives these bytes of the two files, each within its limit, and the fact holds of them
 pub record AreGiven (w : World) (image script : List ℕ) (Fact : List ℕ → List ℕ → Type 0) : Type 0 where
   pub text : List ℕ
@@ -15,3 +23,9 @@ pub record AreGiven (w : World) (image script : List ℕ) (Fact : List ℕ → L
   pub commands : List ℕ
   pub commands_given : MayGive (w.told script) script_limit commands
   pub fact : Fact text commands
+
+-- the outside gives these bytes of a file with an image, within its limit, and the fact holds of them
+pub record IsGiven (w : World) (image : List ℕ) (Fact : List ℕ → Type 0) : Type 0 where
+  pub text : List ℕ
+  pub given : MayGive (w.told image) image_limit text
+  pub fact : Fact text

@@ -50,7 +50,7 @@ same-reached : (t u : TreeOf Mark) → SameBare t u → IsReached (pattern_marke
 same-reached t u e = reached-then (one-step (to-bare t)) (one-step (subst (λ (x : TreeOf Mark). Stepped (pattern_marked x) (pattern_marked u)) (sym e) (from-bare u)))
 
 -- what is bound is fit, where all bindings are
-bound-fit : (bs : List (BindingOf Mark)) → list_all (λ (x : BindingOf Mark). is_fit x.bound) bs ≡ true → (k : MetaKind) (n : Text) → is_fit (bound_of is_same_mark bs (of_law k n)) ≡ true
+pub bound-fit : (bs : List (BindingOf Mark)) → list_all (λ (x : BindingOf Mark). is_fit x.bound) bs ≡ true → (k : MetaKind) (n : Text) → is_fit (bound_of is_same_mark bs (of_law k n)) ≡ true
 bound-fit [] e k n = refl
 bound-fit (b ∷ bs) e k n =
     let h = and_parts (is_fit b.bound) (list_all (λ (x : BindingOf Mark). is_fit x.bound) bs) e in

@@ -112,7 +112,7 @@ module _ (bound : MetaOf Name → BoundOf Name) (joined : List (List ℕ) → Na
         λ i. noted c (line-alike p (filled-alike p) (λ j. (rest j).0) i) (rest i).1
 
 -- what a metavariable is bound to does not depend on whether it is doubled
-bound-alike : (same : Name → Name → Bool) (bs : List (BindingOf Name)) (m : MetaOf Name) → bound_of same bs (undoubled m.kind m.name) ≡ bound_of same bs m
+pub bound-alike : (same : Name → Name → Bool) (bs : List (BindingOf Name)) (m : MetaOf Name) → bound_of same bs (undoubled m.kind m.name) ≡ bound_of same bs m
 bound-alike same [] m = refl
 bound-alike same (b ∷ bs) m = ap (λ (x : BoundOf Name). if same_meta same b.meta m then b.bound else x) (bound-alike same bs m)
 

@@ -93,7 +93,7 @@ all-back = (
 )
 
 -- what holds of each law holds of the law of a number
-numbered : (P : PatternOf Text × PatternOf Text → Type 0) (n : ℕ) (ls : List (PatternOf Text × PatternOf Text)) (l : PatternOf Text × PatternOf Text) → AllByRecursion P ls → numbered_law n ls ≡ Some l → P l
+pub numbered : (P : PatternOf Text × PatternOf Text → Type 0) (n : ℕ) (ls : List (PatternOf Text × PatternOf Text)) (l : PatternOf Text × PatternOf Text) → AllByRecursion P ls → numbered_law n ls ≡ Some l → P l
 numbered P n [] l all e = let bad : ⊥ = cc in absurd bad
 numbered P n (x ∷ xs) l all e = by (nat_eq n 1) e (λ f. numbered P (n - 1) xs l all.1 f)
   where

@@ -48,7 +48,7 @@ one_less p (x ∷ xs) h = by (p x) h (shorter p xs) (λ k. one_less p xs k)
     by true k l rest = omega (arith, l)
     by false k l rest = omega (arith, rest k)
 
-no_longer : {X : Type 0} (alike : X → X → Bool) → ((x y : X) → alike x y ≡ true → alike y x ≡ true) → ((x y z : X) → alike x y ≡ true → alike y z ≡ true → alike x z ≡ true) → (xs ys : List X) → AreApart alike xs → ((x : X) → Has x xs → is_among alike ys x ≡ true) → length xs ≤ length ys
+pub no_longer : {X : Type 0} (alike : X → X → Bool) → ((x y : X) → alike x y ≡ true → alike y x ≡ true) → ((x y z : X) → alike x y ≡ true → alike y z ≡ true → alike x z ≡ true) → (xs ys : List X) → AreApart alike xs → ((x : X) → Has x xs → is_among alike ys x ≡ true) → length xs ≤ length ys
 no_longer alike back through [] ys apart known = omega arith
 no_longer alike back through (x ∷ xs) ys apart known =
     let rest = no_longer alike back through xs (filter (λ y. not (alike x y)) ys) apart.1 left in

@@ -21,7 +21,7 @@ one_place_back (Some j) (Some k) = by (j == k) (k == j) refl refl
     by true false e f = absurd (true≢false (sym (eq-eqb k j (sym (eqb-true j k e))) ∙ f))
     by false true e f = absurd (true≢false (sym (eq-eqb j k (sym (eqb-true k j f))) ∙ e))
 
-one_place_is : (n : ℕ) (k : Option ℕ) → is_one_place (Some n) k ≡ true → k ≡ Some n
+pub one_place_is : (n : ℕ) (k : Option ℕ) → is_one_place (Some n) k ≡ true → k ≡ Some n
 one_place_is n None h = absurd (true≢false (sym h))
 one_place_is n (Some k) h = ap Some (sym (eqb-true n k h))
 
@@ -140,7 +140,7 @@ module _ {X : Type 0} where
     pub at : slice_get xs n ≡ Some item
     pub passes : p item ≡ true
 
-  place_found : (p : X → Bool) (xs : List X) (n : ℕ) → place_of p xs ≡ Some n → IsFoundAt p xs n
+  pub place_found : (p : X → Bool) (xs : List X) (n : ℕ) → place_of p xs ≡ Some n → IsFoundAt p xs n
   place_found p [] n e = absurd (cc)
   place_found p (x ∷ xs) n e = by (p x) refl e (λ k f. place_found p xs k f)
     where

@@ -22,7 +22,7 @@ use Rattle.change_laws.proofs.Tests.{namesake_same, class_same}
 use Rattle.change_laws.proofs.Rest.{class_there}
 use Rattle.change_laws.proofs.WholeChange.{makes}
 
-one_with_itself : (o : Option ℕ) → is_one_place o o ≡ true
+pub one_with_itself : (o : Option ℕ) → is_one_place o o ≡ true
 one_with_itself None = refl
 one_with_itself (Some k) = eq-eqb k k refl
 

@@ -1,5 +1,7 @@
 pub mod OrderLemmas
 pub mod TableLemmas
+pub mod Held
+pub mod Known
 pub mod Walks
 pub mod Live
 pub mod Found

@@ -4,9 +4,11 @@ ghost use Rattle.std.specs.Prelude.{◌≡◌, ◌∷◌, ◌++◌, [], length, 
 use crate::image::Image;
 use crate::record::{ClassId, ClassRec, DoIt, MethodRec, MethodSlot};
 use crate::room::push_in_room;
+use crate::tables::MethodKey;
 
 impl Image {
     /// Adds a class in a new slot, which is live and last. The error is want of memory and hands the class back.
+    #[tactic(auto, using(crate::proofs::Known::before_classes, crate::proofs::Known::added_classes))]
     pub fn add_class(&mut self, rec: ClassRec) -> Result<ClassId, ClassRec>
         ensures slot { IfOk result (λ id. id ≡ length self.old.classes) }
         ensures ok { OnOk result (self.new ≡ record self.old { classes = self.old.classes ++ rec ∷ []; class_order = self.old.class_order ++ length self.old.classes ∷ [] }) }
@@ -19,7 +21,8 @@ impl Image {
         match self.class_order.add() {
             Err(_) => Err(rec),
             Ok(id) => {
-                self.ready = false;
+                self.by_name
+                    .enter(&self.classes, &self.class_order, id, rec.name);
                 push_in_room(&mut self.classes, rec);
                 Ok(id)
             }
@@ -27,6 +30,7 @@ impl Image {
     }
 
     /// Adds a method in a new slot, which is live and last. The error is want of memory and hands the method back.
+    #[tactic(auto, using(crate::proofs::Known::before_methods, crate::proofs::Known::added_methods))]
     pub fn add_method(&mut self, rec: MethodRec) -> Result<MethodSlot, MethodRec>
         ensures slot { IfOk result (λ slot. slot ≡ length self.old.methods) }
         ensures ok { OnOk result (self.new ≡ record self.old { methods = self.old.methods ++ rec ∷ []; method_order = self.old.method_order ++ length self.old.methods ∷ [] }) }
@@ -39,7 +43,7 @@ impl Image {
         match self.method_order.add() {
             Err(_) => Err(rec),
             Ok(slot) => {
-                self.ready = false;
+                self.by_key.add(&self.methods, &self.method_order, slot, MethodKey::of(&rec));
                 push_in_room(&mut self.methods, rec);
                 Ok(slot)
             }

@@ -5,7 +5,7 @@ ghost use Rattle.class_table.specs.Finding.{named_in, method_in, only_live, abov
 
 use crate::image::Image;
 use crate::record::{ClassId, ClassIds, MethodSlot};
-use crate::tables::{MethodKey, class_table, find_class, find_method, method_table};
+use crate::tables::MethodKey;
 use crate::tree::classes_below;
 use rb_base::{Memory, NameId};
 
@@ -14,37 +14,33 @@ impl Image {
     pub fn class_named(&self, name: NameId) -> Option<ClassId>
         ensures { result ≡ named_in self.now.classes self.now.class_order name }
     {
-        if self.ready {
-            self.by_name.get(&name.0).copied()
-        } else {
-            find_class(&self.classes, self.class_order.items(), name)
-        }
+        self.by_name.find(&self.classes, &self.class_order, name)
     }
 
     /// The first live method of a class, a side and a selector.
     pub(crate) fn method_of(&self, key: MethodKey) -> Option<MethodSlot>
         ensures { result ≡ method_in self.now.methods self.now.method_order key }
     {
-        if self.ready {
-            self.by_key.get(&key).copied()
-        } else {
-            find_method(&self.methods, self.method_order.items(), key)
-        }
+        self.by_key.find(&self.methods, &self.method_order, key)
     }
 
-    /// Makes the tables by which classes and methods are found at once, if they are not there. Each change of a class
-    /// or a method takes them away, and then classes and methods are searched for in the order of the live ones.
+    /// The method of a class itself on a side for a selector, if it has one.
+    pub fn own_method(&self, class: ClassId, meta: bool, selector: NameId) -> Option<MethodSlot>
+        ensures { result ≡ method_in self.now.methods self.now.method_order (record { class = class; meta = meta; selector = selector }) }
+    {
+        self.method_of(MethodKey::new(class, meta, selector))
+    }
+
+    /// Makes the tables by which classes and methods are found at once, if they are not ready. Each change of a class or a
+    /// method is entered in them. They are no longer ready where two live classes come to have one name, or two live methods
+    /// one key, or there is no room for an entry; then classes or methods are searched for in the order of the live ones.
     pub fn reindex(&mut self) -> Result<(), Memory>
         ensures { self.new ≡ self.old }
     {
-        if !self.ready {
-            let by_name = class_table(self.alloc, &self.classes, self.class_order.items())?;
-            let by_key = method_table(self.alloc, &self.methods, self.method_order.items())?;
-            self.by_name = by_name;
-            self.by_key = by_key;
-            self.ready = true;
-        }
-        Ok(())
+        self.by_name
+            .fill(self.alloc, &self.classes, self.class_order.items())?;
+        self.by_key
+            .fill(self.alloc, &self.methods, self.method_order.items())
     }
 
     /// The `n`-th class on the chain of a class: the class itself for 0, then its superclass, and so on. `None` where the

@@ -8,8 +8,7 @@ ghost use Rattle.class_table.specs.Info.{IsInfoOf, source_at};
 use crate::class_order::ClassOrder;
 use crate::method_order::MethodOrder;
 use crate::record::{ClassId, ClassRec, DoIt, MethodInfo, MethodRec, MethodSlot};
-use crate::tables::MethodKey;
-use indexmap::IndexMap;
+use crate::tables::{ClassTable, MethodTable};
 use rb_base::Names;
 use std::alloc::Global;
 use std::marker::Model;
@@ -26,10 +25,8 @@ pub struct Image {
     pub(crate) method_order: MethodOrder,
     pub(crate) doits: Vec<DoIt>,
     pub(crate) heads: usize,
-    // Whether the tables are those of the live slots.
-    pub(crate) ready: bool,
-    pub(crate) by_name: IndexMap<usize, ClassId>,
-    pub(crate) by_key: IndexMap<MethodKey, MethodSlot>,
+    pub(crate) by_name: ClassTable,
+    pub(crate) by_key: MethodTable,
 }
 
 impl Model for Image {
@@ -52,7 +49,7 @@ impl Model for Image {
 
     ghost use Rattle.class_table.specs.Tables.{KeepsSlots};
 
-    ghost invariant = { λ a. KeepsSlots a.ready a.by_name a.by_key a.classes.items a.class_order a.methods.items a.method_order };
+    ghost invariant = { λ a. KeepsSlots a.by_name a.by_key a.classes.items a.class_order a.methods.items a.method_order };
 }
 
 impl Image {
@@ -69,9 +66,8 @@ impl Image {
             method_order: MethodOrder::new(alloc),
             doits: Vec::new(alloc),
             heads: 0,
-            ready: false,
-            by_name: IndexMap::new(alloc),
-            by_key: IndexMap::new(alloc),
+            by_name: ClassTable::new(alloc),
+            by_key: MethodTable::new(alloc),
         }
     }
 

@@ -38,6 +38,7 @@ impl Image {
     }
 
     /// The tree of the method in a slot, to be written, if the slot is live. Counts one step.
+    #[tactic(auto, using(crate::proofs::Known::lent_methods))]
     pub fn open_body_mut<L: Ledger>(
         &mut self,
         slot: MethodSlot,
@@ -48,10 +49,10 @@ impl Image {
         ensures step { steps.new ≡ steps.old + 1 }
     {
         steps.tick();
-        self.ready = false;
         if !self.method_order.is_live(slot) {
             return None;
         }
+        self.by_key.lend(&self.methods, &self.method_order, slot);
         let rec = self.methods.get_mut(slot.0)?;
         Some(&mut rec.tree)
     }

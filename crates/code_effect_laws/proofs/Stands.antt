@@ -88,7 +88,7 @@ returns (block ps ts bs e) d ss r q h = absurd r
 returns (brace ts) d ss r q h = absurd r
 
 -- a return is not without return, and has no value
-return_returns : (t : TreeOf Text) → IsReturn t → NoReturn t → ⊥
+pub return_returns : (t : TreeOf Text) → IsReturn t → NoReturn t → ⊥
 return_returns (return t) r n = n
 return_returns (var n) r q = r
 return_returns (literal l) r q = r

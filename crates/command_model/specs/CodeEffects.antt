@@ -35,11 +35,29 @@ module _ {N : Type 0} (a : AskedOf N) (i : ImageOf N) where
   abbrev pub target_of : N → Bool → SendOf N → Option (EntryOf N)
   target_of c meta e = lookup a.words i (Some c) meta e.selector
 
+  -- the tree that a method gets where the body of what a message of it finds stands in its place, where a part becomes the value of a temporary, where the value of a temporary stands in place of its reads, and where a temporary is renamed
+  abbrev pub tree_inlining : N → Bool → N → (from to : ℕ) → EntryOf N → Option (MethodOf N)
+  tree_inlining c meta s from to m =
+      option_and_then (λ e. option_and_then (λ (target : EntryOf N). tree_inlined a m.tree e.1 target.tree) (target_of c meta e.1)) (send_at c meta s from to)
+
+  abbrev pub tree_extracting : (from to : ℕ) → N → EntryOf N → Option (MethodOf N)
+  tree_extracting from to x m = option_and_then (λ path. temporary_extracted a m.tree path x) (option_and_then path_of_expression (a.part_of m.source from to))
+
+  abbrev pub tree_without : N → EntryOf N → Option (MethodOf N)
+  tree_without x m = option_map (temporary_inlined a m.tree x) (let_of a m.tree x)
+
+  abbrev pub tree_renaming : N → N → EntryOf N → Option (MethodOf N)
+  tree_renaming x y m = Some (temporary_renamed a m.tree x y)
+
+  -- the tree that is made of the one of the user's method that a command names
+  abbrev pub tree_made : N → Bool → N → (EntryOf N → Option (MethodOf N)) → Option (MethodOf N)
+  tree_made c meta s change = option_and_then change (method_at c meta s)
+
   module _ (writing : WritingOf N) where
     -- the image in which a method has a tree that is made of its own one
     abbrev pub retreed : N → Bool → N → (EntryOf N → Option (MethodOf N)) → Option (ImageOf N)
     retreed c meta s change =
-        option_map (λ tree. with_tree a.words.tests.same writing c meta s tree i) (option_and_then change (method_at c meta s))
+        option_map (λ tree. with_tree a.words.tests.same writing c meta s tree i) (tree_made c meta s change)
 
     -- the image after such a command, where the methods and parts that it names are there; after any other command none is told
     abbrev pub code_effect : CommandOf N → Option (ImageOf N)
@@ -48,10 +66,8 @@ module _ {N : Type 0} (a : AskedOf N) (i : ImageOf N) where
     code_effect (AbstractInstVar c x setter given) = Some (variable_abstracted a.words writing a.self_name c x setter given i)
     code_effect (ExtractMethod c meta s from to t) =
         option_map (λ e. method_extracted a writing c meta s e.0 e.1 t i) (part_at c meta s from to)
-    code_effect (InlineMethod c meta s from to) =
-        retreed c meta s (λ m. option_and_then (λ e. option_and_then (λ (target : EntryOf N). tree_inlined a m.tree e.1 target.tree) (target_of c meta e.1)) (send_at c meta s from to))
-    code_effect (ExtractTemp c meta s from to x) =
-        retreed c meta s (λ m. option_and_then (λ path. temporary_extracted a m.tree path x) (option_and_then path_of_expression (a.part_of m.source from to)))
-    code_effect (InlineTemp c meta s x) = retreed c meta s (λ m. option_map (temporary_inlined a m.tree x) (let_of a m.tree x))
-    code_effect (RenameTemp c meta s x y) = retreed c meta s (λ m. Some (temporary_renamed a m.tree x y))
+    code_effect (InlineMethod c meta s from to) = retreed c meta s (tree_inlining c meta s from to)
+    code_effect (ExtractTemp c meta s from to x) = retreed c meta s (tree_extracting from to x)
+    code_effect (InlineTemp c meta s x) = retreed c meta s (tree_without x)
+    code_effect (RenameTemp c meta s x y) = retreed c meta s (tree_renaming x y)
     code_effect command = None

@@ -25,18 +25,18 @@ use Rattle.command_model.specs.ParameterConditions.{formal_reads}
 use Rattle.command_model.specs.PartConditions.{is_assigned_in_the_open}
 
 -- whether a node is a name that passes a test
-abbrev is_name_that : {N : Type 0} → (N → Bool) → TreeOf N → Bool
+abbrev pub is_name_that : {N : Type 0} → (N → Bool) → TreeOf N → Bool
 is_name_that test (var n) = test n
 is_name_that test t = false
 
 -- no statement but the last one is a return
-abbrev answers_last : {N : Type 0} → StatementsOf N → Bool
+abbrev pub answers_last : {N : Type 0} → StatementsOf N → Bool
 answers_last no_statements = true
 answers_last (more_statements c t no_statements) = true
 answers_last (more_statements c t ss) = not (is_return t) && answers_last ss
 
 -- whether a path leads to a whole statement that does not end a block
-abbrev is_statement_between : {N : Type 0} → MethodOf N → List ℕ → Bool
+abbrev pub is_statement_between : {N : Type 0} → MethodOf N → List ℕ → Bool
 is_statement_between m path =
     option_map_or (λ k. innermost m path == 0 || nat_lt (suc k) (count (statement_trees (statements_at m.body (sequence_round m path))))) (whole_statement m path) false
 
@@ -69,7 +69,7 @@ module _ {N : Type 0} (a : AskedOf N) (i : ImageOf N) where
       || (is_statement_between m.tree e.path && answers_last target.tree.body.statements)))))
 
   -- whether what is passed for a formal argument of the target is plain, or is a temporary that no closure assigns for an argument that no closure reads
-  abbrev is_actual_plain : EntryOf N → SendOf N → EntryOf N → N → TreeOf N → Bool
+  abbrev pub is_actual_plain : EntryOf N → SendOf N → EntryOf N → N → TreeOf N → Bool
   is_actual_plain m e target formal t = is_plain a i m e.path t || is_name_that (λ n. by n (means a.words i m e.path n)) t
     where
       by : N → MeaningOf N → Bool
@@ -88,7 +88,7 @@ module _ {N : Type 0} (a : AskedOf N) (i : ImageOf N) where
   local m path n = local_in a.words.tests.same a.words.tests.is_pseudo m path n
 
   -- whether a name at a place of the target means the same where the message stands: what is passed for an argument names nothing that a block round that place declares; what a block declares moves along; and any other name means the same in both methods
-  abbrev is_name_kept : EntryOf N → SendOf N → EntryOf N → List ℕ → N → Bool
+  abbrev pub is_name_kept : EntryOf N → SendOf N → EntryOf N → List ℕ → N → Bool
   is_name_kept m e target path n =
       option_map_or (λ t. not (list_any (λ x. is_of_block (local target.tree path x)) (free_names a.words.tests.same a.words.tests.is_pseudo t)))
       (passed_for a target.tree e.arguments path n)

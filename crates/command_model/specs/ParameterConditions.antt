@@ -2,7 +2,7 @@
 use Rattle.std.specs.Prelude.{ℕ, ◌-◌, Bool, true, false, not, ◌&&◌, ◌||◌, nat_le, List, [], ◌∷◌, slice_get, map, filter, if◌then◌else◌}
 use Rattle.std.specs.List.{list_all, list_any}
 use Rattle.std.specs.Option.{option_map_or}
-use Rattle.tree_model.specs.Tree.{TreeOf, var, literal, send, cascade, TreesOf, MessagesOf, no_messages, more_messages, MethodOf}
+use Rattle.tree_model.specs.Tree.{TreeOf, var, literal, send, cascade, TreesOf, MessagesOf, no_messages, more_messages, SequenceOf, MethodOf}
 use Rattle.tree_model.specs.Path.{nth}
 use Rattle.tree_model.specs.Nodes.{Placed, nodes}
 use Rattle.tree_model.specs.Measure.{sequence_height}
@@ -33,17 +33,19 @@ passed_by same s (send r t args) = if same s t then args ∷ [] else []
 passed_by same s (cascade r ms) = passed_in same s ms
 passed_by same s t = []
 
--- the tree of each method of the user and of each do-it has height at most 200
-abbrev pub is_shallow : {N : Type 0} → ImageOf N → Bool
-is_shallow i =
-    list_all (λ (m : EntryOf _). m.kernel || nat_le (sequence_height m.tree.body) 200) i.methods
-    && list_all (λ (d : DoItOf _). nat_le (sequence_height d.body) 200) i.doits
+-- whether a sequence is at most 200 high
+abbrev pub is_low : {N : Type 0} → SequenceOf N → Bool
+is_low b = nat_le (sequence_height b) 200
 
--- so of each method of the user that has a selector or sends it, and of each do-it that sends it
+-- each method of the user and each do-it is
+abbrev pub is_shallow : {N : Type 0} → ImageOf N → Bool
+is_shallow i = list_all (λ (m : EntryOf _). m.kernel || is_low m.tree.body) i.methods && list_all (λ (d : DoItOf _). is_low d.body) i.doits
+
+-- so is each method of the user that has a selector or sends it, and each do-it that sends it
 abbrev pub is_shallow_speaking : {N : Type 0} → (N → N → Bool) → N → ImageOf N → Bool
 is_shallow_speaking same s i =
-    list_all (λ (m : EntryOf _). m.kernel || (not (speaks_of same s m) || nat_le (sequence_height m.tree.body) 200)) i.methods
-    && list_all (λ (d : DoItOf _). not (list_any (λ e. is_sender same s e.1) (nodes d.body)) || nat_le (sequence_height d.body) 200) i.doits
+    list_all (λ (m : EntryOf _). m.kernel || (not (speaks_of same s m) || is_low m.tree.body)) i.methods
+    && list_all (λ (d : DoItOf _). not (list_any (λ e. is_sender same s e.1) (nodes d.body)) || is_low d.body) i.doits
 
 module _ {N : Type 0} (a : AskedOf N) where
   -- whether a node of a method reads that argument of it

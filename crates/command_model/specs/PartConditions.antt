@@ -33,7 +33,7 @@ is_value_unused m (Run [] first n) = true
 is_value_unused m (Run (k ∷ ks) first n) = nat_lt (first + n) (count (statement_trees (statements_at m.body (k ∷ ks))))
 
 -- where a node steps into a cascade: whether that is its receiver or an argument of its first message, before which nothing is sent
-abbrev is_before_sends : {N : Type 0} → TreeOf N → ℕ → Bool
+abbrev pub is_before_sends : {N : Type 0} → TreeOf N → ℕ → Bool
 is_before_sends (cascade r (more_messages s args ms)) k = nat_lt k (suc (count args))
 is_before_sends t k = true
 
@@ -49,13 +49,13 @@ module _ {N : Type 0} (a : AskedOf N) where
   is_part m (Run path first n) = true
 
   -- whether a name is declared in a scope to which fewer steps lead
-  abbrev is_declared_outside : ℕ → Local → Bool
+  abbrev pub is_declared_outside : ℕ → Local → Bool
   is_declared_outside inside (Argument scope) = nat_lt scope inside
   is_declared_outside inside (Temporary scope) = nat_lt scope inside
   is_declared_outside inside NotLocal = false
 
   -- whether a node assigns what is declared outside
-  abbrev assigns_outer : MethodOf N → ℕ → Placed N → Bool
+  abbrev pub assigns_outer : MethodOf N → ℕ → Placed N → Bool
   assigns_outer m inside (path, assign n t) = is_declared_outside inside (local m path n)
   assigns_outer m inside (path, t) = false
 
@@ -69,13 +69,13 @@ module _ {N : Type 0} (a : AskedOf N) where
       not (assigned_in_closure a.words.tests.same a.words.tests.is_pseudo a.words.tests.form m (take scope path) n)
 
   -- a temporary that is named at a place of the part is declared inside the part; or no closure assigns it, and if it is read there, that is in no closure of the part
-  abbrev is_steady : MethodOf N → ℕ → List ℕ → N → (is_read : Bool) → Local → Bool
+  abbrev pub is_steady : MethodOf N → ℕ → List ℕ → N → (is_read : Bool) → Local → Bool
   is_steady m inside path n is_read (Temporary scope) =
       not (nat_lt scope inside)
       || (is_assigned_in_the_open m path scope n && not (is_read && stands_in_closure a.words.tests.form m inside path))
   is_steady m inside path n is_read l = true
 
-  abbrev is_node_steady : MethodOf N → ℕ → Placed N → Bool
+  abbrev pub is_node_steady : MethodOf N → ℕ → Placed N → Bool
   is_node_steady m inside (path, var n) = is_steady m inside path n true (local m path n)
   is_node_steady m inside (path, assign n t) = is_steady m inside path n false (local m path n)
   is_node_steady m inside (path, t) = true
@@ -85,13 +85,13 @@ module _ {N : Type 0} (a : AskedOf N) where
   are_temporaries_steady m part = list_all (is_node_steady m (inside_from part)) (part_nodes m part)
 
   -- whether the first so many of the trees are plain, by what names mean at a place
-  abbrev are_first_plain : ImageOf N → EntryOf N → List ℕ → ℕ → TreesOf N → Bool
+  abbrev pub are_first_plain : ImageOf N → EntryOf N → List ℕ → ℕ → TreesOf N → Bool
   are_first_plain i m path zero ts = true
   are_first_plain i m path (suc k) no_trees = true
   are_first_plain i m path (suc k) (more_trees t ts) = is_plain a i m path t && are_first_plain i m path k ts
 
   -- whether a node evaluates nothing but plain expressions before the part, to which steps lead on from it
-  abbrev is_plain_before : ImageOf N → EntryOf N → List ℕ → TreeOf N → List ℕ → Bool
+  abbrev pub is_plain_before : ImageOf N → EntryOf N → List ℕ → TreeOf N → List ℕ → Bool
   is_plain_before i m path t [] = true
   is_plain_before i m path t (k ∷ ks) =
       is_before_sends t k && (are_first_plain i m path k (children t) && option_map_or (λ c. is_plain_before i m path c ks) (child t k) false)

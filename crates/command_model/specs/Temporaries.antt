@@ -39,11 +39,11 @@ module _ {N : Type 0} (a : AskedOf N) where
   is_declared_once m x = length (filter (same x) (declared_in m)) == 1
 
   -- how many steps lead to the scope of a temporary x that a node assigns, or reads
-  abbrev assigned_scope : MethodOf N → N → Placed N → Option ℕ
+  abbrev pub assigned_scope : MethodOf N → N → Placed N → Option ℕ
   assigned_scope m x (path, assign n t) = if same x n then temporary_scope (local m path n) else None
   assigned_scope m x (path, t) = None
 
-  abbrev read_scope : MethodOf N → N → Placed N → Option ℕ
+  abbrev pub read_scope : MethodOf N → N → Placed N → Option ℕ
   read_scope m x (path, var n) = if same x n then temporary_scope (local m path n) else None
   read_scope m x (path, t) = None
 
@@ -52,7 +52,7 @@ module _ {N : Type 0} (a : AskedOf N) where
   reads_of m x = map (λ e. e.0) (filter (λ e. is_some (read_scope m x e)) (nodes m.body))
 
   -- an assignment as a statement of the sequence to which so many steps lead
-  abbrev let_at : Placed N → ℕ → Option (LetOf N)
+  abbrev pub let_at : Placed N → ℕ → Option (LetOf N)
   let_at (path, assign n t) scope =
       if length path == suc scope
       then option_map (λ k. record { sequence = take scope path; number = k; value = t }) (slice_get path scope)

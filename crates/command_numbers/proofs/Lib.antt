@@ -20,7 +20,7 @@ mod ClassRenamedMapped
 mod VariableRenamedMapped
 mod SelectorRenamedMapped
 mod JudgedMapped
-mod Restricted
+pub mod Restricted
 mod CommandsMapped
 mod Named
 mod AtNumbers

@@ -15,8 +15,6 @@ use Rattle.class_table.specs.Info.{IsInfoOf}
 use Rattle.class_table.specs.Slots.{Slots}
 use Rattle.class_table.specs.View.{class_name, class_of, entry_of, live_at, number_image}
 use Rattle.class_table.specs.Valid.{IsLive, IsOrderly}
-use Rattle.class_table.proofs.Found.{class_named-live}
-use Rattle.command_model.specs.VariableConditions.{lacks_variable}
 use Rattle.class_questions.specs.LiveClasses.{is_live_that}
 use Rattle.class_questions.proofs.AnyLive.{live-live_at}
 use Rattle.class_questions.proofs.ChainLaws.{chain-class}
@@ -24,7 +22,7 @@ use Rattle.hierarchy_questions.specs.declared.arrival.Arrival.{Arrival}
 use Rattle.hierarchy_questions.specs.Arrivals.{is_beside, is_defined_beside, is_in_tree, is_named_beside}
 
 -- tests in a row, in another order
-regrouped : (p n d : Bool) → (p && (n && d)) ≡ (not (not d) && (p && n))
+regrouped : (p n d : Bool) → (p && (n && d)) ≡ (d && (p && n))
 regrouped true true true = refl
 regrouped true true false = refl
 regrouped true false true = refl
@@ -46,17 +44,14 @@ whole false n d e = absurd (cc)
 module _ (s : Slots) (a : Arrival) where
   -- whether a live class is looked at and defines the variable
   pub defined-told : IsOrderly s → (k : ℕ) (c : ClassRec) → live_at s.classes s.class_order k ≡ Some c
-      → is_live_that (is_defined_beside s a) s k ≡ (not (lacks_variable nat_eq (number_image s) c.name a.variable) && is_beside s a k)
+      → is_live_that (is_defined_beside s a) s k ≡ (defines nat_eq a.variable (class_of s.classes c) && is_beside s a k)
   defined-told orderly k c e =
       ap (λ (o : Option ClassRec). option_map_or (λ (d : ClassRec). is_defined_beside s a (class_of s.classes d)) o false) e
       ∙ regrouped (stands_below nat_eq (number_image s).classes a.class (class_of s.classes c)) (not (list_any (λ d. stands_below nat_eq (number_image s).classes d (class_of s.classes c)) a.excepted.now)) (defines nat_eq a.variable (class_of s.classes c))
-      ∙ (λ i. not (lacks i) && beside i)
+      ∙ (λ i. defines nat_eq a.variable (class_of s.classes c) && beside i)
     where
       here : IsLive s.class_order k × (slice_get s.classes k ≡ Some c)
       here = live-live_at s.classes s.class_order k c e
-
-      lacks : not (defines nat_eq a.variable (class_of s.classes c)) ≡ lacks_variable nat_eq (number_image s) c.name a.variable
-      lacks = sym (ap (λ (o : Option (ClassOf ℕ)). option_map_or (λ (d : ClassOf ℕ). not (defines nat_eq a.variable d)) o false) (class_named-live s orderly k c here.0 here.1))
 
       beside : (stands_below nat_eq (number_image s).classes a.class (class_of s.classes c) && not (list_any (λ d. stands_below nat_eq (number_image s).classes d (class_of s.classes c)) a.excepted.now)) ≡ is_beside s a k
       beside =

@@ -1,5 +1,5 @@
 // Whether a variable can come up into a class.
-ghost use Rattle.std.specs.Prelude.{◌≡◌, ℕ, ◌&&◌, false, nat_eq, IfOk};
+ghost use Rattle.std.specs.Prelude.{◌≡◌, ℕ, ◌&&◌, ◌||◌, false, nat_eq, IfOk};
 ghost use Rattle.std.specs.List.{list_any};
 ghost use Rattle.image_model.specs.Image.{EntryOf, DoItOf};
 ghost use Rattle.st_tree.specs.View.{method_of};
@@ -13,9 +13,8 @@ ghost use Rattle.class_questions.specs.LiveClasses.{is_live_that};
 ghost use Rattle.reference_index.specs.Mentioned.{IsIndexOf};
 ghost use Rattle.hierarchy_questions.specs.Arrivals.{is_beside, is_in_tree, is_defined_beside, is_place_named};
 
-use crate::classes::lacks_variable;
 use class_questions::{Sought, is_class, is_defined_above, stands_above};
-use class_table::{ClassId, Image, MethodSlot, Place};
+use class_table::{ClassId, ClassRec, Image, MethodSlot, Place};
 use mentions::nodes_of;
 use name_meanings::is_among;
 use node_questions::uses;
@@ -48,6 +47,15 @@ fn is_beside(image: &Image, id: ClassId, arrival: &Arrival<'_>) -> bool
             .any(|other| stands_above(image, id, &Sought::Class(*other)))
 }
 
+/// Whether the class itself defines a variable of any kind by the name.
+fn defines_any(rec: &ClassRec, variable: NameId) -> bool
+    ensures { result ≡ (list_any (nat_eq variable) rec.now.instance || (list_any (nat_eq variable) rec.now.shared || list_any (nat_eq variable) rec.now.class_side)) }
+{
+    is_among(rec.instance.as_slice(), variable)
+        || (is_among(rec.shared.as_slice(), variable)
+            || is_among(rec.class_side.as_slice(), variable))
+}
+
 /// Whether the class in a slot, if it is live, is one of those and defines a variable of any kind by the name.
 fn is_defined_beside(image: &Image, id: ClassId, arrival: &Arrival<'_>) -> bool
     requires { IsOrderly image.now }
@@ -55,9 +63,7 @@ fn is_defined_beside(image: &Image, id: ClassId, arrival: &Arrival<'_>) -> bool
 {
     match image.class_rec(id) {
         None => false,
-        Some(rec) => {
-            !lacks_variable(image, rec.name, arrival.variable) && is_beside(image, id, arrival)
-        }
+        Some(rec) => defines_any(rec, arrival.variable) && is_beside(image, id, arrival),
     }
 }
 

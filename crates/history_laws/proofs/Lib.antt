@@ -1,9 +1,9 @@
-mod JudgedBeside
-mod Accessors
-mod ScriptsKeep
+pub mod JudgedBeside
+pub mod Accessors
+pub mod ScriptsKeep
 mod NilUses
 mod NilCode
 mod NilHolds
 mod NilNeeds
-mod NilAdmitted
+pub mod NilAdmitted
 mod RenamingsSaid

@@ -104,14 +104,14 @@ module _ (i : ImageOf Name) where
   effect-nil : (c : CommandOf Name) → effect text_asked canonical c (plus i nil_doit) ≡ plus (effect text_asked canonical c i) nil_doit
   effect-nil c = (effect-beside text_asked canonical i nil_doit c).added ∙ ap (plus (effect text_asked canonical c i)) (last-nil c)
 
-  judged-nil : (c : CommandOf Name) (m : ImageOf Name) → rules.judged i c ≡ Ok m → rules.judged (plus i nil_doit) c ≡ Ok (plus m nil_doit)
+  pub judged-nil : (c : CommandOf Name) (m : ImageOf Name) → rules.judged i c ≡ Ok m → rules.judged (plus i nil_doit) c ≡ Ok (plus m nil_doit)
   judged-nil c m o =
       let done = made i c m o in
       ap (λ q. option_map_or {U = Result (ImageOf Name) (ConditionOf Name)} (λ p. Err p) q (Ok (effect text_asked canonical c (plus i nil_doit)))) (first-plus c done.0)
       ∙ ap {B = Result (ImageOf Name) (ConditionOf Name)} (λ (k : ImageOf Name). Ok k) (effect-nil c ∙ ap (λ k. plus k nil_doit) done.1)
 
   -- the conditions of composites
-  own-nil : (x : ActionOf Name) → first_own_false text_asked (plus i nil_doit) x ≡ first_own_false text_asked i x
+  pub own-nil : (x : ActionOf Name) → first_own_false text_asked (plus i nil_doit) x ≡ first_own_false text_asked i x
   own-nil (Single c) = refl
   own-nil (CreateAccessors c x s q) =
       ap (λ b. option_map (λ (j : ConditionOf Name × Bool). j.0) (find (λ (j : ConditionOf Name × Bool). not j.1)
@@ -122,7 +122,7 @@ module _ (i : ImageOf Name) where
       ap (λ b. option_map (λ (j : ConditionOf Name × Bool). j.0) (find (λ (j : ConditionOf Name × Bool). not j.1) ((NoReflection, b) ∷ []))) (no_reflection-plus i)
 
 -- its text spells it
-spells-nil : SpellsDoIt Second (codes "nil") nil_doit.body
+pub spells-nil : SpellsDoIt Second (codes "nil") nil_doit.body
 spells-nil =
     let some = (doit_exactly nil_doit.body).1 (record {
       words = tt;

@@ -77,7 +77,7 @@ pushes-spelled i [] = tt
 pushes-spelled i (s ∷ others) = all-spelled (PushUpInstVar s) (shared_by text_eq i s others) (λ x. (tt, tt, tt))
 
 -- the steps of a well spelled action whose own conditions hold are well spelled
-steps-spelled : (kernel i : ImageOf Name) (x : ActionOf Name) → IsSound kernel i → IsWellSpelledAction x → rules.first_false i x ≡ None → AllByRecursion IsWellSpelled (rules.steps_of i x)
+pub steps-spelled : (kernel i : ImageOf Name) (x : ActionOf Name) → IsSound kernel i → IsWellSpelledAction x → rules.first_false i x ≡ None → AllByRecursion IsWellSpelled (rules.steps_of i x)
 steps-spelled kernel i (Single c) sound spelled e = (spelled, tt)
 steps-spelled kernel i (CreateAccessors c x s q) sound spelled e =
     let has = last-holds NoReflection (IsUserClass c) (HasVariable c x) (has_no_reflection text_asked.command_words i) (is_user_class text_eq i c) (has_variable text_eq i of_instance c x) e in

@@ -1,3 +1,3 @@
 mod Joined
-mod Written
+pub mod Written
 pub mod Writable

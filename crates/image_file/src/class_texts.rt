@@ -97,7 +97,7 @@ fn write_category(category: &Text, out: &mut Text) -> Result<(), Memory>
 }
 
 /// The definition of a class.
-fn definition_source(alloc: Global, image: &Image, rec: &ClassRec) -> Result<Text, Memory>
+pub fn definition_source(alloc: Global, image: &Image, rec: &ClassRec) -> Result<Text, Memory>
     requires { IsWritableClass image.now rec.now }
     ensures { IfOk result (λ source. source ≡ definition_text (text_class image.now rec.now)) }
 {
@@ -109,7 +109,7 @@ fn definition_source(alloc: Global, image: &Image, rec: &ClassRec) -> Result<Tex
 }
 
 /// The class-instance variables of a class.
-fn class_side_source(alloc: Global, image: &Image, rec: &ClassRec) -> Result<Text, Memory>
+pub fn class_side_source(alloc: Global, image: &Image, rec: &ClassRec) -> Result<Text, Memory>
     requires { IsWritableClass image.now rec.now }
     ensures { IfOk result (λ source. source ≡ class_side_text (text_class image.now rec.now)) }
 {
@@ -121,7 +121,7 @@ fn class_side_source(alloc: Global, image: &Image, rec: &ClassRec) -> Result<Tex
 }
 
 /// The comment of a class.
-fn comment_source(alloc: Global, image: &Image, rec: &ClassRec) -> Result<Text, Memory>
+pub fn comment_source(alloc: Global, image: &Image, rec: &ClassRec) -> Result<Text, Memory>
     requires { IsWritableClass image.now rec.now }
     ensures { IfOk result (λ source. source ≡ comment_text (text_class image.now rec.now)) }
 {

@@ -45,7 +45,7 @@ fn write_file(alloc: Global, image: &Image, out: &mut Text) -> Result<(), Memory
 }
 
 /// Appends a text, which is not copied where nothing stands before it.
-fn append(out: &mut Text, text: Text) -> Result<(), Memory>
+pub fn append(out: &mut Text, text: Text) -> Result<(), Memory>
     ensures ok { OnOk result (out.new ≡ out.old ++ text) }
     ensures err { OnErr result (out.new ≡ out.old) }
 {

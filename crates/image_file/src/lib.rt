@@ -8,5 +8,8 @@ mod laws;
 mod method_texts;
 mod strings;
 
-pub use file_text::write_image;
+pub use class_texts::{class_side_source, comment_source, definition_source};
+pub use file_text::{append, write_image};
 pub use laws::writes_orderly_images;
+pub use method_texts::{UserMethod, run_source, user_method, write_side};
+pub use strings::{write_ended_chunk, write_paragraph, write_string};

@@ -15,11 +15,11 @@ use std::alloc::Global;
 
 /// A method of the user as it is written.
 #[derive(Clone, Copy)]
-struct UserMethod<'a> {
-    class: &'a [u8],
-    meta: bool,
-    protocol: &'a [u8],
-    source: &'a [u8],
+pub struct UserMethod<'a> {
+    pub class: &'a [u8],
+    pub meta: bool,
+    pub protocol: &'a [u8],
+    pub source: &'a [u8],
 }
 
 /// The text of the name of a live class, or nothing where its slot is not there.
@@ -35,7 +35,7 @@ fn class_name(image: &Image, class: ClassId) -> &[u8]
 }
 
 /// The method in a slot, if it is one of the user.
-fn user_method(image: &Image, slot: MethodSlot) -> Option<UserMethod<'_>>
+pub fn user_method(image: &Image, slot: MethodSlot) -> Option<UserMethod<'_>>
     requires writable { IsWritable image.now }
     requires live { IsLive image.now.method_order slot }
     ensures { IsUserMethodAt image.now slot result }
@@ -73,7 +73,7 @@ fn is_one_run(before: &UserMethod<'_>, method: &UserMethod<'_>) -> bool
 }
 
 /// Appends the class or the class side of a method.
-fn write_side(method: &UserMethod<'_>, out: &mut Text) -> Result<(), Memory>
+pub fn write_side(method: &UserMethod<'_>, out: &mut Text) -> Result<(), Memory>
     ensures { OnOk result (out.new ≡ out.old ++ side_text (run_text method.now)) }
 {
     out.push_slice(method.class)?;
@@ -84,7 +84,7 @@ fn write_side(method: &UserMethod<'_>, out: &mut Text) -> Result<(), Memory>
 }
 
 /// The message by which the run of a method begins.
-fn run_source(alloc: Global, method: &UserMethod<'_>) -> Result<Text, Memory>
+pub fn run_source(alloc: Global, method: &UserMethod<'_>) -> Result<Text, Memory>
     ensures { IfOk result (λ source. source ≡ side_text (run_text method.now) ++ codes " methodsFor: " ++ quoted_text method.now.protocol.now) }
 {
     let mut source = Text::new(alloc);

@@ -29,7 +29,7 @@ fn write_doubled(text: &[u8], out: &mut Text) -> Result<(), Memory>
 }
 
 /// Appends a string that holds the bytes.
-pub(crate) fn write_string(text: &[u8], out: &mut Text) -> Result<(), Memory>
+pub fn write_string(text: &[u8], out: &mut Text) -> Result<(), Memory>
     ensures { OnOk result (out.new ≡ out.old ++ quoted_text text.now) }
 {
     out.push_slice(b"'")?;
@@ -116,7 +116,7 @@ pub(crate) fn write_names_line(
 }
 
 /// Appends a source as a chunk.
-pub(crate) fn write_ended_chunk(alloc: Global, source: &[u8], out: &mut Text) -> Result<(), Memory>
+pub fn write_ended_chunk(alloc: Global, source: &[u8], out: &mut Text) -> Result<(), Memory>
     ensures { OnOk result (out.new ≡ out.old ++ chunk_text source.now) }
 {
     write_chunk(alloc, source, out)?;
@@ -124,7 +124,7 @@ pub(crate) fn write_ended_chunk(alloc: Global, source: &[u8], out: &mut Text) ->
 }
 
 /// Appends a source as a chunk and an empty line.
-pub(crate) fn write_paragraph(alloc: Global, source: &[u8], out: &mut Text) -> Result<(), Memory>
+pub fn write_paragraph(alloc: Global, source: &[u8], out: &mut Text) -> Result<(), Memory>
     ensures { OnOk result (out.new ≡ out.old ++ paragraph source.now) }
 {
     write_ended_chunk(alloc, source, out)?;

@@ -55,12 +55,8 @@ fn push_code_condition(condition: Condition, names: &Names, out: &mut Text) -> R
     }
 }
 
-/// The same of any condition.
-pub(crate) fn push_condition(
-    condition: Condition,
-    names: &Names,
-    out: &mut Text,
-) -> Result<(), Memory>
+/// The same of any condition. On want of memory a part of it may be appended.
+pub fn push_condition(condition: Condition, names: &Names, out: &mut Text) -> Result<(), Memory>
     ensures { OnOk result (out.new ≡ out.old ++ pieces_behind (codes " ") (condition_words (map_condition (name_at names.now) (condition_of condition)))) }
 {
     match condition {

@@ -5,4 +5,5 @@ mod conditions;
 mod lines;
 mod words;
 
+pub use conditions::push_condition;
 pub use lines::{push_refusal, push_script_line};

@@ -2,20 +2,20 @@ pub mod Zips
 pub mod TextsTold
 mod Declarations
 mod NewNames
-mod ClassesAfter
+pub mod ClassesAfter
 pub mod OutsideAfter
 mod ScopesAfter
 mod TreesAfter
 pub mod Unnamed
 mod Undeclared
 pub mod MeaningsAfter
-mod NamesUnused
-mod Readiness
+pub mod NamesUnused
+pub mod Readiness
 mod ImagesAfter
-mod NamesApart
+pub mod NamesApart
 pub mod SentAnew
-mod FreshSelector
-mod RenamedSelector
+pub mod FreshSelector
+pub mod RenamedSelector
 pub mod VariableClasses
 mod VariableOutside
 mod VariableMeanings

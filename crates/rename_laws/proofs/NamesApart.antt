@@ -32,7 +32,7 @@ use Rattle.rename_laws.proofs.Readiness.{IsReady}
 
 module _ (i : ImageOf Name) (c d : Name) (ready : IsReady i c d) where
   -- what a name means behind all scopes
-  outside-others : (home : Option Name) (meta : Bool) (n : Name) → MeansOthers c d (means_outside text_words i home meta n)
+  pub outside-others : (home : Option Name) (meta : Bool) (n : Name) → MeansOthers c d (means_outside text_words i home meta n)
   outside-others home meta n =
       means-others c d meta (definer text_eq (side_kind meta) (chain text_eq i.classes home) n) (definer text_eq of_class (chain text_eq i.classes home) n) _ (text_words.is_transcript n)
       (find-all (IsOther c d) _ (chain text_eq i.classes home) (chain-other c d i.classes ready.others home))
@@ -54,11 +54,11 @@ module _ (i : ImageOf Name) (c d : Name) (ready : IsReady i c d) where
       (among-first (Unnamed c d) (statement_trees m.tree.body.statements) (node-unnamed c d m.tree.body (neither_right _ (is_named_in text_eq d m.tree.body) unnamed)))
 
   -- a method
-  method-fine : (m : EntryOf Name) → OptionNames (Other c d) m.class → is_named_in_method text_eq d m ≡ false → AllByRecursion (Fine c d) (used_by_method (resolved_entry i m))
+  pub method-fine : (m : EntryOf Name) → OptionNames (Other c d) m.class → is_named_in_method text_eq d m ≡ false → AllByRecursion (Fine c d) (used_by_method (resolved_entry i m))
   method-fine m k unnamed = AllByRecursion-append (Fine c d) (used_if_any m.class) _ (any-fine m.class k) (tt, doing-fine m unnamed m.tree.primitive)
 
   -- a do-it
-  doit-fine : (e : DoItOf Name) → is_named_in text_eq d e.body ≡ false → AllByRecursion (Fine c d) (used_by_doit (resolved_doit i e))
+  pub doit-fine : (e : DoItOf Name) → is_named_in text_eq d e.body ≡ false → AllByRecursion (Fine c d) (used_by_doit (resolved_doit i e))
   unfolding resolved_doit
   doit-fine e unnamed =
       lines-fine c d e.body.statements (meant_in_doit i e) 0
@@ -66,7 +66,7 @@ module _ (i : ImageOf Name) (c d : Name) (ready : IsReady i c d) where
       (among-first (Unnamed c d) (statement_trees e.body.statements) (node-unnamed c d e.body unnamed))
 
   -- the image
-  image-fine : AllByRecursion (Fine c d) (used_in (resolved_image i))
+  pub image-fine : AllByRecursion (Fine c d) (used_in (resolved_image i))
   image-fine =
       AllByRecursion-append (Fine c d) (flat_map used_by_class (resolved_image i).classes) _
       (each-flat (Fine c d) used_by_class (resolved_image i).classes (all-map _ plain_class i.classes (all-implies (IsOther c d) _ (λ e k. (k.name, any-fine e.superclass k.superclass)) i.classes ready.others)))
@@ -75,7 +75,7 @@ module _ (i : ImageOf Name) (c d : Name) (ready : IsReady i c d) where
       (each-flat (Fine c d) used_by_doit (resolved_image i).doits (all-map _ (resolved_doit i) i.doits (all-implies (λ (e : DoItOf Name). is_named_in text_eq d e.body ≡ false) _ (λ e k. doit-fine e k) i.doits ready.doits))))
 
   -- the classes in use
-  classes-other : AllByRecursion (Other c d) (names_in i).classes
+  pub classes-other : AllByRecursion (Other c d) (names_in i).classes
   classes-other = (ready.nothing, AllByRecursion-append (Other c d) value_classes _ ready.words_other (classes-fine c d (used_in (resolved_image i)) image-fine))
 
   -- no two names in use become one

@@ -46,12 +46,12 @@ user-there None h = absurd (false≢true h)
 user-there (Some e) h = (e, refl, denied e.kernel h)
 
 -- the class of the kernel that there is
-kernel-there : (o : Option (ClassOf Name)) → option_map_or (λ (e : ClassOf Name). e.kernel) o false ≡ true → (e : ClassOf Name) × (o ≡ Some e)
+pub kernel-there : (o : Option (ClassOf Name)) → option_map_or (λ (e : ClassOf Name). e.kernel) o false ≡ true → (e : ClassOf Name) × (o ≡ Some e)
 kernel-there None h = absurd (false≢true h)
 kernel-there (Some e) h = (e, refl)
 
 -- a name that begins with a letter is not empty
-begun : (d : Name) → begins_upper d ≡ true → text_eq d [] ≡ false
+pub begun : (d : Name) → begins_upper d ≡ true → text_eq d [] ≡ false
 begun d h = by_cases (text_eq d []) (λ e. absurd (false≢true (ap begins_upper (sym (text-same d [] e)) ∙ h))) (λ e. e)
 
 module _ (i : ImageOf Name) (c d : Name) (behind : IsBehindKernel i) (is_user : is_user_class text_eq i c ≡ true) (good : is_good_class_name d ≡ true) (unused : is_name_unused text_eq i d ≡ true) where
@@ -73,7 +73,7 @@ module _ (i : ImageOf Name) (c d : Name) (behind : IsBehindKernel i) (is_user : 
   no_code : (list_any (is_named_in_method text_eq d) i.methods || list_any (λ (e : DoItOf Name). is_named_in text_eq d e.body) i.doits) ≡ false
   no_code = neither_right (list_any (is_named_by_class text_eq d) i.classes) _ unnamed
 
-  others : AllByRecursion (IsOther c d) i.classes
+  pub others : AllByRecursion (IsOther c d) i.classes
   others = classes-other c d i.classes behind.ordered.before no_class
 
   -- what is asked of the new name
@@ -84,24 +84,24 @@ module _ (i : ImageOf Name) (c d : Name) (behind : IsBehindKernel i) (is_user : 
   ordinary = neither_left (is_pseudo_variable d) _ (denied _ (and-true_right (is_identifier d) _ (and-true_right (nat_le (length d) 200) _ (and-true_left (may_be_declared d) (begins_upper d) good))))
 
   -- the class is found by its name
-  found-other : (n : Name) (e : ClassOf Name) → class_named text_eq i.classes n ≡ Some e → Other c d n
+  pub found-other : (n : Name) (e : ClassOf Name) → class_named text_eq i.classes n ≡ Some e → Other c d n
   found-other n e q =
       let passes : text_eq n e.name ≡ true = subst (OptionNames (λ (x : ClassOf Name). text_eq n x.name ≡ true)) q (find-passes (λ x. text_eq n x.name) i.classes) in
       let one : IsOther c d e = subst (OptionNames (IsOther c d)) q (find-all (IsOther c d) (λ x. text_eq n x.name) i.classes others) in
       subst (Other c d) (sym (text-same n e.name passes)) one.name
 
   -- a class of the kernel has another name, and is another class
-  word-other : (n : Name) → is_kernel_class i n ≡ true → Other c d n
+  pub word-other : (n : Name) → is_kernel_class i n ≡ true → Other c d n
   word-other n h = let there = kernel-there (class_named text_eq i.classes n) h in found-other n there.0 there.1
 
-  word-apart : (n : Name) → is_kernel_class i n ≡ true → text_eq c n ≡ false
+  pub word-apart : (n : Name) → is_kernel_class i n ≡ true → text_eq c n ≡ false
   word-apart n h =
       by_cases (text_eq c n)
       (λ e. absurd (false≢true (sym user.2 ∙ sym (ap (λ o. option_map_or (λ (x : ClassOf Name). x.kernel) o false) user.1) ∙ ap (is_kernel_class i) (text-same c n e) ∙ h)))
       (λ e. e)
 
   -- the class of a method
-  home-other : (m : EntryOf Name) → HasClass i.classes m → OptionNames (Other c d) m.class
+  pub home-other : (m : EntryOf Name) → HasClass i.classes m → OptionNames (Other c d) m.class
   home-other m h = subst (OptionNames (Other c d)) (sym h.1) (fact-of (Other c d) (class_names i.classes) h.0 (all-map (Other c d) (λ (e : ClassOf Name). e.name) i.classes (all-implies (IsOther c d) (λ (e : ClassOf Name). Other c d e.name) (λ e k. k.name) i.classes others)) h.2)
 
   -- all of it

@@ -143,7 +143,7 @@ module _ (writing : WritingOf Name) (i : ImageOf Name) (s t : Name) where
   words-kept (w ∷ ws) e = (ap (λ b. if b then t else w) (neither_left (text_eq s w) (list_any (text_eq s) ws) e), words-kept ws (neither_right (text_eq s w) (list_any (text_eq s) ws) e))
 
 -- of eight tests of which none holds, those of the words of each list of control selectors
-eight : (a b c d e f g h : Bool) → (a || (b || (c || (d || (e || (f || (g || (h || false)))))))) ≡ false → ((a || (b || (e || (f || false)))) ≡ false) × ((c || (d || false)) ≡ false) × ((g || (h || false)) ≡ false)
+pub eight : (a b c d e f g h : Bool) → (a || (b || (c || (d || (e || (f || (g || (h || false)))))))) ≡ false → ((a || (b || (e || (f || false)))) ≡ false) × ((c || (d || false)) ≡ false) × ((g || (h || false)) ≡ false)
 eight a b c d e f g h p =
     let p1 = neither_right a (b || (c || (d || (e || (f || (g || (h || false))))))) p in
     let p2 = neither_right b (c || (d || (e || (f || (g || (h || false)))))) p1 in
@@ -158,14 +158,14 @@ eight a b c d e f g h p =
     )
 
 -- a selector that is none of control sends is in none of their lists
-no-control : (s : Name) → is_control s ≡ false → (list_any (text_eq s) one_block_selectors ≡ false) × (list_any (text_eq s) two_block_selectors ≡ false) × (list_any (text_eq s) loop_selectors ≡ false)
+pub no-control : (s : Name) → is_control s ≡ false → (list_any (text_eq s) one_block_selectors ≡ false) × (list_any (text_eq s) two_block_selectors ≡ false) × (list_any (text_eq s) loop_selectors ≡ false)
 unfolding is_control
 no-control s h =
     eight (text_eq s (codes "ifTrue:")) (text_eq s (codes "ifFalse:")) (text_eq s (codes "ifTrue:ifFalse:")) (text_eq s (codes "ifFalse:ifTrue:")) (text_eq s (codes "and:")) (text_eq s (codes "or:"))
     (text_eq s (codes "whileTrue:")) (text_eq s (codes "whileFalse:")) h
 
 -- nothing in two lists
-none-both : {X : Type 0} (p : X → Bool) (xs ys : List X) → list_any p xs ≡ false → list_any p ys ≡ false → list_any p (xs ++ ys) ≡ false
+pub none-both : {X : Type 0} (p : X → Bool) (xs ys : List X) → list_any p xs ≡ false → list_any p ys ≡ false → list_any p (xs ++ ys) ≡ false
 none-both p xs ys e f = list_any-append p xs ys ∙ (λ k. e k || f k)
 
 module _ (writing : WritingOf Name) (i : ImageOf Name) (s t : Name) where

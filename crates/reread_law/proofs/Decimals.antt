@@ -21,7 +21,7 @@ abbrev AreDigits : Text → Type 0
 AreDigits ds = list_all is_digit ds ≡ true
 
 -- tested byte by byte
-digits_test : IsDigitsTest AreDigits
+pub digits_test : IsDigitsTest AreDigits
 digits_test = record {
   empty = refl;
   parts = λ c cs h.
@@ -32,7 +32,7 @@ digits_test = record {
 }
 
 -- their value
-digits_model : IsNumeralModel AreDigits (digits_value 10)
+pub digits_model : IsNumeralModel AreDigits (digits_value 10)
 digits_model = numerals_by_value AreDigits digits_test
 
 -- digits alone are a numeral

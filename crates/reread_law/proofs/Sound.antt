@@ -86,7 +86,7 @@ pub sound_back : {o i : Input} → Sound o → Sound i → Sound (back o i)
 sound_back s t = record { held = s.held; rest = t.rest }
 
 -- the bytes of a token are a copy of those in the text
-slice_copy : (t : List ℕ) (i j : ℕ) → i ≤ j → j ≤ length t → IsCopy (slice_range t i j) 0 t i (j - i)
+pub slice_copy : (t : List ℕ) (i j : ℕ) → i ≤ j → j ≤ length t → IsCopy (slice_range t i j) 0 t i (j - i)
 slice_copy t i j le in_text = record {
   bytes = λ k lt. let e : 0 + k ≡ k = omega arith in ap (λ m. get_or (slice_range t i j) m 0) e ∙ get_or-between t i j k 0 (omega arith);
   ranges = λ k le.
@@ -117,7 +117,7 @@ numeral_good t i j le in_text h =
     subst (IsNumeral (slice_range t i j) 0) f (numeral_copy (slice_range t i j) 0 t i (j - i) (slice_copy t i j le in_text) (ends_at_end (slice_range t i j) (0 + (j - i)) (omega arith)) whole)
 
 -- the bytes of a comment
-comment_good : (t : List ℕ) (i j : ℕ) → i ≤ j → j ≤ length t → IsComment t i j → IsNote (slice_range t i j)
+pub comment_good : (t : List ℕ) (i j : ℕ) → i ≤ j → j ≤ length t → IsComment t i j → IsNote (slice_range t i j)
 comment_good t i j le in_text h =
     let size : length (slice_range t i j) ≡ j - i = length-between t i j in_text in
     let e : i + (j - i) ≡ j = omega arith in

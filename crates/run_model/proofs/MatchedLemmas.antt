@@ -21,7 +21,7 @@ prefix-trans : (xs ys zs : List Event) → IsPrefixOf xs ys → IsPrefixOf ys zs
 prefix-trans xs ys zs p q = (p.0 ++ q.0, sym (append_assoc xs p.0 q.0) ∙ ap (λ l. l ++ q.0) p.1 ∙ q.1)
 
 -- renamed events of a prefix
-prefix-renamed : (r : Renaming) (xs ys : List Event) → IsPrefixOf xs ys → IsPrefixOf (renamed_events r xs) (renamed_events r ys)
+pub prefix-renamed : (r : Renaming) (xs ys : List Event) → IsPrefixOf xs ys → IsPrefixOf (renamed_events r xs) (renamed_events r ys)
 prefix-renamed r xs ys p = (renamed_events r p.0, sym (map-append (renamed_event r) xs p.0) ∙ ap (renamed_events r) p.1)
 
 -- an outcome that is no end is that of a spent run

@@ -23,7 +23,7 @@ pub pair-same : (j k : OfClass) → same_pair j k ≡ true → j ≡ k
 pair-same j k e = ap (λ x. (x, j.1)) (text-same j.0 k.0 (and-true_left _ _ e)) ∙ ap (λ y. (k.0, y)) (text-same j.1 k.1 (and-true_right _ _ e))
 
 -- the same of methods
-method-same : (j k : MethodName) → same_method j k ≡ true → j ≡ k
+pub method-same : (j k : MethodName) → same_method j k ≡ true → j ≡ k
 method-same j k e =
     let rest = and-true_right (text_eq j.0 k.0) _ e in
     ap (λ x. (x, j.1, j.2)) (text-same j.0 k.0 (and-true_left _ _ e))
@@ -31,7 +31,7 @@ method-same j k e =
     ∙ ap (λ x. (k.0, k.1, x)) (text-same j.2 k.2 (and-true_right _ _ rest))
 
 -- the same of temporaries
-temporary-same : (j k : MethodName × Name) → same_temporary j k ≡ true → j ≡ k
+pub temporary-same : (j k : MethodName × Name) → same_temporary j k ≡ true → j ≡ k
 temporary-same j k e = ap (λ x. (x, j.1)) (method-same j.0 k.0 (and-true_left _ _ e)) ∙ ap (λ y. (k.0, y)) (text-same j.1 k.1 (and-true_right _ _ e))
 
 -- a thing is itself
@@ -44,7 +44,7 @@ side-refl true = refl
 side-refl false = refl
 
 -- a temporary is itself
-temporary-refl : (t : MethodName × Name) → same_temporary t t ≡ true
+pub temporary-refl : (t : MethodName × Name) → same_temporary t t ≡ true
 temporary-refl t =
     and-true_both _ _ (and-true_both _ _ (text_eq-refl t.0.0) (and-true_both _ _ (side-refl t.0.1) (text_eq-refl t.0.2))) (text_eq-refl t.1)
 

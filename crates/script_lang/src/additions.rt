@@ -52,7 +52,7 @@ fn behind_blanks(text: &[u8]) -> &[u8]
 }
 
 /// The first word of a text, and what stands behind it.
-pub(crate) fn split_word(text: &[u8]) -> (&[u8], &[u8])
+pub fn split_word(text: &[u8]) -> (&[u8], &[u8])
     ensures word { result.0.now ≡ script.first_word text.now }
     ensures rest { result.1.now ≡ script.behind_word text.now }
 {

@@ -4,7 +4,7 @@ ghost use Rattle.rb_base.specs.Names.{text_eq};
 ghost use Rattle.token_model.specs.Bytes as class;
 
 /// Whether both texts are the same.
-pub(crate) fn same_text(a: &[u8], b: &[u8]) -> bool
+pub fn same_text(a: &[u8], b: &[u8]) -> bool
     ensures { result ≡ text_eq a.now b.now }
 {
     a == b

@@ -11,5 +11,8 @@ mod script;
 mod verb;
 mod words;
 
+pub use additions::split_word;
+pub use bytes::same_text;
 pub use fault::ScriptFault;
+pub use lines::{is_blank_line, is_skipped, lines_of};
 pub use script::parse_script;

@@ -10,7 +10,7 @@ use crate::bytes::is_blank;
 use std::alloc::{AllocError, Global};
 
 /// Whether a line has nothing but blanks.
-pub(crate) fn is_blank_line(line: &[u8]) -> bool
+pub fn is_blank_line(line: &[u8]) -> bool
     ensures { result ≡ list_all class.is_blank line.now }
 {
     line.iter().all(|byte| is_blank(*byte))
@@ -24,7 +24,7 @@ fn is_comment(line: &[u8]) -> bool
 }
 
 /// Whether a line says nothing: it is blank, or begins with two minus signs.
-pub(crate) fn is_skipped(line: &[u8]) -> bool
+pub fn is_skipped(line: &[u8]) -> bool
     ensures { result ≡ script.is_skipped line.now }
 {
     is_blank_line(line) || is_comment(line)
@@ -76,7 +76,7 @@ fn without_return(line: &[u8]) -> &[u8]
 }
 
 /// The lines of a text, each without the line feed, and the carriage return before it, that end it.
-pub(crate) fn lines_of(alloc: Global, text: &[u8]) -> Result<Vec<&[u8]>, AllocError>
+pub fn lines_of(alloc: Global, text: &[u8]) -> Result<Vec<&[u8]>, AllocError>
     ensures { IfOk result (λ lines. texts lines.items ≡ script.lines_of text.now) }
 {
     let parts = parts_of(alloc, text)?;

@@ -99,18 +99,12 @@ fn judge_and_carry_out<L: Ledger>(
     Ok(())
 }
 
-/// Makes the tables ready by which methods are found at once, where a method goes up or down whose selector some code mentions:
-/// then classes are asked what they find. Where memory is wanting, the search is the slow one.
-fn make_ready(image: &mut Image, index: &Index, command: &Command)
+/// Makes the tables ready by which classes and methods are found at once, where a change before made them unready. Where memory
+/// is wanting, the search is the slow one.
+fn make_ready(image: &mut Image)
     ensures { image.new ≡ image.old }
 {
-    let selector = match command {
-        Command::PushUpMethod(method) | Command::PushDownMethod(method) => method.selector,
-        _ => return,
-    };
-    if !index.listed(selector).is_empty() {
-        let _ = image.reindex();
-    }
+    let _ = image.reindex();
 }
 
 /// The same, with what it looks for made ready.
@@ -127,7 +121,7 @@ fn perform_one<L: Ledger>(
     requires known { CommandNames (λ n. n < length image.old.names) (command_of command.now) }
     ensures { IsCarriedOut image.old index.old done.old (map_command (name_at image.old.names) (command_of command.now) ∷ []) image.new index.new done.new result }
 {
-    make_ready(image, index, command);
+    make_ready(image);
     judge_and_carry_out(alloc, image, index, command, done, steps)
 }
 

@@ -2,7 +2,9 @@
 use Rattle.std.specs.Prelude.{◌≡◌, ℕ, ◌+◌, false, IsTrue, List, [], ◌∷◌, ◌++◌, length}
 use Rattle.std.specs.List.{AllByRecursion}
 use Rattle.team_core.specs.declared.entry.Entry.{Entry}
-use Rattle.team_core.specs.Journal.{is_mover, revision, opens, closes}
+use Rattle.team_core.specs.declared.entry.Stand.TheVariants.{Idle}
+use Rattle.team_core.specs.Journal.{is_mover, revision, opens, closes, standing}
+use Rattle.team_core.specs.Events.{PointOf}
 
 -- the event neither opens nor closes the session
 abbrev pub LeavesOpen : ℕ → Entry → Type 0
@@ -39,3 +41,7 @@ pub record IsLastMover (log : List Entry) (number now : ℕ) : Type 0 where
   pub none_later : revision after ≡ 0
   pub number_is : number ≡ length before + 1
   pub now_is : now ≡ revision (before ++ mover ∷ [])
+
+-- no session has commands proposed while it is idle
+abbrev pub HasNoneIdle : {S C : Type 0} → PointOf S C → Type 0
+HasNoneIdle p = (s : ℕ) → standing s p.log ≡ Idle → p.proposed s ≡ []

@@ -6,9 +6,9 @@ ghost use Rattle.team_core.specs.declared.entry.Entry.{Entry};
 ghost use Rattle.team_core.specs.declared.entry.Stand.TheVariants.{Late};
 ghost use Rattle.team_core.specs.Journal.{revision, last_mover, since, standing};
 ghost use Rattle.team_core.specs.History.{RulesOf, Keeps};
-ghost use Rattle.team_core.specs.Events.{PointOf, Answers, Stays};
+ghost use Rattle.team_core.specs.Events.{PointOf, Begin, Answers, Stays, is_accepted};
 ghost use Rattle.team_laws.specs.Logs.{EventOf, Fits, Runs, replies, reached, movers, led};
-ghost use Rattle.team_laws.specs.Words.{IsOpenSince, IsLate, IsLastMover};
+ghost use Rattle.team_laws.specs.Words.{IsOpenSince, IsLate, IsLastMover, HasNoneIdle};
 
 /// A run begins with no events, goes on by an event that is answered, and waits at one that wants memory. So a loop over
 /// the events of a log keeps it.
@@ -42,4 +42,18 @@ pub fn law_words()
     ensures opened { (s : ℕ) (log between : List Entry) → (since s log ≡ Some between) ↔ IsOpenSince s log between }
     ensures late { (s : ℕ) (log : List Entry) → (standing s log ≡ Late) ↔ IsLate s log }
     ensures last { (log : List Entry) → 0 < revision log → IsLastMover log (last_mover log) (revision log) }
+{}
+
+/// Where no session has commands proposed while it is idle, so it is after each event that is answered, at the end of each run,
+/// and where each log leads; and it is so where nothing is proposed, as at the beginning of a log. So a session that is
+/// accepted to begin has nothing proposed.
+pub fn law_idle<S, C, Q>()
+    ensures start { (p : PointOf S C) → ((s : ℕ) → p.proposed s ≡ []) → HasNoneIdle p }
+    ensures event { (rules : RulesOf S C Q) (p q : PointOf S C) (e : EventOf C) (r : Reply Q) →
+        HasNoneIdle p → Answers rules p e.session e.act r q → HasNoneIdle q }
+    ensures run { (old new : RulesOf S C Q) (f g : C → Bool) (p q : PointOf S C) (es : List (EventOf C)) (rs : List (Reply Q)) →
+        HasNoneIdle p → Runs old f p es rs new g q → HasNoneIdle q }
+    ensures reached { (rules : RulesOf S C Q) (p : PointOf S C) (es : List (EventOf C)) → HasNoneIdle p → HasNoneIdle (reached rules p es) }
+    ensures begun { (rules : RulesOf S C Q) (p q : PointOf S C) (s : ℕ) (r : Reply Q) →
+        HasNoneIdle p → Answers rules p s Begin r q → IsTrue (is_accepted r) → q.proposed s ≡ [] }
 {}

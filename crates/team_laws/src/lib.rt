@@ -3,4 +3,4 @@
 
 mod laws;
 
-pub use laws::{law_history, law_log, law_runs, law_words};
+pub use laws::{law_history, law_idle, law_log, law_runs, law_words};

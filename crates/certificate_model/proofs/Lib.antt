@@ -1,0 +1,3 @@
+pub mod OneCertificate
+pub mod BadSteps
+pub mod Reading

@@ -1,0 +1,14 @@
+pub mod Stands
+pub mod Lessened
+pub mod Conditions
+pub mod Users
+pub mod Clearings
+pub mod ClassRemovals
+pub mod ClassFilings
+pub mod ClassesMade
+pub mod WholeLaw
+pub mod Differences
+pub mod WrittenChunks
+pub mod ChunksNamed
+pub mod ExamplesWritten
+pub mod NoRoot

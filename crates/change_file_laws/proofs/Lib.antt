@@ -1,0 +1,14 @@
+pub mod Numbers
+pub mod Lines
+pub mod PlacedDefinitions
+pub mod Readings
+pub mod Names
+pub mod Says
+pub mod EditsRead
+pub mod Behind
+pub mod Selectors
+pub mod Named
+pub mod Whole
+pub mod Counted
+pub mod Differing
+pub mod Nothing

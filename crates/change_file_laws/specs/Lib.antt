@@ -1,0 +1,6 @@
+pub mod Trees
+pub mod Stated
+pub mod Behind
+pub mod Other
+pub mod Naming
+pub mod Examples

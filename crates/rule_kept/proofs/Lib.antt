@@ -1,0 +1,13 @@
+pub mod Kept
+pub mod Bared
+pub mod FilledKept
+pub mod StepsKept
+pub mod LawsKept
+pub mod DerivedKept
+pub mod ChangedKept
+pub mod RewrittenKept
+pub mod Comments
+pub mod CommentsFound
+pub mod CommentsKept
+pub mod RuledTrees
+pub mod SpelledComments

@@ -1,0 +1,3 @@
+mod OneLine
+mod SomeLine
+pub mod DoItBeside

@@ -1,0 +1,3 @@
+pub mod RuleCommands
+pub mod RuleLines
+pub mod Beside

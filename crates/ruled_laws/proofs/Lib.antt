@@ -1,0 +1,5 @@
+mod StepsSpelled
+mod RuledKept
+mod RuledBeside
+mod SameVerdicts
+mod RuledNil

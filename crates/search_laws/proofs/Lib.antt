@@ -1,0 +1,4 @@
+mod Sorted
+mod Preorder
+mod MatchParts
+mod Finding

@@ -1,0 +1,3 @@
+mod Accessors
+mod Spelled
+mod WaysBack
