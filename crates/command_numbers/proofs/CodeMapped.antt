@@ -8,22 +8,19 @@ use Rattle.command_model.specs.Asked.{AskedOf}
 use Rattle.command_model.specs.Commands.{CommandOf, AddParameter, RemoveParameter, AbstractInstVar, ExtractMethod, InlineMethod, ExtractTemp, InlineTemp, RenameTemp, MovesNoCode}
 use Rattle.command_model.specs.Conditions.{ConditionOf, AtomLiteral, Declared, NotIn, Shallow}
 use Rattle.command_model.specs.Places.{users_method}
-use Rattle.command_model.specs.Parameters.{parameter_removed}
-use Rattle.command_model.specs.ParameterConditions.{is_shallow}
 use Rattle.command_model.specs.Sequences.{with_tree}
 use Rattle.command_model.specs.Temporaries.{is_declared_once, temporary_renamed}
 use Rattle.command_model.specs.CodeNeeds.{in_no_implementor}
 use Rattle.command_model.specs.CodeEffects.{retreed}
-use Rattle.command_model.specs.CodeHolds.{no_writing, code_holds}
+use Rattle.command_model.specs.CodeHolds.{code_holds}
 use Rattle.command_numbers.specs.MappedCommands.{map_command, map_condition}
 use Rattle.command_numbers.specs.KeepsAsked.{KeepsAsked, KeepsWriting}
 use Rattle.command_numbers.proofs.Lists.{filter-total, filter_map-total, or-total}
 use Rattle.command_numbers.proofs.Everywhere.{Every}
 use Rattle.command_numbers.proofs.Classes.{same-map}
 use Rattle.command_numbers.proofs.NamesAsked.{is_named_in_method-map}
-use Rattle.command_numbers.proofs.ParametersMapped.{parameter_removed-map}
 use Rattle.command_numbers.proofs.TemporariesMapped.{users_method-map, with_tree-map, is_declared_once-map, temporary_renamed-map}
-use Rattle.command_numbers.proofs.ParameterConditionsMapped.{is_shallow-map, is_shallow_speaking-map, is_passed_atom-map}
+use Rattle.command_numbers.proofs.ParameterConditionsMapped.{is_shallow_speaking-map, is_passed_atom-map}
 
 module _ {M N : Type 0} (f : M → N) (a : AskedOf M) (b : AskedOf N) (keeps : KeepsAsked Every f a b) (i : ImageOf M) where
   -- a new name in each method of a selector
@@ -94,12 +91,6 @@ module _ {M N : Type 0} (f : M → N) (a : AskedOf M) (b : AskedOf N) (keeps : K
   -- how high trees are after a command
   pub shallow-map : (command : CommandOf M) → MovesNoCode command → code_holds b (map_image f i) (map_command f command) Shallow ≡ code_holds a i command Shallow
   shallow-map (AddParameter s t x passed) still = is_shallow_speaking-map f a.words b.words keeps.words s i
-  shallow-map (RemoveParameter s k t) still =
-      ap is_shallow (parameter_removed-map f a.words b.words keeps.words no_writing no_writing (record { method_text = λ m h. refl; doit_text = λ d h. refl }) s k t i)
-      ∙ is_shallow-map f (parameter_removed a.words.tests.same no_writing s k t i)
-  shallow-map (RenameTemp c meta s x y) still =
-      ap (λ (o : Option (ImageOf N)). option_map_or is_shallow o false) (temporary-map no_writing no_writing (record { method_text = λ m h. refl; doit_text = λ d h. refl }) c meta s x y)
-      ∙ or-total (map_image f) is_shallow is_shallow false (is_shallow-map f) (retreed a i no_writing c meta s (λ m. Some (temporary_renamed a m.tree x y)))
   shallow-map (AbstractInstVar c x setter given) still = absurd still
   shallow-map (ExtractMethod c meta s from to t) still = absurd still
   shallow-map (InlineMethod c meta s from to) still = absurd still

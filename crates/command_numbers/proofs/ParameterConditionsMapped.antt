@@ -21,7 +21,7 @@ use Rattle.rename_model.specs.Conditions.{speaks_of}
 use Rattle.command_model.specs.Asked.{AskedOf}
 use Rattle.command_model.specs.Places.{is_formal}
 use Rattle.command_model.specs.Plain.{is_atom_literal, is_passed_atom}
-use Rattle.command_model.specs.ParameterConditions.{is_declared, passed_by, is_shallow, is_shallow_speaking, formal_reads, counts_argument, is_parameter_unused, may_be_dropped, are_arguments_plain}
+use Rattle.command_model.specs.ParameterConditions.{is_declared, passed_by, is_shallow_speaking, formal_reads, counts_argument, is_parameter_unused, may_be_dropped, are_arguments_plain}
 use Rattle.command_numbers.specs.KeepsAsked.{KeepsAsked}
 use Rattle.command_numbers.proofs.Lists.{chosen, get-map, all-total, filter-total, or-total}
 use Rattle.command_numbers.proofs.Everywhere.{Every}
@@ -45,14 +45,6 @@ module _ {M N : Type 0} (f : M → N) where
   is_declared-map : (m : MeaningOf M) → is_declared (map_meaning f m) ≡ is_declared m
   is_declared-map undeclared = refl
   is_declared-map m = refl
-
-  -- an image of trees that are not high
-  pub is_shallow-map : (i : ImageOf M) → is_shallow (map_image f i) ≡ is_shallow i
-  is_shallow-map i =
-      λ j. all-total (map_entry f) (λ (m : EntryOf M). m.kernel || nat_le (sequence_height m.tree.body) 200) (λ (m : EntryOf N). m.kernel || nat_le (sequence_height m.tree.body) 200)
-      (λ m. ap (λ (h : ℕ). m.kernel || nat_le h 200) (statements_height-map_statements f m.tree.body.statements)) i.methods j
-      && all-total (map_doit f) (λ (d : DoItOf M). nat_le (sequence_height d.body) 200) (λ (d : DoItOf N). nat_le (sequence_height d.body) 200)
-      (λ d. ap (λ (h : ℕ). nat_le h 200) (statements_height-map_statements f d.body.statements)) i.doits j
 
   module _ (w : WordsOf M) (v : WordsOf N) (keeps : KeepsWords Every f w v) where
     -- what messages of a selector pass
