@@ -48,11 +48,11 @@ module _ {M N : Type 0} (f : M → N) (w : WordsOf M) (v : WordsOf N) (keeps : K
     made-map path (brace ts) = refl
     made-map path (return t) = refl
 
-    is_meant-map : (b : SequenceOf M) → is_meant v writing_there (f self_name) (f c) (f x) (f setter) (f given) (map_image f i) at_there (map_sequence f b) ≡ is_meant w writing self_name c x setter given i at b
+    pub is_meant-map : (b : SequenceOf M) → is_meant v writing_there (f self_name) (f c) (f x) (f setter) (f given) (map_image f i) at_there (map_sequence f b) ≡ is_meant w writing self_name c x setter given i at b
     is_meant-map b = some_use f w v keeps writing writing_there written (is_it w writing i of_instance c x x) (is_it v writing_there (map_image f i) of_instance (f c) (f x) (f x)) is_it-map at at_there u b
 
   -- a method, and a do-it
-  method_made-map : (m : EntryOf M) → method_made v writing_there (f self_name) (f c) (f x) (f setter) (f given) (map_image f i) (map_entry f m) ≡ map_entry f (method_made w writing self_name c x setter given i m)
+  pub method_made-map : (m : EntryOf M) → method_made v writing_there (f self_name) (f c) (f x) (f setter) (f given) (map_image f i) (map_entry f m) ≡ map_entry f (method_made w writing self_name c x setter given i m)
   method_made-map m =
       chosen (map_entry f) (is_meant w writing self_name c x setter given i (means w i m) m.tree.body) (is_meant v writing_there (f self_name) (f c) (f x) (f setter) (f given) (map_image f i) (means v (map_image f i) (map_entry f m)) (map_sequence f m.tree.body))
       (record m { tree = tree; source = writing.method_text tree }) m (record (map_entry f m) { tree = tree_there; source = writing_there.method_text tree_there }) (map_entry f m)
@@ -70,7 +70,7 @@ module _ {M N : Type 0} (f : M → N) (w : WordsOf M) (v : WordsOf N) (keeps : K
           rebuilt_method-map f (made w writing self_name c x setter given i (means w i m)) (made v writing_there (f self_name) (f c) (f x) (f setter) (f given) (map_image f i) (means v (map_image f i) (map_entry f m)))
           (made-map (means w i m) (means v (map_image f i) (map_entry f m)) (means-there f w v keeps i m)) m.tree
 
-  doit_made-map : (d : DoItOf M) → doit_made v writing_there (f self_name) (f c) (f x) (f setter) (f given) (map_image f i) (map_doit f d) ≡ map_doit f (doit_made w writing self_name c x setter given i d)
+  pub doit_made-map : (d : DoItOf M) → doit_made v writing_there (f self_name) (f c) (f x) (f setter) (f given) (map_image f i) (map_doit f d) ≡ map_doit f (doit_made w writing self_name c x setter given i d)
   doit_made-map d =
       chosen (map_doit f) (is_meant w writing self_name c x setter given i (means_in_doit w i d) d.body) (is_meant v writing_there (f self_name) (f c) (f x) (f setter) (f given) (map_image f i) (means_in_doit v (map_image f i) (map_doit f d)) (map_sequence f d.body))
       (record { body = body; source = writing.doit_text body }) d (record { body = body_there; source = writing_there.doit_text body_there }) (map_doit f d)

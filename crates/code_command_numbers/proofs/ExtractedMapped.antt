@@ -46,7 +46,7 @@ module _ {M N : Type 0} (f : M → N) where
       ap (λ (ss : StatementsOf N). run_of ss first count) (statements_at-map f m.body path) ∙ run_of-map f (statements_at m.body path) first count
 
   -- an expression in place of a part
-  part_replaced-map : (m : MethodOf M) (part : Part) (t : TreeOf M) → part_replaced (map_method f m) part (map_names f t) ≡ map_method f (part_replaced m part t)
+  pub part_replaced-map : (m : MethodOf M) (part : Part) (t : TreeOf M) → part_replaced (map_method f m) part (map_names f t) ≡ map_method f (part_replaced m part t)
   part_replaced-map m (Expression path) t = method_replaced-map_method f m path t
   part_replaced-map m (Run path first count) t = sequence_changed-map f (put_in first count (single t)) (put_in first count (single (map_names f t))) (put_in-map f first count (single t)) path m
 
@@ -74,7 +74,7 @@ module _ {M N : Type 0} (f : M → N) (a : AskedOf M) (b : AskedOf N) (keeps : K
       (λ n. ap is_local (local_in-there f a.words b.words keeps.words m (beginning part) n)) (names_in a m part)
 
   -- the method that a part becomes
-  method_of-map : (t : M) (m : MethodOf M) (part : Part) → method_of b (f t) (map_method f m) part ≡ map_method f (method_of a t m part)
+  pub method_of-map : (t : M) (m : MethodOf M) (part : Part) → method_of b (f t) (map_method f m) part ≡ map_method f (method_of a t m part)
   method_of-map t m part =
       (λ i. normal (record {
         selector = f t;
@@ -93,7 +93,7 @@ module _ {M N : Type 0} (f : M → N) (a : AskedOf M) (b : AskedOf N) (keeps : K
 
   module _ (is_self : b.self_name ≡ f a.self_name) where
     -- the message in place of a part
-    call_of-map : (t : M) (m : MethodOf M) (part : Part) → call_of b (f t) (map_method f m) part ≡ map_names f (call_of a t m part)
+    pub call_of-map : (t : M) (m : MethodOf M) (part : Part) → call_of b (f t) (map_method f m) part ≡ map_names f (call_of a t m part)
     call_of-map t m part =
         (λ i. send (var (is_self i)) (f t) (trees_of (map (λ (n : N). var n) (free_temporaries-map m part i))))
         ∙ ap (send (var (f a.self_name)) (f t)) (names_passed f (free_temporaries a m part))

@@ -26,6 +26,7 @@ mod InlineConditionsMapped
 mod LetConditionsMapped
 mod MovesCode
 mod MovedEffects
+mod MovedHeights
 mod MovedConditions
 mod MovedNamed
 mod AllNamed

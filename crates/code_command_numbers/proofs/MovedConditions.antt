@@ -11,10 +11,9 @@ use Rattle.command_model.specs.Conditions.{of_methods, AtPart, AtName, Condition
 use Rattle.command_model.specs.Places.{users_method, SendOf}
 use Rattle.command_model.specs.Extracted.{free_temporaries}
 use Rattle.command_model.specs.Temporaries.{LetOf, let_of}
-use Rattle.command_model.specs.CodeEffects.{part_at, send_at, target_of, code_effect}
+use Rattle.command_model.specs.CodeEffects.{part_at, send_at, target_of, tree_inlining, tree_extracting, tree_without, code_effect}
 use Rattle.command_model.specs.CodeNeeds.{target_needs}
-use Rattle.command_model.specs.CodeHolds.{no_writing}
-use Rattle.command_model.specs.ParameterConditions.{is_shallow}
+use Rattle.command_model.specs.CodeHolds.{are_low_extracted}
 use Rattle.command_model.specs.PartConditions.{is_part, has_no_return, assigns_no_outer, are_temporaries_steady, is_value_unused, is_first_evaluated}
 use Rattle.command_model.specs.InlineConditions.{is_self_send, is_inlinable, are_actuals_plain, captures_nothing, makes_no_control}
 use Rattle.command_model.specs.LetConditions.{is_let_form, is_value_kept, is_value_no_control}
@@ -27,7 +26,6 @@ use Rattle.code_command_numbers.specs.KeepsMoves.{KeepsMoves}
 use Rattle.code_command_numbers.proofs.Lists.{or-total, made-total}
 use Rattle.code_command_numbers.proofs.Everywhere.{Every}
 use Rattle.code_command_numbers.proofs.TemporariesMapped.{users_method-map}
-use Rattle.code_command_numbers.proofs.ParameterConditionsMapped.{is_shallow-map}
 use Rattle.code_command_numbers.proofs.PlacesMapped.{map_send}
 use Rattle.code_command_numbers.proofs.LetsMapped.{map_let, let_of-map}
 use Rattle.code_command_numbers.proofs.ExtractedMapped.{free_temporaries-map}
@@ -35,7 +33,8 @@ use Rattle.code_command_numbers.proofs.PartConditionsMapped.{is_part-map, has_no
 use Rattle.code_command_numbers.proofs.InlineConditionsMapped.{is_self_send-map, is_one_target-map, is_inlinable-map, are_actuals_plain-map, captures_nothing-map, makes_no_control-map}
 use Rattle.code_command_numbers.proofs.LetConditionsMapped.{is_let_form-map, is_value_kept-map, is_value_no_control-map}
 use Rattle.code_command_numbers.proofs.MovesCode.{MovesCode, IsOfMove}
-use Rattle.code_command_numbers.proofs.MovedEffects.{map_part, map_sent, part_at-map, send_at-map, target_of-map, code_effect-map}
+use Rattle.code_command_numbers.proofs.MovedEffects.{map_part, map_sent, part_at-map, send_at-map, target_of-map, tree_inlining-map, tree_extracting-map, tree_without-map, code_effect-map}
+use Rattle.code_command_numbers.proofs.MovedHeights.{is_low_made-map, are_low_extracted-map, are_low_abstracted-map}
 
 module _ {M N : Type 0} (f : M → N) (a : AskedOf M) (b : AskedOf N) (keeps : KeepsMoves Every f a b) (i : ImageOf M) where
   -- what is asked of a part, of a message and its target, and of an assignment
@@ -74,18 +73,13 @@ module _ {M N : Type 0} (f : M → N) (a : AskedOf M) (b : AskedOf N) (keeps : K
   inlinable-map (InlineMethod d side t from to) c meta s = of_target-map d side t from to (is_inlinable a i d) (is_inlinable b (map_image f i) (f d)) (is_inlinable-map f a b keeps i d)
   inlinable-map command c meta s = refl
 
-  -- how high trees are after
-  shallow-map : (command : CommandOf M) → MovesCode command → option_map_or is_shallow (code_effect b (map_image f i) no_writing (map_command f command)) false ≡ option_map_or is_shallow (code_effect a i no_writing command) false
-  shallow-map command moves =
-      ap (λ (o : Option (ImageOf N)). option_map_or is_shallow o false) (code_effect-map f a b keeps i no_writing no_writing (record { method_text = λ m h. refl; doit_text = λ d h. refl }) command moves)
-      ∙ or-total (map_image f) is_shallow is_shallow false (is_shallow-map f) (code_effect a i no_writing command)
-
+  -- how high what a command changes or adds is after
   shallow_holds : (command : CommandOf M) → MovesCode command → holds b (map_image f i) (map_command f command) Shallow ≡ holds a i command Shallow
-  shallow_holds (AbstractInstVar c x setter given) moves = shallow-map (AbstractInstVar c x setter given) tt
-  shallow_holds (ExtractMethod c meta s from to t) moves = shallow-map (ExtractMethod c meta s from to t) tt
-  shallow_holds (InlineMethod c meta s from to) moves = shallow-map (InlineMethod c meta s from to) tt
-  shallow_holds (ExtractTemp c meta s from to x) moves = shallow-map (ExtractTemp c meta s from to x) tt
-  shallow_holds (InlineTemp c meta s x) moves = shallow-map (InlineTemp c meta s x) tt
+  shallow_holds (AbstractInstVar c x setter given) moves = are_low_abstracted-map f a b keeps i c x setter given
+  shallow_holds (ExtractMethod c meta s from to t) moves = of_part-map c meta s from to (are_low_extracted a i t) (are_low_extracted b (map_image f i) (f t)) (are_low_extracted-map f a b keeps i t)
+  shallow_holds (InlineMethod c meta s from to) moves = is_low_made-map f a b keeps i c meta s (tree_inlining a i c meta s from to) (tree_inlining b (map_image f i) (f c) meta (f s) from to) (tree_inlining-map f a b keeps i c meta s from to)
+  shallow_holds (ExtractTemp c meta s from to x) moves = is_low_made-map f a b keeps i c meta s (tree_extracting a i from to x) (tree_extracting b (map_image f i) from to (f x)) (tree_extracting-map f a b keeps i from to x)
+  shallow_holds (InlineTemp c meta s x) moves = is_low_made-map f a b keeps i c meta s (tree_without a i x) (tree_without b (map_image f i) (f x)) (tree_without-map f a b keeps i x)
   shallow_holds command moves = absurd moves
 
   -- whether a condition holds

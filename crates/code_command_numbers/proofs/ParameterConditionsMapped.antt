@@ -1,19 +1,17 @@
--- Where a method reads an argument, which literals are atoms, and how high trees are, are the same once names are changed one to one.
-use Rattle.std.proofs.Common.{◌≡◌, ℕ, Bool, false, ◌&&◌, ◌||◌, nat_le, List, map, filter, refl, ap, ◌∙◌}
+-- Where a method reads an argument, which literals are atoms, and how high sequences are, are the same once names are changed one to one.
+use Rattle.std.proofs.Common.{◌≡◌, ℕ, Bool, false, ◌&&◌, nat_le, List, map, filter, refl, ap, ◌∙◌}
 use Rattle.std.proofs.lemmas.Simd.{map-map}
-use Rattle.tree_model.specs.Tree.{LiteralOf, var, literal, send, cascade, assign, block, brace, return, MethodOf, number, map_literal, map_method}
+use Rattle.tree_model.specs.Tree.{LiteralOf, var, literal, send, cascade, assign, block, brace, return, SequenceOf, MethodOf, number, map_literal, map_sequence, map_method}
 use Rattle.tree_model.specs.Nodes.{Placed, nodes}
-use Rattle.tree_model.specs.Measure.{sequence_height}
 use Rattle.tree_model.proofs.Measures.{statements_height-map_statements}
 use Rattle.tree_model.proofs.NodesLemmas.{nodes-map_sequence}
 use Rattle.scope_model.specs.Scope.{local_in}
-use Rattle.image_model.specs.Image.{EntryOf, DoItOf, ImageOf, map_entry, map_doit, map_image}
 use Rattle.command_model.specs.Asked.{AskedOf}
 use Rattle.command_model.specs.Places.{is_formal}
 use Rattle.command_model.specs.Plain.{is_atom_literal}
-use Rattle.command_model.specs.ParameterConditions.{is_shallow, formal_reads}
+use Rattle.command_model.specs.ParameterConditions.{is_low, formal_reads}
 use Rattle.command_numbers.specs.KeepsAsked.{KeepsAsked}
-use Rattle.code_command_numbers.proofs.Lists.{all-total, filter-total}
+use Rattle.code_command_numbers.proofs.Lists.{filter-total}
 use Rattle.code_command_numbers.proofs.Everywhere.{Every}
 use Rattle.code_command_numbers.proofs.NodesAsked.{mapped_node}
 use Rattle.code_command_numbers.proofs.Classes.{same-map}
@@ -30,13 +28,9 @@ module _ {M N : Type 0} (f : M → N) where
   is_atom_literal-map (number t) = refl
   is_atom_literal-map l = refl
 
-  -- an image of trees that are not high
-  pub is_shallow-map : (i : ImageOf M) → is_shallow (map_image f i) ≡ is_shallow i
-  is_shallow-map i =
-      λ j. all-total (map_entry f) (λ (m : EntryOf M). m.kernel || nat_le (sequence_height m.tree.body) 200) (λ (m : EntryOf N). m.kernel || nat_le (sequence_height m.tree.body) 200)
-      (λ m. ap (λ (h : ℕ). m.kernel || nat_le h 200) (statements_height-map_statements f m.tree.body.statements)) i.methods j
-      && all-total (map_doit f) (λ (d : DoItOf M). nat_le (sequence_height d.body) 200) (λ (d : DoItOf N). nat_le (sequence_height d.body) 200)
-      (λ d. ap (λ (h : ℕ). nat_le h 200) (statements_height-map_statements f d.body.statements)) i.doits j
+  -- a sequence that is not high
+  pub is_low-map : (b : SequenceOf M) → is_low (map_sequence f b) ≡ is_low b
+  is_low-map b = ap (λ (h : ℕ). nat_le h 200) (statements_height-map_statements f b.statements)
 
 module _ {M N : Type 0} (f : M → N) (a : AskedOf M) (b : AskedOf N) (keeps : KeepsAsked Every f a b) where
   -- where a method reads an argument
