@@ -1,6 +1,6 @@
 -- With `nil` as one more do-it, conditions that only commands have which change code are as they are without it.
-use Rattle.std.proofs.Common.{◌≡◌, ℕ, Bool, true, false, not, ◌&&◌, ◌||◌, List, [], ◌∷◌, Option, Some, None, refl, ap, ◌∙◌}
-use Rattle.std.specs.Prelude.{◌-◌, nat_le, codes, option_map, if◌then◌else◌}
+use Rattle.std.proofs.Common.{◌≡◌, ℕ, Bool, true, false, not, ◌&&◌, ◌||◌, List, [], ◌∷◌, refl, ap, ◌∙◌}
+use Rattle.std.specs.Prelude.{◌-◌, nat_le, codes, if◌then◌else◌}
 use Rattle.std.specs.List.{AllByRecursion, list_all, list_any}
 use Rattle.std.specs.Option.{option_map_or}
 use Rattle.std.proofs.lemmas.List.Folds.{list_all-append}
@@ -12,7 +12,7 @@ use Rattle.tree_model.specs.Measure.{sequence_height}
 use Rattle.scope_model.specs.SpecialNames.{is_pseudo_variable}
 use Rattle.image_model.specs.Image.{EntryOf, DoItOf, ImageOf, plus}
 use Rattle.image_model.specs.Words.{text_words}
-use Rattle.image_model.specs.Means.{means_in_doit}
+use Rattle.image_model.specs.Means.{means, means_in_doit}
 use Rattle.image_model.specs.Nodes.{in_doit, NodeOf, nodes_of, image_nodes}
 use Rattle.image_model.specs.Uses.{is_sender}
 use Rattle.run_model.specs.Values.{Name}
@@ -22,19 +22,23 @@ use Rattle.command_model.specs.Asked.{text_asked}
 use Rattle.command_model.specs.Commands.{CommandOf, AddParameter, AbstractInstVar, InlineMethod}
 use Rattle.command_model.specs.Conditions.{Inlinable, Shallow}
 use Rattle.command_model.specs.Walk.{rebuilt_sequence}
-use Rattle.command_model.specs.Accessors.{made}
-use Rattle.command_model.specs.CodeEffects.{code_effect}
-use Rattle.command_model.specs.ParameterConditions.{is_declared, passed_by, is_shallow, is_shallow_speaking, counts_argument, may_be_dropped, are_arguments_plain}
-use Rattle.command_model.specs.CodeHolds.{no_writing}
+use Rattle.command_model.specs.Accessors.{getter, setter_of, made, is_meant, method_made, doit_made}
+use Rattle.command_model.specs.ParameterConditions.{is_declared, passed_by, is_low, is_shallow_speaking, counts_argument, may_be_dropped, are_arguments_plain}
+use Rattle.command_model.specs.CodeHolds.{no_writing, are_low_abstracted}
 use Rattle.command_model.specs.Holds.{holds}
 use Rattle.session_model.specs.Admitted.{nil_doit}
-use Rattle.command_model.proofs.CodeBeside.{last_after, code-beside}
+use Rattle.command_model.proofs.CodeBeside.{last_after}
 use Rattle.history_laws.proofs.NilUses.{and-false, all-implied, nodes-plus, MeansAsMuch, meanings-agree}
 
 -- a test and what is true
 true-too : (b : Bool) → (b && true) ≡ b
 true-too true = refl
 true-too false = refl
+
+-- a test or what is true
+or-true : (b : Bool) → (b || true) ≡ true
+or-true true = refl
+or-true false = refl
 
 -- tests that agree on each item
 same-all : {A : Type 0} (p q : A → Bool) (xs : List A) → AllByRecursion (λ x. p x ≡ q x) xs → list_all p xs ≡ list_all q xs
@@ -50,23 +54,27 @@ module _ (i : ImageOf Name) where
       ap (λ b. let d : DoItOf Name = record { body = body; source = writing.doit_text body } in if b || false then d else nil_doit) (and-false (text_eq x (codes "nil")))
   last-same writing c = refl
 
-  -- an image with `nil` has no higher trees
-  one-shallow : (j : ImageOf Name) → is_shallow (plus j nil_doit) ≡ is_shallow j
-  one-shallow j =
-      ap (λ b. list_all (λ (m : EntryOf Name). m.kernel || nat_le (sequence_height m.tree.body) 200) j.methods && b)
-      (list_all-append (λ (d : DoItOf Name). nat_le (sequence_height d.body) 200) j.doits (nil_doit ∷ [])
-      ∙ true-too (list_all (λ (d : DoItOf Name). nat_le (sequence_height d.body) 200) j.doits))
+  -- `nil` reads and assigns no variable
+  module _ (c x setter given : Name) where
+    abbrev method_low : EntryOf Name → Bool
+    method_low m =
+        m.kernel || (not (is_meant text_words no_writing (codes "self") c x setter given i (means text_words i m) m.tree.body)
+        || is_low (method_made text_words no_writing (codes "self") c x setter given i m).tree.body)
 
-  any-shallow : (o : Option (ImageOf Name)) → option_map_or is_shallow (option_map (λ j. plus j nil_doit) o) false ≡ option_map_or is_shallow o false
-  any-shallow None = refl
-  any-shallow (Some j) = one-shallow j
+    abbrev doit_low : DoItOf Name → Bool
+    doit_low d =
+        not (is_meant text_words no_writing (codes "self") c x setter given i (means_in_doit text_words i d) d.body)
+        || is_low (doit_made text_words no_writing (codes "self") c x setter given i d).body
 
-  effect-shallow : (c : CommandOf Name) →
-      option_map_or is_shallow (code_effect text_asked (plus i nil_doit) no_writing c) false ≡ option_map_or is_shallow (code_effect text_asked i no_writing c) false
-  effect-shallow c =
-      ap (λ o. option_map_or is_shallow o false)
-      (code-beside text_asked no_writing i nil_doit c ∙ ap (λ d. option_map (λ j. plus j d) (code_effect text_asked i no_writing c)) (last-same no_writing c))
-      ∙ any-shallow (code_effect text_asked i no_writing c)
+    nil_low : doit_low nil_doit ≡ true
+    nil_low =
+        let meant : Bool = is_meant text_words no_writing (codes "self") c x setter given i (means_in_doit text_words i nil_doit) nil_doit.body in
+        ap (λ (d : DoItOf Name). not meant || is_low d.body) (last-same no_writing (AbstractInstVar c x setter given)) ∙ or-true (not meant)
+
+    abstracted-plus : are_low_abstracted text_asked (plus i nil_doit) c x setter given ≡ are_low_abstracted text_asked i c x setter given
+    abstracted-plus =
+        ap (λ b. is_low (getter x).body && (is_low (setter_of x setter given).body && (list_all method_low i.methods && b)))
+        (list_all-append doit_low i.doits (nil_doit ∷ []) ∙ ap (λ b. list_all doit_low i.doits && (b && true)) nil_low ∙ true-too (list_all doit_low i.doits))
 
   -- `nil` sends nothing
   speaking-plus : (s : Name) → is_shallow_speaking text_eq s (plus i nil_doit) ≡ is_shallow_speaking text_eq s i
@@ -77,7 +85,8 @@ module _ (i : ImageOf Name) where
 
   pub shallow-plus : (c : CommandOf Name) → holds text_asked (plus i nil_doit) c Shallow ≡ holds text_asked i c Shallow
   shallow-plus (AddParameter s t x passed) = speaking-plus s
-  shallow-plus c = effect-shallow c
+  shallow-plus (AbstractInstVar c x setter given) = abstracted-plus c x setter given
+  shallow-plus c = refl
 
   -- the target of a message
   pub inlinable-plus : (c : CommandOf Name) (d : Name) (meta : Bool) (s : Name) → holds text_asked (plus i nil_doit) c (Inlinable d meta s) ≡ holds text_asked i c (Inlinable d meta s)
