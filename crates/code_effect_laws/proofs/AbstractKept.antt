@@ -1,6 +1,8 @@
 -- `abstractInstVar` keeps images valid, where its conditions hold.
-use Rattle.std.proofs.Common.{◌≡◌, ◌⊎◌, inl, inr, ◌≤◌, Bool, true, false, List, [], ◌∷◌, ◌++◌, map, find, Some, None, refl, sym, ap, subst, ◌∙◌}
-use Rattle.std.specs.Prelude.{if◌then◌else◌, codes}
+use Rattle.std.proofs.Common.{◌≡◌, ◌⊎◌, inl, inr, ◌≤◌, Bool, true, false, not, List, [], ◌∷◌, ◌++◌, map, find, Some, None, refl, sym, ap, subst, ◌∙◌}
+use Rattle.std.specs.Prelude.{◌||◌, if◌then◌else◌, codes}
+use Rattle.std.specs.List.{list_all}
+use Rattle.std.proofs.lemmas.Bool.{and_parts, leb-true}
 use Rattle.std.proofs.lemmas.Simd.{map-map}
 use Rattle.std.proofs.lemmas.List.{map-id}
 use Rattle.rb_base.specs.Names.{text_eq}
@@ -21,22 +23,22 @@ use Rattle.file_model.specs.Fileable.{reading_of, MayStand}
 use Rattle.file_laws.specs.Fronts.{method_of_kernel}
 use Rattle.rename_model.specs.ClassRenamed.{WritingOf, canonical}
 use Rattle.rename_model.specs.Conditions.{is_selector_fresh}
-use Rattle.command_model.specs.Accessors.{accessing, getter, setter_of, made, is_meant, method_made, doit_made, variable_abstracted}
+use Rattle.command_model.specs.Accessors.{accessing, getter, setter_of, made, is_meant, method_made, doit_made}
 use Rattle.command_model.specs.Asked.{text_asked}
 use Rattle.command_model.specs.Commands.{AbstractInstVar}
 use Rattle.command_model.specs.CodeHolds.{no_writing}
 use Rattle.command_model.specs.MethodEffects.{new_method}
-use Rattle.command_model.specs.ParameterConditions.{is_shallow}
+use Rattle.command_model.specs.ParameterConditions.{is_low}
 use Rattle.command_model.specs.Walk.{rebuilt_sequence, rebuilt_method}
 use Rattle.command_model.specs.Effects.{effect}
 use Rattle.command_model.specs.AllHold.{AllHold}
 use Rattle.kept_runs.specs.WellSpelled.{AreSetterNames}
-use Rattle.effect_laws.proofs.Items.{In, Once, all_in, in_map, map_in, in_front, in_either}
+use Rattle.effect_laws.proofs.Items.{In, Once, all_in, in_map, map_in, in_either}
 use Rattle.effect_laws.proofs.Sound.{HasHome, MayBeName, AreSoundMethods, IsSound}
 use Rattle.effect_laws.proofs.Fronts.{behind_map}
 use Rattle.effect_laws.proofs.Tests.{HasName}
 use Rattle.effect_laws.proofs.Facts.{user_class, variable_there}
-use Rattle.effect_laws.proofs.Kernel.{IsWhole}
+use Rattle.effect_laws.proofs.Kernel.{IsWhole, all_pass}
 use Rattle.effect_laws.proofs.VariableCode.{method_means_none, doit_means_none, none_means, off_kernel, off_doits}
 use Rattle.effect_laws.proofs.RenamesKept.{fresh_selector}
 use Rattle.effect_laws.proofs.WholeTrees.{IsWritten, well_of, written_method, spelled_method}
@@ -47,7 +49,6 @@ use Rattle.effect_laws.proofs.Blanks.{may_stand, method_begins}
 use Rattle.effect_laws.proofs.KernelInFront.{AreFronts, front_map, front_end}
 use Rattle.code_effect_laws.proofs.Methods.{method_proper, method_well}
 use Rattle.code_effect_laws.proofs.WalkedMethods.{rebuilt_normal}
-use Rattle.code_effect_laws.proofs.MethodGiven.{shallow_method}
 use Rattle.code_effect_laws.proofs.Abstracted.{IsGiven, given_name, walked_proper, getter_well, setter_well}
 
 -- where no item passes nothing is found
@@ -105,14 +106,6 @@ module _ (kernel i : ImageOf Text) (s : IsSound kernel i) (whole : IsWhole kerne
         by (inl e) = ap (λ (y : EntryOf Text). y.kernel) e
         by (inr e) = ap (λ (y : EntryOf Text). y.kernel) e
 
-  -- both writings give one tree
-  one_tree : (m : EntryOf Text) → (g no_writing m).tree ≡ (g canonical m).tree
-  one_tree m = by (meant canonical m)
-    where
-      by : (b : Bool) → (if b then record m { tree = tree canonical m; source = [] } else m).tree ≡ (if b then record m { tree = tree canonical m; source = canonical_method (tree canonical m) } else m).tree
-      by true = refl
-      by false = refl
-
   -- what is not reached by messages does not mean the variable
   kernel_fixed : (m : EntryOf Text) → In kernel.methods m → g canonical m ≡ m
   kernel_fixed m k =
@@ -144,28 +137,30 @@ module _ (kernel i : ImageOf Text) (s : IsSound kernel i) (whole : IsWhole kerne
   effect_is : effect text_asked canonical (AbstractInstVar c x setter given) i ≡ after
   effect_is = λ j. record i { methods = (map (g canonical) i.methods ++ getting ∷ []) ++ setting ∷ []; doits = doits_fixed canonical j }
 
-  shallow : is_shallow (variable_abstracted text_words no_writing (codes "self") c x setter given i) ≡ true
-  shallow = h.shallow
+  -- what sends the messages is not too high
+  abbrev is_low_after : EntryOf Text → Bool
+  is_low_after m = not (meant no_writing m) || is_low (g no_writing m).tree.body
 
-  low : (m : EntryOf Text) → In i.methods m → m.kernel ≡ false → sequence_height (g canonical m).tree.body ≤ 200
-  low m k u =
-      subst (λ (t : MethodOf Text). sequence_height t.body ≤ 200) (one_tree m)
-      (shallow_method (variable_abstracted text_words no_writing (codes "self") c x setter given i) shallow (g no_writing m)
-      (in_front _ _ (g no_writing m) (in_front _ _ (g no_writing m) (in_map (g no_writing) i.methods m k)))
-      (mark no_writing m ∙ u))
+  low : (m : EntryOf Text) → In i.methods m → m.kernel ≡ false → meant canonical m ≡ true → sequence_height (tree canonical m).body ≤ 200
+  low m k u e =
+      let a = and_parts (is_low (getter x).body) _ h.shallow in
+      let b = and_parts (is_low (setter_of x setter given).body) _ a.1 in
+      let d = and_parts (list_all (λ (n : EntryOf Text). n.kernel || is_low_after n) i.methods) _ b.1 in
+      leb-true (sequence_height (tree canonical m).body) 200
+      (ap (λ b. not b || is_low (if b then record m { tree = tree no_writing m; source = [] } else m).tree.body) (sym e)
+      ∙ ap (λ b. b || is_low_after m) (sym u) ∙ all_pass (λ (n : EntryOf Text). n.kernel || is_low_after n) i.methods d.0 m k)
 
   well : (m : EntryOf Text) → In i.methods m → m.kernel ≡ false → WellFormedMethod false (g canonical m).tree
-  well m k u = by (either canonical m)
+  well m k u = by (meant canonical m) refl
     where
       old : WellFormedMethod false m.tree
       old = well_of kernel m (s.methods.spelled m k u)
 
-      by : Either canonical m → WellFormedMethod false (g canonical m).tree
-      by (inl e) = subst (λ (n : EntryOf Text). WellFormedMethod false n.tree) (sym e) old
-      by (inr e) =
-          subst (λ (n : EntryOf Text). WellFormedMethod false n.tree) (sym e)
-          (method_well (tree canonical m) (walked_proper canonical c x setter given i variable_name.word names.selector (means text_words i m) m.tree (method_proper m.tree old))
-          (rebuilt_normal (made text_words canonical (codes "self") c x setter given i (means text_words i m)) m.tree old.normal) (subst (λ (n : EntryOf Text). sequence_height n.tree.body ≤ 200) e (low m k u)))
+      by : (b : Bool) → meant canonical m ≡ b → WellFormedMethod false (if b then record m { tree = tree canonical m; source = canonical_method (tree canonical m) } else m).tree
+      by true e =
+          method_well (tree canonical m) (walked_proper canonical c x setter given i variable_name.word names.selector (means text_words i m) m.tree (method_proper m.tree old))
+          (rebuilt_normal (made text_words canonical (codes "self") c x setter given i (means text_words i m)) m.tree old.normal) (low m k u e)
+      by false e = old
 
   written : (m : EntryOf Text) → IsWritten canonical_method m.source (g canonical m).source m.tree (g canonical m).tree
   written m = by (either canonical m)

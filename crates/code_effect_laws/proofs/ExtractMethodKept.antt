@@ -1,10 +1,9 @@
 -- `extractMethod` keeps images valid, where its conditions hold.
-use Rattle.std.proofs.Common.{◌≡◌, ◌⊎◌, inl, inr, ℕ, zero, suc, ◌+◌, ◌<◌, Bool, true, false, not, List, [], ◌∷◌, length, Option, Some, None, option_and_then, option_map, refl, sym, ap, subst, ◌∙◌, arith}
-use Rattle.std.specs.Prelude.{◌&&◌, ◌||◌, if◌then◌else◌, unwrap_or, nat_le}
+use Rattle.std.proofs.Common.{◌≡◌, ◌⊎◌, inl, inr, ℕ, zero, suc, ◌+◌, ◌<◌, ◌≤◌, Bool, true, false, not, List, [], ◌∷◌, length, Option, Some, None, option_and_then, option_map, refl, sym, ap, subst, ◌∙◌, arith}
+use Rattle.std.specs.Prelude.{◌&&◌, if◌then◌else◌, unwrap_or, nat_le}
 use Rattle.std.specs.Bool.{beq}
-use Rattle.std.specs.List.{list_all}
 use Rattle.std.specs.Option.{option_map_or}
-use Rattle.std.proofs.lemmas.Bool.{and_parts, eqb-true, ltb-true}
+use Rattle.std.proofs.lemmas.Bool.{and_parts, eqb-true, ltb-true, leb-true}
 use Rattle.rb_base.specs.Names.{text_eq}
 use Rattle.token_model.specs.declared.kind.Dialect.TheVariants.{Second}
 use Rattle.tree_model.specs.Tree.{TreeOf, TreesOf, no_trees, more_trees, MethodOf}
@@ -18,7 +17,7 @@ use Rattle.grammar_model.specs.Spanned.{SpannedTree, SpannedSequence, plain_tree
 use Rattle.grammar_model.specs.Spans.{Span, spanned_statements, spanned_nth, spanned_part, spanned_in, IsRunAt}
 use Rattle.grammar_model.specs.Spelling.{SpellsMethod}
 use Rattle.grammar_model.proofs.Places.{plain_in_Method}
-use Rattle.image_model.specs.Image.{ClassOf, EntryOf, DoItOf, ImageOf}
+use Rattle.image_model.specs.Image.{ClassOf, EntryOf, ImageOf}
 use Rattle.image_model.specs.Lookup.{is_method}
 use Rattle.image_model.specs.Valid.{class_names, signature, IsUserMethod}
 use Rattle.reread_law.specs.WholeTrees.{WellFormedMethod}
@@ -31,11 +30,11 @@ use Rattle.rename_model.specs.ClassRenamed.{WritingOf, canonical}
 use Rattle.rename_model.specs.CommandWords.{arity}
 use Rattle.command_model.specs.Asked.{text_asked}
 use Rattle.command_model.specs.Commands.{ExtractMethod}
-use Rattle.command_model.specs.CodeHolds.{no_writing}
+use Rattle.command_model.specs.CodeHolds.{are_low_extracted}
 use Rattle.command_model.specs.Extracted.{put_behind_last, statements_of_part, free_temporaries, part_replaced, call_of, method_of, method_extracted}
 use Rattle.command_model.specs.Hierarchy.{is_method_of}
 use Rattle.command_model.specs.MethodEffects.{new_method}
-use Rattle.command_model.specs.ParameterConditions.{is_shallow}
+use Rattle.command_model.specs.ParameterConditions.{is_low}
 use Rattle.command_model.specs.Parts.{Part, Expression, Run}
 use Rattle.command_model.specs.PartConditions.{is_part, has_no_return, assigns_no_outer, is_value_unused}
 use Rattle.command_model.specs.Sequences.{retold, with_tree}
@@ -45,10 +44,10 @@ use Rattle.command_model.specs.AllHold.{AllHold}
 use Rattle.command_model.proofs.PartsFound.{finds-parts}
 use Rattle.command_model.specs.Located.{HasPart as IsLocated}
 use Rattle.same_trees.specs.SameTrees.{same_code}
-use Rattle.effect_laws.proofs.Items.{In, finds, in_map, map_in}
+use Rattle.effect_laws.proofs.Items.{In, in_map, map_in}
 use Rattle.effect_laws.proofs.Sound.{HasHome, AreSoundMethods, IsSound}
 use Rattle.effect_laws.proofs.Fronts.{in_kernel}
-use Rattle.effect_laws.proofs.Tests.{HasName, there_passes, in_any}
+use Rattle.effect_laws.proofs.Tests.{HasName, there_passes}
 use Rattle.effect_laws.proofs.Facts.{user_class}
 use Rattle.effect_laws.proofs.Kernel.{IsWhole, user_name}
 use Rattle.effect_laws.proofs.RenamesKept.{fresh_selector}
@@ -59,11 +58,11 @@ use Rattle.effect_laws.proofs.Blanks.{may_stand, method_begins}
 use Rattle.effect_laws.proofs.KernelInFront.{AreFronts, front_map}
 use Rattle.effect_laws.proofs.TreeReplaced.{mark_kept}
 use Rattle.code_effect_laws.proofs.Methods.{IsBody, normal_well}
-use Rattle.code_effect_laws.proofs.MethodGiven.{given_sound, given_filed, normal_selector, shallow_method}
+use Rattle.code_effect_laws.proofs.MethodGiven.{given_sound, given_filed, normal_selector}
 use Rattle.code_effect_laws.proofs.Parts.{IsNamed, is_named, HasPart, has_part, expression_at}
 use Rattle.code_effect_laws.proofs.Lets.{has_sequence}
 use Rattle.code_effect_laws.proofs.PartExtracted.{IsExtracted, expression_extracted, statements_extracted}
-use Rattle.code_effect_laws.proofs.PutBehind.{put_in, new_in, all_put, once_put, filter_put, front_put}
+use Rattle.code_effect_laws.proofs.PutBehind.{put_in, once_put, filter_put, front_put}
 
 -- a tree of a number that is among so many
 nth_there : (ts : TreesOf Text) (k : ℕ) → k < count ts → (c : TreeOf Text) × (nth ts k ≡ Some c)
@@ -159,23 +158,18 @@ module _ (kernel i : ImageOf Text) (s : IsSound kernel i) (whole : IsWhole kerne
   abbrev after : WritingOf Text → ImageOf Text
   after writing = record i { methods = put_behind_last passes (added writing) (between writing).methods }
 
-  changed : (writing : WritingOf Text) → option_map (λ (e : EntryOf Text × Part). method_extracted text_asked writing c meta t e.0 e.1 u i) (its_part_at text_asked i c meta t from to) ≡ Some (after writing)
-  changed writing = ap (option_map (λ (e : EntryOf Text × Part). method_extracted text_asked writing c meta t e.0 e.1 u i)) found.1
-
   effect_is : effect text_asked canonical (ExtractMethod c meta t from to u) i ≡ after canonical
-  effect_is = ap (λ o. unwrap_or o i) (changed canonical)
+  effect_is = ap (λ o. unwrap_or (option_map (λ (e : EntryOf Text × Part). method_extracted text_asked canonical c meta t e.0 e.1 u i) o) i) found.1
 
-  shallow : is_shallow (after no_writing) ≡ true
-  shallow = ap (λ o. option_map_or is_shallow o false) (sym (changed no_writing)) ∙ h.shallow found.0 found.1
+  -- neither is too high
+  both_low : (is_low new_tree.body ≡ true) × (is_low (normal tree).body ≡ true)
+  both_low = and_parts (is_low new_tree.body) (is_low (normal tree).body) (told (are_low_extracted text_asked i u) (h.shallow found.0 found.1))
 
-  -- without the new method all is low too
-  shallow_between : is_shallow (between no_writing) ≡ true
-  shallow_between =
-      let a = and_parts (list_all (λ (m : EntryOf Text). m.kernel || nat_le (sequence_height m.tree.body) 200) (after no_writing).methods) (list_all (λ (d : DoItOf Text). nat_le (sequence_height d.body) 200) i.doits) shallow in
-      λ j. all_put passes (added no_writing) (λ (m : EntryOf Text). m.kernel || nat_le (sequence_height m.tree.body) 200) (between no_writing).methods a.0 j && a.1 j
+  low : sequence_height (normal tree).body ≤ 200
+  low = leb-true (sequence_height (normal tree).body) 200 both_low.1
 
   between_sound : IsSound kernel (between canonical)
-  between_sound = given_sound kernel i s c meta t its method.found method.user tree extracted.changed (extracted.selector ∙ method.selected) shallow_between
+  between_sound = given_sound kernel i s c meta t tree extracted.changed (extracted.selector ∙ method.selected) low
 
   -- a method stays of its class and side, and has its selector
   abbrev one : WritingOf Text → EntryOf Text → EntryOf Text
@@ -198,15 +192,8 @@ module _ (kernel i : ImageOf Text) (s : IsSound kernel i) (whole : IsWhole kerne
           normal_selector tree ∙ extracted.selector ∙ method.selected ∙ sym (ap (λ (y : _). y.2) (signature_of c meta t m (and_parts (is_method text_eq c meta t m) (not m.kernel) q).0))
       by false q b = refl
 
-  -- the method itself is of the class on that side
-  its_passes : passes its ≡ true
-  its_passes = (and_parts (passes its) (text_eq t its.tree.selector) (finds (is_method text_eq c meta t) i.methods its method.found)).0
-
-  new_there : In (after no_writing).methods (added no_writing)
-  new_there = new_in passes (added no_writing) (between no_writing).methods (in_any passes (between no_writing).methods (one no_writing its) (in_map (one no_writing) i.methods its method.there) (one_passes no_writing its ∙ its_passes))
-
   new_well : WellFormedMethod false new_tree
-  new_well = normal_well new_raw extracted.new (shallow_method (after no_writing) shallow (added no_writing) new_there refl)
+  new_well = normal_well new_raw extracted.new (leb-true (sequence_height new_tree.body) 200 both_low.0)
 
   new_spelled : IsUserMethod (reading_of Second kernel) (added canonical)
   new_spelled = spelled_method kernel (added canonical) (method_again false new_tree new_well)
@@ -251,7 +238,7 @@ module _ (kernel i : ImageOf Text) (s : IsSound kernel i) (whole : IsWhole kerne
   extract_method_filed f = subst IsFiled (sym effect_is) (record { methods = λ m k q. stands m q (put_in passes (added canonical) (between canonical).methods m k); doits = f.doits; forms = f.forms; heads = f.heads })
     where
       old : IsFiled (with_tree text_eq canonical c meta t (part_replaced found.0.0.tree found.0.1 (call_of text_asked u found.0.0.tree found.0.1)) i)
-      old = given_filed kernel i s c meta t found.0.0 method.found method.user (part_replaced found.0.0.tree found.0.1 (call_of text_asked u found.0.0.tree found.0.1)) extracted.changed (extracted.selector ∙ method.selected) shallow_between f
+      old = given_filed kernel i s c meta t (part_replaced found.0.0.tree found.0.1 (call_of text_asked u found.0.0.tree found.0.1)) extracted.changed (extracted.selector ∙ method.selected) low f
 
       stands : (m : EntryOf Text) → m.kernel ≡ false → (added canonical ≡ m) ⊎ In (between canonical).methods m → MayStand m.source
       stands m q (inl e) = subst (λ (y : EntryOf Text). MayStand y.source) e (may_stand (canonical_method (method_of text_asked u found.0.0.tree found.0.1)) (method_begins (method_of text_asked u found.0.0.tree found.0.1) new_well))

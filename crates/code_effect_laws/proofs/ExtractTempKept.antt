@@ -1,25 +1,26 @@
 -- `extractTemp` keeps images valid, where its conditions hold.
-use Rattle.std.proofs.Common.{◌≡◌, ℕ, Bool, true, false, not, List, Some, option_and_then, option_map, refl, sym, ap, subst, ◌∙◌, true≢false}
+use Rattle.std.proofs.Common.{◌≡◌, ℕ, ◌≤◌, Bool, true, false, not, List, Some, option_and_then, option_map, refl, sym, ap, subst, ◌∙◌, true≢false}
 use Rattle.std.specs.Prelude.{unwrap_or}
 use Rattle.std.specs.Option.{option_map_or}
-use Rattle.std.proofs.lemmas.Bool.{and_parts, not-true}
+use Rattle.std.proofs.lemmas.Bool.{and_parts, not-true, leb-true}
 use Rattle.rb_base.specs.Names.{text_eq}
 use Rattle.tree_model.specs.Tree.{MethodOf}
+use Rattle.tree_model.specs.Measure.{sequence_height}
+use Rattle.tree_model.specs.Normal.{normal}
 use Rattle.image_model.specs.Image.{EntryOf, ImageOf}
 use Rattle.file_model.specs.Filing.{Text}
 use Rattle.rename_model.specs.CommandWords.{may_be_declared, begins_upper}
 use Rattle.rename_model.specs.NamesThere.{is_named_in_method}
-use Rattle.rename_model.specs.ClassRenamed.{WritingOf, canonical}
+use Rattle.rename_model.specs.ClassRenamed.{canonical}
 use Rattle.command_model.specs.Asked.{text_asked}
 use Rattle.command_model.specs.Commands.{ExtractTemp}
-use Rattle.command_model.specs.CodeHolds.{no_writing}
-use Rattle.command_model.specs.ParameterConditions.{is_shallow}
+use Rattle.command_model.specs.CodeHolds.{is_low_made}
 use Rattle.command_model.specs.Parts.{Part, Expression, Run}
 use Rattle.command_model.specs.PartConditions.{is_part, is_first_evaluated}
 use Rattle.command_model.specs.Places.{users_method}
 use Rattle.command_model.specs.Sequences.{with_tree}
 use Rattle.command_model.specs.Temporaries.{temporary_extracted}
-use Rattle.command_model.specs.CodeEffects.{path_of_expression, part_at}
+use Rattle.command_model.specs.CodeEffects.{path_of_expression, part_at, tree_extracting, tree_made}
 use Rattle.command_model.specs.Effects.{effect}
 use Rattle.command_model.specs.AllHold.{AllHold}
 use Rattle.effect_laws.proofs.Sound.{IsSound}
@@ -70,27 +71,27 @@ module _ (kernel i : ImageOf Text) (s : IsSound kernel i) (c : Text) (meta : Boo
       extracted_proper x (new_name x (and_parts (may_be_declared x) (not (begins_upper x)) h.good_name).0) its.tree p.0 p.1 expression.0 node.node node.value node.there method.proper
 
   -- the effect gives it the new tree
-  changed : (writing : WritingOf Text) → option_map (λ tree. with_tree text_eq writing c meta t tree i) (option_and_then (λ (m : EntryOf Text). option_and_then (λ path. temporary_extracted text_asked m.tree path x) (option_and_then path_of_expression (text_asked.part_of m.source from to))) (users_method text_eq i c meta t)) ≡ Some (with_tree text_eq writing c meta t made.0 i)
-  changed writing =
-      ap (λ o. option_map (λ tree. with_tree text_eq writing c meta t tree i) (option_and_then (λ (m : EntryOf Text). option_and_then (λ path. temporary_extracted text_asked m.tree path x) (option_and_then path_of_expression (text_asked.part_of m.source from to))) o)) part.named
-      ∙ ap (λ o. option_map (λ tree. with_tree text_eq writing c meta t tree i) (option_and_then (λ path. temporary_extracted text_asked its.tree path x) (option_and_then path_of_expression o))) part.located
-      ∙ ap (λ p. option_map (λ tree. with_tree text_eq writing c meta t tree i) (option_and_then (λ path. temporary_extracted text_asked its.tree path x) (path_of_expression p))) expression.1
-      ∙ ap (option_map (λ tree. with_tree text_eq writing c meta t tree i)) made.1
+  is_made : tree_made text_asked i c meta t (tree_extracting text_asked i from to x) ≡ Some made.0
+  is_made =
+      ap (option_and_then (tree_extracting text_asked i from to x)) part.named
+      ∙ ap (λ o. option_and_then (λ path. temporary_extracted text_asked its.tree path x) (option_and_then path_of_expression o)) part.located
+      ∙ ap (λ p. option_and_then (λ path. temporary_extracted text_asked its.tree path x) (path_of_expression p)) expression.1
+      ∙ made.1
 
-  shallow : is_shallow (with_tree text_eq no_writing c meta t made.0 i) ≡ true
-  shallow = ap (λ o. option_map_or is_shallow o false) (sym (changed no_writing)) ∙ h.shallow
+  low : sequence_height (normal made.0).body ≤ 200
+  low = leb-true (sequence_height (normal made.0).body) 200 (ap (is_low_made text_asked i) (sym is_made) ∙ h.shallow)
 
   effect_is : effect text_asked canonical (ExtractTemp c meta t from to x) i ≡ with_tree text_eq canonical c meta t made.0 i
-  effect_is = ap (λ o. unwrap_or o i) (changed canonical)
+  effect_is = ap (λ o. unwrap_or (option_map (λ tree. with_tree text_eq canonical c meta t tree i) o) i) is_made
 
   selected : made.0.selector ≡ t
   selected = made.3 ∙ method.selected
 
   pub extract_temp_sound : IsSound kernel (effect text_asked canonical (ExtractTemp c meta t from to x) i)
-  extract_temp_sound = subst (IsSound kernel) (sym effect_is) (given_sound kernel i s c meta t its method.found method.user made.0 made.2 selected shallow)
+  extract_temp_sound = subst (IsSound kernel) (sym effect_is) (given_sound kernel i s c meta t made.0 made.2 selected low)
 
   pub extract_temp_filed : IsFiled i → IsFiled (effect text_asked canonical (ExtractTemp c meta t from to x) i)
-  extract_temp_filed f = subst IsFiled (sym effect_is) (given_filed kernel i s c meta t its method.found method.user made.0 made.2 selected shallow f)
+  extract_temp_filed f = subst IsFiled (sym effect_is) (given_filed kernel i s c meta t made.0 made.2 selected low f)
 
   pub extract_temp_front : AreFronts i → AreFronts (effect text_asked canonical (ExtractTemp c meta t from to x) i)
-  extract_temp_front f = retreed_front i c meta t (λ (m : EntryOf Text). option_and_then (λ path. temporary_extracted text_asked m.tree path x) (option_and_then path_of_expression (text_asked.part_of m.source from to))) f (users_method text_eq i c meta t)
+  extract_temp_front f = retreed_front i c meta t (tree_extracting text_asked i from to x) f (users_method text_eq i c meta t)

@@ -1,28 +1,30 @@
 -- `inlineMethod` keeps images valid, where its conditions hold.
-use Rattle.std.proofs.Common.{◌≡◌, ℕ, Bool, true, false, not, List, [], ◌∷◌, Option, Some, None, option_and_then, option_map, refl, sym, ap, subst, ◌∙◌, true≢false}
+use Rattle.std.proofs.Common.{◌≡◌, ℕ, ◌≤◌, Bool, true, false, not, List, [], ◌∷◌, Option, Some, None, option_and_then, option_map, refl, sym, ap, subst, ◌∙◌}
 use Rattle.std.specs.Prelude.{if◌then◌else◌, unwrap_or, find}
 use Rattle.std.specs.Option.{option_map_or, option_or}
-use Rattle.std.proofs.lemmas.Bool.{and_parts, not-true}
+use Rattle.std.proofs.lemmas.Bool.{and_parts, not-true, leb-true}
 use Rattle.rb_base.specs.Names.{text_eq}
 use Rattle.tree_model.specs.Tree.{TreeOf, var, literal, send, cascade, assign, block, brace, return, MethodOf}
 use Rattle.tree_model.specs.Path.{part_in}
+use Rattle.tree_model.specs.Measure.{sequence_height}
+use Rattle.tree_model.specs.Normal.{normal}
 use Rattle.image_model.specs.Image.{ClassOf, EntryOf, ImageOf}
 use Rattle.image_model.specs.Words.{text_words}
 use Rattle.image_model.specs.Upwards.{first_given}
 use Rattle.image_model.specs.Chain.{class_of_name, chain_from}
 use Rattle.image_model.specs.Lookup.{is_method, own_method, on_chain, as_object, lookup}
 use Rattle.file_model.specs.Filing.{Text}
-use Rattle.rename_model.specs.ClassRenamed.{WritingOf, canonical}
+use Rattle.rename_model.specs.ClassRenamed.{canonical}
 use Rattle.command_model.specs.Asked.{text_asked}
 use Rattle.command_model.specs.Commands.{InlineMethod}
-use Rattle.command_model.specs.CodeHolds.{no_writing}
-use Rattle.command_model.specs.ParameterConditions.{is_shallow}
+use Rattle.command_model.specs.CodeHolds.{is_low_made}
+use Rattle.command_model.specs.ParameterConditions.{is_low}
 use Rattle.command_model.specs.Parts.{Part, Expression, Run}
 use Rattle.command_model.specs.Inlined.{tree_inlined}
 use Rattle.command_model.specs.InlineConditions.{is_self_send, are_actuals_plain, captures_nothing}
 use Rattle.command_model.specs.Places.{users_method, SendOf, as_send, sent_by}
 use Rattle.command_model.specs.Sequences.{with_tree}
-use Rattle.command_model.specs.CodeEffects.{part_at, send_at, target_of}
+use Rattle.command_model.specs.CodeEffects.{part_at, send_at, target_of, tree_inlining, tree_made}
 use Rattle.command_model.specs.Effects.{effect}
 use Rattle.command_model.specs.AllHold.{AllHold}
 use Rattle.effect_laws.proofs.Items.{In}
@@ -93,11 +95,6 @@ has_send i c meta t from to e h = by (part_at text_asked i c meta t from to) ref
     by None q g = absurd (cc)
     by (Some f) q g = within f q (sent_by f.0.tree f.1) refl g
 
--- what there is after a change passes
-there_after : {X Y : Type 0} (test : Y → Bool) (make : X → Y) (o : Option X) → option_map_or test (option_map make o) false ≡ true → (x : X) × (o ≡ Some x) × (test (make x) ≡ true)
-there_after test make None h = absurd (true≢false (sym h))
-there_after test make (Some x) h = (x, refl, h)
-
 module _ (kernel i : ImageOf Text) (s : IsSound kernel i) (c : Text) (meta : Bool) (t : Text) (from to : ℕ) (h : AllHold text_asked i (InlineMethod c meta t from to)) where
   -- the message
   sent : (e : EntryOf Text × SendOf Text) × (send_at text_asked i c meta t from to ≡ Some e) × (is_self_send text_asked i e.1 ≡ true)
@@ -133,16 +130,18 @@ module _ (kernel i : ImageOf Text) (s : IsSound kernel i) (c : Text) (meta : Boo
   arguments = (method_part its.tree message.path (send message.receiver message.selector message.arguments) method.proper stands.there).3
 
   -- the effect on the method
-  changed : (writing : WritingOf Text) → option_map (λ tree. with_tree text_eq writing c meta t tree i) (option_and_then (λ (m : EntryOf Text). option_and_then (λ (e : EntryOf Text × SendOf Text). option_and_then (λ (n : EntryOf Text). tree_inlined text_asked m.tree e.1 n.tree) (target_of text_asked i c meta e.1)) (send_at text_asked i c meta t from to)) (users_method text_eq i c meta t))
-      ≡ option_map (λ tree. with_tree text_eq writing c meta t tree i) (tree_inlined text_asked its.tree message target.0.tree)
-  changed writing =
-      ap (λ o. option_map (λ tree. with_tree text_eq writing c meta t tree i) (option_and_then (λ (m : EntryOf Text). option_and_then (λ (e : EntryOf Text × SendOf Text). option_and_then (λ (n : EntryOf Text). tree_inlined text_asked m.tree e.1 n.tree) (target_of text_asked i c meta e.1)) (send_at text_asked i c meta t from to)) o)) stands.named
-      ∙ ap (λ o. option_map (λ tree. with_tree text_eq writing c meta t tree i) (option_and_then (λ (e : EntryOf Text × SendOf Text). option_and_then (λ (n : EntryOf Text). tree_inlined text_asked its.tree e.1 n.tree) (target_of text_asked i c meta e.1)) o)) sent.1
-      ∙ ap (λ o. option_map (λ tree. with_tree text_eq writing c meta t tree i) (option_and_then (λ (n : EntryOf Text). tree_inlined text_asked its.tree message n.tree) o)) target.1
+  is_made : tree_made text_asked i c meta t (tree_inlining text_asked i c meta t from to) ≡ tree_inlined text_asked its.tree message target.0.tree
+  is_made =
+      ap (option_and_then (tree_inlining text_asked i c meta t from to)) stands.named
+      ∙ ap (option_and_then (λ (e : EntryOf Text × SendOf Text). option_and_then (λ (n : EntryOf Text). tree_inlined text_asked its.tree e.1 n.tree) (target_of text_asked i c meta e.1))) sent.1
+      ∙ ap (option_and_then (λ (n : EntryOf Text). tree_inlined text_asked its.tree message n.tree)) target.1
 
-  after : (n : MethodOf Text) × (tree_inlined text_asked its.tree message target.0.tree ≡ Some n) × (is_shallow (with_tree text_eq no_writing c meta t n i) ≡ true)
-  after = there_after is_shallow (λ tree. with_tree text_eq no_writing c meta t tree i) (tree_inlined text_asked its.tree message target.0.tree)
-      (ap (λ o. option_map_or is_shallow o false) (sym (changed no_writing)) ∙ h.shallow sent.0 sent.1 target.0 target.1)
+  after : (n : MethodOf Text) × (tree_inlined text_asked its.tree message target.0.tree ≡ Some n) × (is_low (normal n).body ≡ true)
+  after = there_passes (λ (n : MethodOf Text). is_low (normal n).body) (tree_inlined text_asked its.tree message target.0.tree)
+      (ap (is_low_made text_asked i) (sym is_made) ∙ h.shallow sent.0 sent.1 target.0 target.1)
+
+  low : sequence_height (normal after.0).body ≤ 200
+  low = leb-true (sequence_height (normal after.0).body) 200 after.2
 
   good : IsProperMethod after.0 × (after.0.selector ≡ its.tree.selector)
   good =
@@ -151,13 +150,13 @@ module _ (kernel i : ImageOf Text) (s : IsSound kernel i) (c : Text) (meta : Boo
       after.0 after.1
 
   effect_is : effect text_asked canonical (InlineMethod c meta t from to) i ≡ with_tree text_eq canonical c meta t after.0 i
-  effect_is = ap (λ o. unwrap_or o i) (changed canonical ∙ ap (option_map (λ tree. with_tree text_eq canonical c meta t tree i)) after.1)
+  effect_is = ap (λ o. unwrap_or (option_map (λ tree. with_tree text_eq canonical c meta t tree i) o) i) (is_made ∙ after.1)
 
   pub inline_method_sound : IsSound kernel (effect text_asked canonical (InlineMethod c meta t from to) i)
-  inline_method_sound = subst (IsSound kernel) (sym effect_is) (given_sound kernel i s c meta t its method.found method.user after.0 good.0 (good.1 ∙ method.selected) after.2)
+  inline_method_sound = subst (IsSound kernel) (sym effect_is) (given_sound kernel i s c meta t after.0 good.0 (good.1 ∙ method.selected) low)
 
   pub inline_method_filed : IsFiled i → IsFiled (effect text_asked canonical (InlineMethod c meta t from to) i)
-  inline_method_filed f = subst IsFiled (sym effect_is) (given_filed kernel i s c meta t its method.found method.user after.0 good.0 (good.1 ∙ method.selected) after.2 f)
+  inline_method_filed f = subst IsFiled (sym effect_is) (given_filed kernel i s c meta t after.0 good.0 (good.1 ∙ method.selected) low f)
 
   pub inline_method_front : AreFronts i → AreFronts (effect text_asked canonical (InlineMethod c meta t from to) i)
-  inline_method_front f = retreed_front i c meta t (λ (m : EntryOf Text). option_and_then (λ (e : EntryOf Text × SendOf Text). option_and_then (λ (n : EntryOf Text). tree_inlined text_asked m.tree e.1 n.tree) (target_of text_asked i c meta e.1)) (send_at text_asked i c meta t from to)) f (users_method text_eq i c meta t)
+  inline_method_front f = retreed_front i c meta t (tree_inlining text_asked i c meta t from to) f (users_method text_eq i c meta t)

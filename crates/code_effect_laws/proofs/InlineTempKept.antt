@@ -2,19 +2,21 @@
 use Rattle.std.proofs.Common.{◌≡◌, suc, ◌≤◌, Bool, true, false, Some, option_and_then, option_map, sym, ap, subst, ◌∙◌, arith}
 use Rattle.std.specs.Prelude.{unwrap_or, nat_lt}
 use Rattle.std.specs.Option.{option_map_or}
-use Rattle.std.proofs.lemmas.Bool.{and_parts, ltb-true}
+use Rattle.std.proofs.lemmas.Bool.{and_parts, ltb-true, leb-true}
 use Rattle.rb_base.specs.Names.{text_eq}
 use Rattle.tree_model.specs.Tree.{MethodOf}
+use Rattle.tree_model.specs.Measure.{sequence_height}
+use Rattle.tree_model.specs.Normal.{normal}
 use Rattle.tree_model.specs.Path.{count, statement_trees}
 use Rattle.scope_model.specs.FreeNames.{statements_at}
 use Rattle.image_model.specs.Image.{EntryOf, ImageOf}
 use Rattle.file_model.specs.Filing.{Text}
-use Rattle.rename_model.specs.ClassRenamed.{WritingOf, canonical}
+use Rattle.rename_model.specs.ClassRenamed.{canonical}
 use Rattle.command_model.specs.Asked.{text_asked}
 use Rattle.command_model.specs.Commands.{InlineTemp}
-use Rattle.command_model.specs.CodeHolds.{no_writing}
+use Rattle.command_model.specs.CodeEffects.{tree_without, tree_made}
+use Rattle.command_model.specs.CodeHolds.{is_low_made}
 use Rattle.command_model.specs.LetConditions.{is_let_form, is_value_kept}
-use Rattle.command_model.specs.ParameterConditions.{is_shallow}
 use Rattle.command_model.specs.Places.{users_method}
 use Rattle.command_model.specs.Sequences.{with_tree}
 use Rattle.command_model.specs.Temporaries.{LetOf, let_of, temporary_inlined}
@@ -68,22 +70,20 @@ module _ (kernel i : ImageOf Text) (s : IsSound kernel i) (c : Text) (meta : Boo
   good = inlined_temporary_proper i its x bound method.proper (is_let its.tree x bound assignment.1) kept sequence.known sequence.parameters sequence.sequence sequence.there
 
   -- the effect gives it the new tree
-  changed : (writing : WritingOf Text) → option_map (λ tree. with_tree text_eq writing c meta t tree i) (option_and_then (λ (m : EntryOf Text). option_map (temporary_inlined text_asked m.tree x) (let_of text_asked m.tree x)) (users_method text_eq i c meta t)) ≡ Some (with_tree text_eq writing c meta t after i)
-  changed writing =
-      ap (λ o. option_map (λ tree. with_tree text_eq writing c meta t tree i) (option_and_then (λ (m : EntryOf Text). option_map (temporary_inlined text_asked m.tree x) (let_of text_asked m.tree x)) o)) found.1
-      ∙ ap (λ o. option_map (λ tree. with_tree text_eq writing c meta t tree i) (option_map (temporary_inlined text_asked its.tree x) o)) assignment.1
+  is_made : tree_made text_asked i c meta t (tree_without text_asked i x) ≡ Some after
+  is_made = ap (option_and_then (tree_without text_asked i x)) found.1 ∙ ap (option_map (temporary_inlined text_asked its.tree x)) assignment.1
 
-  shallow : is_shallow (with_tree text_eq no_writing c meta t after i) ≡ true
-  shallow = ap (λ o. option_map_or is_shallow o false) (sym (changed no_writing)) ∙ h.shallow
+  low : sequence_height (normal after).body ≤ 200
+  low = leb-true (sequence_height (normal after).body) 200 (ap (is_low_made text_asked i) (sym is_made) ∙ h.shallow)
 
   effect_is : effect text_asked canonical (InlineTemp c meta t x) i ≡ with_tree text_eq canonical c meta t after i
-  effect_is = ap (λ o. unwrap_or o i) (changed canonical)
+  effect_is = ap (λ o. unwrap_or (option_map (λ tree. with_tree text_eq canonical c meta t tree i) o) i) is_made
 
   pub inline_temp_sound : IsSound kernel (effect text_asked canonical (InlineTemp c meta t x) i)
-  inline_temp_sound = subst (IsSound kernel) (sym effect_is) (given_sound kernel i s c meta t its method.found method.user after good.0 (good.1 ∙ method.selected) shallow)
+  inline_temp_sound = subst (IsSound kernel) (sym effect_is) (given_sound kernel i s c meta t after good.0 (good.1 ∙ method.selected) low)
 
   pub inline_temp_filed : IsFiled i → IsFiled (effect text_asked canonical (InlineTemp c meta t x) i)
-  inline_temp_filed f = subst IsFiled (sym effect_is) (given_filed kernel i s c meta t its method.found method.user after good.0 (good.1 ∙ method.selected) shallow f)
+  inline_temp_filed f = subst IsFiled (sym effect_is) (given_filed kernel i s c meta t after good.0 (good.1 ∙ method.selected) low f)
 
   pub inline_temp_front : AreFronts i → AreFronts (effect text_asked canonical (InlineTemp c meta t x) i)
-  inline_temp_front f = retreed_front i c meta t (λ (m : EntryOf Text). option_map (temporary_inlined text_asked m.tree x) (let_of text_asked m.tree x)) f (users_method text_eq i c meta t)
+  inline_temp_front f = retreed_front i c meta t (tree_without text_asked i x) f (users_method text_eq i c meta t)

@@ -1,8 +1,7 @@
 -- A list into which an item is put behind the last one that passes.
 use Rattle.std.proofs.Common.{◌≡◌, ◌⊎◌, inl, inr, Bool, true, false, not, cond, List, [], ◌∷◌, map, filter, refl, sym, ap, subst, ◌∙◌}
-use Rattle.std.specs.Prelude.{◌&&◌, ◌||◌, if◌then◌else◌}
-use Rattle.std.specs.List.{list_any, list_all}
-use Rattle.std.proofs.lemmas.Bool.{and_parts}
+use Rattle.std.specs.Prelude.{◌&&◌, if◌then◌else◌}
+use Rattle.std.specs.List.{list_any}
 use Rattle.command_model.specs.Extracted.{put_behind_last}
 use Rattle.effect_laws.proofs.Items.{In, Once, in_map, map_in}
 use Rattle.effect_laws.proofs.KernelInFront.{IsFront}
@@ -23,26 +22,6 @@ module _ {X : Type 0} (p : X → Bool) (x : X) where
       by true (inr (inr k)) rest = inr (inr k)
       by false (inl e) rest = inr (inl e)
       by false (inr k) rest = later (rest k)
-
-  -- where an item passes, the new one is
-  pub new_in : (xs : List X) → list_any p xs ≡ true → In (put_behind_last p x xs) x
-  new_in [] h = let wrong : false ≡ true = h in absurd (cc)
-  new_in (z ∷ zs) h = by (p z) (list_any p zs) refl h (new_in zs)
-    where
-      by : (a b : Bool) → list_any p zs ≡ b → (a || b) ≡ true → (list_any p zs ≡ true → In (put_behind_last p x zs) x) → In (if a && not b then z ∷ x ∷ zs else z ∷ put_behind_last p x zs) x
-      by true false q g rest = inr (inl refl)
-      by true true q g rest = inr (rest q)
-      by false true q g rest = inr (rest q)
-      by false false q g rest = let wrong : false ≡ true = g in absurd (cc)
-
-  -- each item passes a test only where each did
-  pub all_put : (test : X → Bool) (xs : List X) → list_all test (put_behind_last p x xs) ≡ true → list_all test xs ≡ true
-  all_put test [] h = refl
-  all_put test (z ∷ zs) h = by (p z && not (list_any p zs)) h (all_put test zs)
-    where
-      by : (b : Bool) → list_all test (if b then z ∷ x ∷ zs else z ∷ put_behind_last p x zs) ≡ true → (list_all test (put_behind_last p x zs) ≡ true → list_all test zs ≡ true) → (test z && list_all test zs) ≡ true
-      by true g rest = let a = and_parts (test z) (test x && list_all test zs) g in let b = and_parts (test x) (list_all test zs) a.1 in λ i. a.0 i && b.1 i
-      by false g rest = let a = and_parts (test z) (list_all test (put_behind_last p x zs)) g in λ i. a.0 i && rest a.1 i
 
   -- items that are told apart by a function
   pub once_put : {Y : Type 0} (f : X → Y) (xs : List X) → Once (map f xs) → ((y : X) → In xs y → f y ≡ f x → ⊥) → Once (map f (put_behind_last p x xs))

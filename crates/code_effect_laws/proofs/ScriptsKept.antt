@@ -39,7 +39,7 @@ use Rattle.code_effect_laws.proofs.Abstracted.{given_name, getter_well, setter_w
 use Rattle.code_effect_laws.proofs.CodeKept.{kept_valid, kept_fileable, kept_first}
 
 -- the last of three conditions holds, where none is false
-pub last_holds : (p q r : ConditionOf Text) (a b c : Bool) → option_map (λ (j : ConditionOf Text × Bool). j.0) (find (λ (j : ConditionOf Text × Bool). not j.1) ((p, a) ∷ (q, b) ∷ (r, c) ∷ [])) ≡ None → c ≡ true
+last_holds : (p q r : ConditionOf Text) (a b c : Bool) → option_map (λ (j : ConditionOf Text × Bool). j.0) (find (λ (j : ConditionOf Text × Bool). not j.1) ((p, a) ∷ (q, b) ∷ (r, c) ∷ [])) ≡ None → c ≡ true
 last_holds p q r false b c e = absurd (cc)
 last_holds p q r true false c e = absurd (cc)
 last_holds p q r true true false e = absurd (cc)
@@ -54,15 +54,15 @@ made i c j e = by (first_false text_asked i c) refl e
     by (Some x) q h = absurd (cc)
 
 -- a method that is well formed is added by its text
-pub spelled : (c : Text) (tree : MethodOf Text) → WellFormedMethod false tree → IsWellSpelled (accessor canonical c tree)
+spelled : (c : Text) (tree : MethodOf Text) → WellFormedMethod false tree → IsWellSpelled (accessor canonical c tree)
 spelled c tree w = (method_again false tree w, may_stand (canonical_method tree) (method_begins tree w), tt)
 
 -- commands of which nothing is asked
-pub all_spelled : {X : Type 0} (f : X → CommandOf Text) (xs : List X) → ((x : X) → IsWellSpelled (f x)) → AllByRecursion IsWellSpelled (map f xs)
+all_spelled : {X : Type 0} (f : X → CommandOf Text) (xs : List X) → ((x : X) → IsWellSpelled (f x)) → AllByRecursion IsWellSpelled (map f xs)
 all_spelled f [] h = tt
 all_spelled f (x ∷ xs) h = (h x, all_spelled f xs h)
 
-pub pushes_spelled : (i : ImageOf Text) (under : List Text) → AllByRecursion IsWellSpelled (shared_pushes text_eq i under)
+pushes_spelled : (i : ImageOf Text) (under : List Text) → AllByRecursion IsWellSpelled (shared_pushes text_eq i under)
 pushes_spelled i [] = tt
 pushes_spelled i (s ∷ others) = all_spelled (PushUpInstVar s) (shared_by text_eq i s others) (λ x. (tt, tt, tt))
 
@@ -72,7 +72,7 @@ module _ (kernel : ImageOf Text) (whole : IsWhole kernel) where
   IsValidImage i = IsValid text_words (reading_of Second kernel) i
 
   -- the steps of an action
-  pub steps_spelled : (i : ImageOf Text) (x : ActionOf Text) → IsValidImage i → IsWellSpelledAction x → rules.first_false i x ≡ None → AllByRecursion IsWellSpelled (rules.steps_of i x)
+  steps_spelled : (i : ImageOf Text) (x : ActionOf Text) → IsValidImage i → IsWellSpelledAction x → rules.first_false i x ≡ None → AllByRecursion IsWellSpelled (rules.steps_of i x)
   steps_spelled i (Single c) v w e = (w, tt)
   steps_spelled i (CreateAccessors c x s q) v w e =
       let has = last_holds NoReflection (IsUserClass c) (HasVariable c x) (has_no_reflection text_asked.command_words i) (is_user_class text_eq i c) (has_variable text_eq i of_instance c x) e in

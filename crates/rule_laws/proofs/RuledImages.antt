@@ -37,11 +37,17 @@ use Rattle.effect_laws.proofs.Sound.{HasHome, AreSoundMethods, IsSound, sound_of
 use Rattle.effect_laws.proofs.WholeTrees.{IsWritten, well_of, written_method, written_doit}
 use Rattle.effect_laws.proofs.Filed.{IsFiled, filed_of, fileable, method_stands, doit_stands}
 use Rattle.effect_laws.proofs.KernelInFront.{AreFronts, fronts_of, first_of, front_map}
-use Rattle.code_effect_laws.proofs.MethodGiven.{shallow_method}
 use Rattle.rule_kept.specs.PatternComments.{HasComments}
 use Rattle.rule_kept.proofs.RuledTrees.{method_kept, doit_kept}
 use Rattle.rule_laws.proofs.Applied.{LeadsAfter, leads_after}
 use Rattle.rule_laws.proofs.FormsKept.{forms_along}
+
+-- a method of the user, and a do-it, in an image of low trees
+shallow_method : (i : ImageOf Text) → is_shallow i ≡ true → (m : EntryOf Text) → In i.methods m → m.kernel ≡ false → sequence_height m.tree.body ≤ 200
+shallow_method i h m there user =
+    let a = and_parts (list_all (λ (x : EntryOf Text). x.kernel || nat_le (sequence_height x.tree.body) 200) i.methods) (list_all (λ (d : DoItOf Text). nat_le (sequence_height d.body) 200) i.doits) h in
+    let b = all_pass (λ (x : EntryOf Text). x.kernel || nat_le (sequence_height x.tree.body) 200) i.methods a.0 m there in
+    leb-true (sequence_height m.tree.body) 200 (ap (λ k. k || nat_le (sequence_height m.tree.body) 200) (sym user) ∙ b)
 
 shallow_doit : (i : ImageOf Text) → is_shallow i ≡ true → (d : DoItOf Text) → In i.doits d → sequence_height d.body ≤ 200
 shallow_doit i h d there =
