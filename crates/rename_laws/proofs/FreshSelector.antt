@@ -107,7 +107,7 @@ module _ (t : Name) where
   if-any-other None = tt
 
   -- those that are no selectors among names in use
-  pub none-selected : (us : List UsedName) → AllByRecursion Other us → list_any (text_eq t) (flat_map as_selector us) ≡ false
+  none-selected : (us : List UsedName) → AllByRecursion Other us → list_any (text_eq t) (flat_map as_selector us) ≡ false
   none-selected [] a = refl
   none-selected (class_name n ∷ us) a = none-selected us a.1
   none-selected (selector_name s ∷ us) a = ap (λ b. b || list_any (text_eq t) (flat_map as_selector us)) a.0 ∙ none-selected us a.1
@@ -132,7 +132,7 @@ module _ (t : Name) where
     doit-other d h = lines-other d.body.statements (meant_in_doit i d) 0 0 h
 
     -- all names in use
-    pub all-other : list_any (speaks_of text_eq t) i.methods ≡ false → list_any (λ (d : DoItOf Name). list_any sends (nodes d.body)) i.doits ≡ false → AllByRecursion Other (used_in (resolved_image i))
+    all-other : list_any (speaks_of text_eq t) i.methods ≡ false → list_any (λ (d : DoItOf Name). list_any sends (nodes d.body)) i.doits ≡ false → AllByRecursion Other (used_in (resolved_image i))
     all-other methods doits =
         AllByRecursion-append Other (flat_map used_by_class (map plain_class i.classes)) (flat_map used_by_method (map (resolved_entry i) i.methods) ++ flat_map used_by_doit (map (resolved_doit i) i.doits))
         (each-flat Other used_by_class (map plain_class i.classes) (everywhere _ (λ (c : ClassOf Name). (tt, if-any-other c.superclass)) (map plain_class i.classes)))

@@ -52,16 +52,16 @@ module _ (writing : WritingOf Name) (i : ImageOf Name) (c d : Name) (ready : IsR
     afterwards n = means_outside text_words j later meta n
 
     stays : (n : Name) → Other c d n → is_that_class text_eq c (before n) ≡ false → afterwards n ≡ map_meaning (new c d) (before n)
-    stays n o e = ap (λ h. means_outside text_words j h meta n) so ∙ stays-after c d meta i.classes ready.others ready.user ready.found home fine n o e
+    stays n o e = ap (λ h. means_outside text_words j h meta n) so ∙ stays-after c d meta i.classes ready.new_name.others ready.user ready.found home fine n o e
 
     apart : (n : Name) → is_that_class text_eq c (before n) ≡ false → IsApart c n (before n)
-    apart n e = stays-apart c d meta i.classes ready.others ready.user ready.found home fine n e
+    apart n e = stays-apart c d meta i.classes ready.new_name.others ready.user ready.found home fine n e
 
     meant : (n : Name) → is_that_class text_eq c (before n) ≡ true → (n ≡ c) × (before n ≡ a_class c)
-    meant n e = class-before c d meta i.classes ready.others ready.user ready.found home fine n e
+    meant n e = class-before c d meta i.classes ready.new_name.others ready.user ready.found home fine n e
 
     anew : afterwards d ≡ a_class d
-    anew = ap (λ h. means_outside text_words j h meta d) so ∙ class-after c d meta i.classes ready.others ready.user ready.found home fine ready.other
+    anew = ap (λ h. means_outside text_words j h meta d) so ∙ class-after c d meta i.classes ready.new_name.others ready.user ready.found home fine ready.other
 
     -- a sequence with arguments
     module _ (arguments : List Name) (b : SequenceOf Name) where
@@ -111,7 +111,7 @@ module _ (writing : WritingOf Name) (i : ImageOf Name) (c d : Name) (ready : IsR
   doits-home =
       ap (option_map (λ (e : ClassOf Name). e.name))
       (find-map (after c d) (λ e. text_words.is_undefined_object e.name) (λ e. text_words.is_undefined_object e.name) i.classes
-      (all-implies (IsOther c d) _ (λ e k. ap (λ w. text_eq w (new c d e.name)) (sym ready.words_kept.0) ∙ same-after c d (codes "UndefinedObject") e.name ready.words_other.0 k.name) i.classes ready.others))
+      (all-implies (IsOther c d) _ (λ e k. ap (λ w. text_eq w (new c d e.name)) (sym ready.words_kept.0) ∙ same-after c d (codes "UndefinedObject") e.name ready.new_name.words_other.0 k.name) i.classes ready.new_name.others))
       ∙ by (find (λ (e : ClassOf Name). text_words.is_undefined_object e.name) i.classes)
     where
       by : (o : Option (ClassOf Name)) → option_map (λ (e : ClassOf Name). e.name) (option_map (after c d) o) ≡ option_map (new c d) (option_map (λ (e : ClassOf Name). e.name) o)
@@ -119,7 +119,7 @@ module _ (writing : WritingOf Name) (i : ImageOf Name) (c d : Name) (ready : IsR
       by (Some e) = refl
 
   doits-fine : OptionNames (Other c d) (doit_class i)
-  doits-fine = by (find (λ (e : ClassOf Name). text_words.is_undefined_object e.name) i.classes) (find-all (IsOther c d) (λ e. text_words.is_undefined_object e.name) i.classes ready.others)
+  doits-fine = by (find (λ (e : ClassOf Name). text_words.is_undefined_object e.name) i.classes) (find-all (IsOther c d) (λ e. text_words.is_undefined_object e.name) i.classes ready.new_name.others)
     where
       by : (o : Option (ClassOf Name)) → OptionNames (IsOther c d) o → OptionNames (Other c d) (option_map (λ (e : ClassOf Name). e.name) o)
       by None k = tt
@@ -139,8 +139,8 @@ module _ (writing : WritingOf Name) (i : ImageOf Name) (c d : Name) (ready : IsR
     classes = zip-after (IsChangedClass (maps c d)) (class_after text_words writing i c d) class-changed i.classes;
     methods =
         zip-mapped _ (IsChangedMethod (maps c d) i j) (method_after text_words writing i c d) (λ m k. method-changed m k.0 k.1.0 k.1.1) i.methods
-        (all-both (λ (m : EntryOf Name). OptionNames (Other c d) m.class) _ i.methods ready.homes (all-both (λ (m : EntryOf Name). is_named_in_method text_eq d m ≡ false) (λ (m : EntryOf Name). AssignsNothingFixed (means text_words i m) m.tree.body) i.methods ready.methods behind.methods));
+        (all-both (λ (m : EntryOf Name). OptionNames (Other c d) m.class) _ i.methods ready.new_name.homes (all-both (λ (m : EntryOf Name). is_named_in_method text_eq d m ≡ false) (λ (m : EntryOf Name). AssignsNothingFixed (means text_words i m) m.tree.body) i.methods ready.new_name.methods behind.methods));
     doits =
         zip-mapped _ (IsChangedDoIt (maps c d) i j) (doit_after text_words writing i c d) (λ e k. doit-changed e k.0 k.1) i.doits
-        (all-both (λ (e : DoItOf Name). is_named_in text_eq d e.body ≡ false) (λ (e : DoItOf Name). AssignsNothingFixed (means_in_doit text_words i e) e.body) i.doits ready.doits behind.doits);
+        (all-both (λ (e : DoItOf Name). is_named_in text_eq d e.body ≡ false) (λ (e : DoItOf Name). AssignsNothingFixed (means_in_doit text_words i e) e.body) i.doits ready.new_name.doits behind.doits);
   }

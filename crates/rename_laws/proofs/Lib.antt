@@ -2,19 +2,19 @@ pub mod Zips
 pub mod TextsTold
 mod Declarations
 mod NewNames
-pub mod ClassesAfter
+mod ClassesAfter
 pub mod OutsideAfter
 mod ScopesAfter
 mod TreesAfter
 pub mod Unnamed
 mod Undeclared
 pub mod MeaningsAfter
-pub mod NamesUnused
+mod NamesUnused
 pub mod Readiness
 mod ImagesAfter
 pub mod NamesApart
 pub mod SentAnew
-pub mod FreshSelector
+mod FreshSelector
 pub mod RenamedSelector
 pub mod VariableClasses
 mod VariableOutside

@@ -143,7 +143,7 @@ module _ (writing : WritingOf Name) (i : ImageOf Name) (s t : Name) where
   words-kept (w ∷ ws) e = (ap (λ b. if b then t else w) (neither_left (text_eq s w) (list_any (text_eq s) ws) e), words-kept ws (neither_right (text_eq s w) (list_any (text_eq s) ws) e))
 
 -- of eight tests of which none holds, those of the words of each list of control selectors
-pub eight : (a b c d e f g h : Bool) → (a || (b || (c || (d || (e || (f || (g || (h || false)))))))) ≡ false → ((a || (b || (e || (f || false)))) ≡ false) × ((c || (d || false)) ≡ false) × ((g || (h || false)) ≡ false)
+eight : (a b c d e f g h : Bool) → (a || (b || (c || (d || (e || (f || (g || (h || false)))))))) ≡ false → ((a || (b || (e || (f || false)))) ≡ false) × ((c || (d || false)) ≡ false) × ((g || (h || false)) ≡ false)
 eight a b c d e f g h p =
     let p1 = neither_right a (b || (c || (d || (e || (f || (g || (h || false))))))) p in
     let p2 = neither_right b (c || (d || (e || (f || (g || (h || false)))))) p1 in
@@ -158,30 +158,30 @@ eight a b c d e f g h p =
     )
 
 -- a selector that is none of control sends is in none of their lists
-pub no-control : (s : Name) → is_control s ≡ false → (list_any (text_eq s) one_block_selectors ≡ false) × (list_any (text_eq s) two_block_selectors ≡ false) × (list_any (text_eq s) loop_selectors ≡ false)
+no-control : (s : Name) → is_control s ≡ false → (list_any (text_eq s) one_block_selectors ≡ false) × (list_any (text_eq s) two_block_selectors ≡ false) × (list_any (text_eq s) loop_selectors ≡ false)
 unfolding is_control
 no-control s h =
     eight (text_eq s (codes "ifTrue:")) (text_eq s (codes "ifFalse:")) (text_eq s (codes "ifTrue:ifFalse:")) (text_eq s (codes "ifFalse:ifTrue:")) (text_eq s (codes "and:")) (text_eq s (codes "or:"))
     (text_eq s (codes "whileTrue:")) (text_eq s (codes "whileFalse:")) h
 
 -- nothing in two lists
-pub none-both : {X : Type 0} (p : X → Bool) (xs ys : List X) → list_any p xs ≡ false → list_any p ys ≡ false → list_any p (xs ++ ys) ≡ false
+none-both : {X : Type 0} (p : X → Bool) (xs ys : List X) → list_any p xs ≡ false → list_any p ys ≡ false → list_any p (xs ++ ys) ≡ false
 none-both p xs ys e f = list_any-append p xs ys ∙ (λ k. e k || f k)
 
-module _ (writing : WritingOf Name) (i : ImageOf Name) (s t : Name) where
-  -- the selectors in use do not have the new one
-  lacks-new : is_control t ≡ false → is_selector_fresh text_eq i t ≡ true → list_any (text_eq t) (names_in i).selectors ≡ false
-  lacks-new control fresh =
-      let found : List Name = flat_map as_selector (used_in (resolved_image i)) in
-      let none = no-control t control in
-      none-both (text_eq t) one_block_selectors (two_block_selectors ++ (loop_selectors ++ found)) none.0
-      (none-both (text_eq t) two_block_selectors (loop_selectors ++ found) none.1 (none-both (text_eq t) loop_selectors found none.2 (not-in-use t i fresh)))
+-- the selectors in use do not have a new one
+pub lacks-new : (i : ImageOf Name) (t : Name) → is_control t ≡ false → is_selector_fresh text_eq i t ≡ true → list_any (text_eq t) (names_in i).selectors ≡ false
+lacks-new i t control fresh =
+    let found : List Name = flat_map as_selector (used_in (resolved_image i)) in
+    let none = no-control t control in
+    none-both (text_eq t) one_block_selectors (two_block_selectors ++ (loop_selectors ++ found)) none.0
+    (none-both (text_eq t) two_block_selectors (loop_selectors ++ found) none.1 (none-both (text_eq t) loop_selectors found none.2 (not-in-use t i fresh)))
 
+module _ (writing : WritingOf Name) (i : ImageOf Name) (s t : Name) where
   -- no two names in use become one
   pub single : is_control t ≡ false → is_selector_fresh text_eq i t ≡ true → IsOneToOneOn (names_in i) (maps writing i s t)
   single new fresh = record {
     class = λ x y p q e. e;
-    selector = λ x y p q e. single-by writing i s t (names_in i).selectors (lacks-new new fresh) x y p q (text_eq s x) (text_eq s y) refl refl e;
+    selector = λ x y p q e. single-by writing i s t (names_in i).selectors (lacks-new i t new fresh) x y p q (text_eq s x) (text_eq s y) refl refl e;
     shared = λ x y p q e. e;
     instance = λ c x y p q e. e;
     class_side = λ c x y p q e. e;

@@ -32,7 +32,7 @@ not-empty c h = by_cases (text_eq c []) (λ e. absurd (h (text-same c [] e))) (�
 pub returns : goal.returns
 returns k = record {
   matched = λ writing i c d behind user good unused.
-      let facts = ready i c d behind user good unused in
+      let facts = ready i c d behind good unused user in
       k.law_changed_images.ensures.matched (record no_renaming { classes = (c, d) ∷ [] }) (maps c d) i (class_renamed text_words writing i c d) (as-renaming c d) (λ s. refl)
-      behind.ordered (one-to-one i c d facts) (words-stay i c d facts (not-empty c facts.named)) (calls-stay i c d facts) (image-changed writing i c d facts behind);
+      behind.ordered (one-to-one i c d facts.new_name) (words-stay i c d facts (not-empty c facts.named)) (calls-stay i c d facts.new_name) (image-changed writing i c d facts behind);
 }
