@@ -4,12 +4,11 @@ use Rattle.std.specs.Prelude.{if◌then◌else◌}
 use Rattle.std.specs.Bool.{beq}
 use Rattle.std.proofs.lemmas.List.{take_more}
 use Rattle.indexmap.specs.IndexMap.{get}
-use Rattle.class_table.specs.Tables.{ClassTable}
 use Rattle.file_model.specs.Places.{ClassPlaceOf, MethodPlaceOf, method_place}
 use Rattle.image_draft.specs.declared.method_draft.MethodDraft.{MethodDraft}
 use Rattle.image_draft.specs.Entries.{entry_of}
 use Rattle.draft_orders.specs.declared.methods.PlaceKey.{PlaceKey}
-use Rattle.draft_orders.specs.Tables.{IsClassPlaces, IsMethodPlaces, MethodTable, same_key, stated_key, key_of}
+use Rattle.draft_orders.specs.Tables.{ClassTable, IsClassPlaces, IsMethodPlaces, MethodTable, same_key, stated_key, key_of}
 use Rattle.draft_orders.proofs.Ends.{reverse_end}
 
 -- the last item that passes, of one item more at the end

@@ -5,10 +5,13 @@ use Rattle.std.specs.Option.{option_map}
 use Rattle.std.specs.declared.hash.FoldHasher.{FoldHasher}
 use Rattle.std.specs.declared.hash.BuildHasherDefault.{BuildHasherDefault}
 use Rattle.indexmap.specs.IndexMap.{IndexMap, get}
-use Rattle.class_table.specs.Tables.{ClassTable}
 use Rattle.file_model.specs.Places.{ClassPlaceOf, MethodPlaceOf}
 use Rattle.image_draft.specs.declared.method_draft.MethodDraft.{MethodDraft}
 use Rattle.draft_orders.specs.declared.methods.PlaceKey.{PlaceKey}
+
+-- places by the names of classes
+abbrev pub ClassTable : Type 0
+ClassTable = IndexMap ℕ ℕ (BuildHasherDefault FoldHasher)
 
 -- the table gives the last place that is stated for each name
 abbrev pub IsClassPlaces : List (ClassPlaceOf ℕ) → ClassTable → Type 0

@@ -17,7 +17,6 @@ use Rattle.file_model.specs.Hierarchy.{has_class}
 use Rattle.class_table.specs.declared.record.ClassRec.{ClassRec}
 use Rattle.class_table.specs.declared.record.MethodRec.{MethodRec}
 use Rattle.class_table.specs.Slots.{Slots}
-use Rattle.class_table.specs.Tables.{ClassTable}
 use Rattle.class_table.specs.View.{live, class_name, class_of, entry_of, number_image}
 use Rattle.class_table.specs.Valid.{IsLive, IsOrderly}
 use Rattle.class_table.specs.Finding.{is_named, named_in}
@@ -28,7 +27,7 @@ use Rattle.class_table.proofs.KeptLemmas.{method-added}
 use Rattle.class_table.proofs.ClassLemmas.{class-added}
 use Rattle.image_draft.specs.declared.method_draft.MethodDraft.{MethodDraft}
 use Rattle.image_draft.specs.Entries as drafted
-use Rattle.image_building.specs.Built.{IsBuilt}
+use Rattle.image_building.specs.Built.{ClassTable, IsBuilt}
 use Rattle.image_building.proofs.Found.{absent_unfound, absent_live, table_gives, superclass_given, superclass_live}
 
 -- what stands at the end

@@ -1,11 +1,10 @@
 -- An image of nothing but names.
-use Rattle.std.proofs.Common.{ℕ, ◌<◌, List, [], length}
+use Rattle.std.proofs.Common.{ℕ, List, []}
 use Rattle.std.proofs.lemmas.Bool.{false≢true}
 use Rattle.rb_base.specs.Names.{HasNoTwice}
 use Rattle.class_table.specs.Order.{IsOrderOf}
 use Rattle.class_table.specs.Slots.{Slots}
 use Rattle.class_table.specs.Valid.{IsOrderly}
-use Rattle.live_slots.specs.Live.{AllLive}
 
 -- the slots of such an image
 abbrev pub only_names : List (List ℕ) → Slots

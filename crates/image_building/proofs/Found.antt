@@ -6,13 +6,12 @@ use Rattle.indexmap.specs.IndexMap.{get}
 use Rattle.file_model.specs.Hierarchy.{has_class}
 use Rattle.class_table.specs.declared.record.ClassRec.{ClassRec}
 use Rattle.class_table.specs.Slots.{Slots}
-use Rattle.class_table.specs.Tables.{ClassTable}
 use Rattle.class_table.specs.View.{class_name, class_of, class_at, number_image}
 use Rattle.class_table.specs.Valid.{IsLive, IsOrderly}
 use Rattle.class_table.specs.Finding.{is_named, named_in}
 use Rattle.class_table.proofs.Live.{eqb-equal, find-passes, there}
 use Rattle.class_table.proofs.Found.{class_named-live, class_named-named_in}
-use Rattle.image_building.specs.Built.{IsBuilt}
+use Rattle.image_building.specs.Built.{ClassTable, IsBuilt}
 
 -- a slot that is found is live and holds a class of the name
 pub found_live : (classes : List ClassRec) (order : List ℕ) (n k : ℕ) → named_in classes order n ≡ Some k → IsLive order k × (class_name classes k ≡ Some n)

@@ -1,5 +1,5 @@
 -- What holds of a draft after a change that is not refused.
-use Rattle.std.proofs.Common.{◌≡◌, ℕ, Bool, true, false, is_some, Option, Some, None, Result, subst, sym, true≢false}
+use Rattle.std.proofs.Common.{◌≡◌, ℕ, false, is_some, Option, Some, None, Result, subst, true≢false}
 use Rattle.std.specs.Prelude.{IfOk, IfSome, IfNone}
 use Rattle.image_model.specs.Image.{ImageOf}
 use Rattle.file_model.specs.Causes.{Cause}

@@ -2,10 +2,9 @@ use Rattle.std.proofs.Common.{◌≡◌, ℕ, ◌∷◌, [], ◌++◌, Some, Res
 use Rattle.std.specs.Prelude.{nat_eq, if◌then◌else◌, OnOk}
 use Rattle.indexmap.specs.IndexMap.{get}
 use Rattle.image_model.specs.Image.{ClassOf}
-use Rattle.class_table.specs.Tables.{ClassTable}
 use Rattle.rb_base.specs.declared.memory.Memory.{Memory}
 use Rattle.class_table.specs.View.{number_image}
-use Rattle.image_building.specs.Built.{IsBuilt}
+use Rattle.image_building.specs.Built.{ClassTable, IsBuilt}
 use Rattle.image_building.proofs.Added.{class_image_added, class_built}
 use Rattle.image_building.proofs.Outcomes.{on_ok, on_ok_from}
 use Rattle.image_building.proofs.classes.add_class.Goals as goal
