@@ -2,7 +2,8 @@ pub mod Assigned
 pub mod Made
 pub mod Through
 pub mod Retreed
-pub mod Grown
+pub mod HighAtPlaces
+pub mod HighInImage
 pub mod Extracting
 pub mod Sends
 pub mod Found

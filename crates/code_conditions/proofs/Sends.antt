@@ -19,8 +19,8 @@ use Rattle.commands.specs.declared.condition.Condition.TheVariants as condition
 use Rattle.inline_questions.specs.Codes.{code_alone}
 use Rattle.code_conditions.specs.Passes.{target_passes}
 use Rattle.code_conditions.specs.Trees.{asked, users_part}
-use Rattle.code_conditions.proofs.Grown.{part-method}
 use Rattle.code_conditions.proofs.Made.{answer_is}
+use Rattle.code_conditions.proofs.Through.{part-method}
 
 -- what is found passes
 find-passes : {X : Type 0} (test : X → Bool) (xs : List X) (x : X) → find test xs ≡ Some x → test x ≡ true

@@ -1,11 +1,6 @@
 -- What is made of items, of parts of them, and of what is found there.
-use Rattle.std.proofs.Common.{◌≡◌, Bool, false, Option, None, Some, option_map, refl}
-use Rattle.std.specs.Option.{option_and_then, option_map_or}
-
--- a test of what is made of an item that may not be there
-pub test_made : {X Y : Type 0} (test : Y → Bool) (f : X → Y) (o : Option X) → option_map_or {T = X} (λ (x : X). test (f x)) o false ≡ option_map_or {T = Y} test (option_map {U = Y} f o) false
-test_made test f None = refl
-test_made test f (Some x) = refl
+use Rattle.std.proofs.Common.{◌≡◌, Option, None, Some, option_map, refl, sym, ap}
+use Rattle.std.specs.Option.{option_and_then}
 
 module _ {X Y : Type 0} (part : X → Option Y) where
   -- an item and its part
@@ -44,3 +39,12 @@ module _ {X Y : Type 0} (part : X → Option Y) where
 pub through_both : {X Y Z : Type 0} (g : X → Option Y) (f : Y → Option Z) (o : Option X) → option_and_then {U = Z} (λ (x : X). option_and_then {U = Z} f (g x)) o ≡ option_and_then {U = Z} f (option_and_then {U = Y} g o)
 through_both g f None = refl
 through_both g f (Some x) = refl
+
+-- an item that has a part
+pub part-method : {X Y : Type 0} (h : X → Option Y) (o : Option X) (m : X) (part : Y) → ◌≡◌ {A = Option (X × Y)} (Some (m, part)) (option_and_then {U = X × Y} (λ (n : X). option_map {U = X × Y} (λ (p : Y). (n, p)) (h n)) o) → o ≡ Some m
+part-method h None m part e = absurd (cc)
+part-method {X} {Y} h (Some n) m part e = by (h n) e
+  where
+    by : (q : Option Y) → ◌≡◌ {A = Option (X × Y)} (Some (m, part)) (option_map {U = X × Y} (λ (p : Y). (n, p)) q) → Some n ≡ Some m
+    by None e = absurd (cc)
+    by (Some p) e = ap (option_map (λ (x : X × Y). x.0)) (sym e)

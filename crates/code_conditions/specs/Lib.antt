@@ -1,2 +1,3 @@
+pub mod HighCode
 pub mod Passes
 pub mod Trees

@@ -6,17 +6,13 @@ use Rattle.image_model.specs.Image.{EntryOf}
 use Rattle.class_table.specs.Slots.{Slots}
 use Rattle.class_table.specs.View.{number_image}
 use Rattle.command_model.specs.Asked.{AskedOf}
-use Rattle.command_model.specs.CodeEffects.{method_at, part_at, target_of, path_of_expression, code_effect}
-use Rattle.command_model.specs.CodeHolds.{no_writing}
-use Rattle.command_model.specs.Extracted.{method_extracted}
+use Rattle.command_model.specs.CodeEffects.{method_at, part_at, target_of, path_of_expression}
+use Rattle.command_model.specs.CodeHolds.{are_low_extracted}
 use Rattle.command_model.specs.Inlined.{tree_inlined}
-use Rattle.command_model.specs.ParameterConditions.{is_shallow}
 use Rattle.command_model.specs.Parts.{Part}
 use Rattle.command_model.specs.Places.{SendOf, sent_by}
-use Rattle.command_model.specs.Sequences.{with_tree}
 use Rattle.command_model.specs.Temporaries.{let_of, temporary_extracted, temporary_inlined}
-use Rattle.commands.specs.Views.{asked_by, code_command}
-use Rattle.commands.specs.declared.command.CodeMove.{CodeMove}
+use Rattle.commands.specs.Views.{asked_by}
 use Rattle.commands.specs.declared.command.MethodName.{MethodName}
 use Rattle.commands.specs.declared.command.MethodPart.{MethodPart}
 
@@ -54,15 +50,6 @@ module _ (s : Slots) where
       option_and_then (λ (m : EntryOf ℕ). option_map (temporary_inlined asked m.tree x) (let_of asked m.tree x))
       (method_at asked (number_image s) n.class n.meta n.selector)
 
-  -- whether the code is low where the user's method gets a tree
-  abbrev pub is_shallow_with : MethodName → MethodOf ℕ → Bool
-  is_shallow_with n t = is_shallow (with_tree asked.words.tests.same no_writing n.class n.meta n.selector t (number_image s))
-
-  -- whether it is where a part becomes a method
+  -- whether a part is there, and the methods that it makes are low
   abbrev pub is_shallow_extracted : MethodPart → ℕ → Bool
-  is_shallow_extracted p t =
-      option_map_or (λ e. is_shallow (method_extracted asked no_writing p.method.class p.method.meta p.method.selector e.0 e.1 t (number_image s))) (users_part p) false
-
-  -- whether it is after the command
-  abbrev pub is_shallow_after : CodeMove → Bool
-  is_shallow_after change = option_map_or is_shallow (code_effect asked (number_image s) no_writing (code_command change)) false
+  is_shallow_extracted p t = option_map_or (λ e. are_low_extracted asked (number_image s) t e.0 e.1) (users_part p) false

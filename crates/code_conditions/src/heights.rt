@@ -1,48 +1,43 @@
 // How high the code of an image is after a command that moves code.
-ghost use Rattle.std.specs.Prelude.{◌≡◌, ℕ, false, Option, option_map, IfOk};
+ghost use Rattle.std.specs.Prelude.{◌≡◌, ℕ, false, option_map, IfOk};
 ghost use Rattle.std.specs.Option.{option_map_or};
 ghost use Rattle.tree_model.specs.Tree.{MethodOf};
-ghost use Rattle.tree_model.specs.Normal.{normal};
 ghost use Rattle.st_tree.specs.View.{method_of};
 ghost use Rattle.class_table.specs.Valid.{IsOrderly};
 ghost use Rattle.class_table.specs.View.{number_image};
 ghost use Rattle.command_model.specs.CodeHolds.{code_holds};
 ghost use Rattle.command_model.specs.Conditions.{Shallow};
+ghost use Rattle.command_model.specs.ParameterConditions.{is_low};
 ghost use Rattle.commands.specs.Views.{asked_by, code_command};
-ghost use Rattle.code_conditions.specs.Trees.{is_shallow_with, is_shallow_extracted};
+ghost use Rattle.reference_index.specs.Mentioned.{IsIndexOf};
+ghost use Rattle.code_conditions.specs.Trees.{is_shallow_extracted};
 
+use crate::abstracted::is_shallow_abstracted;
 use crate::trees::{with_body, with_temporary, with_value};
 use crate::words::self_name;
 use abstracted_code::Abstraction;
-use changed_heights::{is_shallow_abstracted, is_shallow_with};
 use class_table::Image;
-use commands::{CodeMove, MethodName, MethodPart};
+use commands::{CodeMove, MethodPart};
 use extracted_code::extract;
 use parameter_questions::is_high;
 use part_lookup::users_part;
 use rb_base::{Memory, NameId, Steps};
+use reference_index::Index;
 use st_tree::Method;
 use std::alloc::Global;
 use std::sync::ledger::Ledger;
 
-/// Whether there is a tree, and the code is low where the method gets it.
-fn is_shallow_if<L: Ledger>(
-    alloc: Global,
-    image: &Image,
-    method: &MethodName,
-    tree: Option<Method>,
-    steps: &mut Steps<L>,
-) -> Result<bool, Memory>
-    requires { IsOrderly image.now }
-    ensures { (made : Option (MethodOf ℕ)) → option_map method_of tree ≡ option_map normal made → IfOk result (λ is. is ≡ option_map_or (is_shallow_with image.now method.now) made false) }
+/// Whether there is a tree, and it is at most 200 nodes high.
+fn is_low(tree: &Option<Method>) -> bool
+    ensures { result ≡ option_map_or (λ (t : MethodOf ℕ). is_low t.body) (option_map method_of tree.now) false }
 {
     match tree {
-        None => Ok(false),
-        Some(tree) => is_shallow_with(alloc, image, method, &tree, steps),
+        None => false,
+        Some(tree) => !is_high(&tree.body),
     }
 }
 
-/// Whether the part is there, and the code is low where it becomes a method.
+/// Whether the part is there, and neither the method that it becomes is higher than 200 nodes nor the one that it is taken from.
 fn is_shallow_extracted<L: Ledger>(
     alloc: Global,
     image: &Image,
@@ -68,18 +63,20 @@ fn is_shallow_extracted<L: Ledger>(
     if is_high(&made.method.body) {
         return Ok(false);
     }
-    is_shallow_with(alloc, image, &part.method, &made.sender, steps)
+    Ok(!is_high(&made.sender.body))
 }
 
-/// Whether what the change names is there, and each method of the user and each do-it is at most 200 nodes high after it. Opens
-/// each of them. Want of memory, if there is not enough of it to make the trees.
+/// Whether what the change names is there, and each method and each do-it that it changes or adds is at most 200 nodes high
+/// after it. Opens only these. Want of memory, if there is not enough of it to make the trees.
 pub fn is_shallow_after<L: Ledger>(
     alloc: Global,
     image: &Image,
+    index: &Index,
     change: &CodeMove,
     steps: &mut Steps<L>,
 ) -> Result<bool, Memory>
-    requires { IsOrderly image.now }
+    requires orderly { IsOrderly image.now }
+    requires index { IsIndexOf image.now index.now }
     ensures { IfOk result (λ is. is ≡ code_holds (asked_by image.now.names) (number_image image.now) (code_command change.now) Shallow) }
 {
     match change {
@@ -96,22 +93,22 @@ pub fn is_shallow_after<L: Ledger>(
                 parameter: *parameter,
                 self_name: self_name(image.names()),
             };
-            is_shallow_abstracted(alloc, image, &abstraction, steps)
+            is_shallow_abstracted(alloc, image, index, &abstraction, steps)
         }
         CodeMove::ExtractMethod { part, to } => {
             is_shallow_extracted(alloc, image, part, *to, steps)
         }
         CodeMove::InlineMethod(part) => {
             let tree = with_body(alloc, image, part, steps)?;
-            is_shallow_if(alloc, image, &part.method, tree, steps)
+            Ok(is_low(&tree))
         }
         CodeMove::ExtractTemporary { part, variable } => {
             let tree = with_temporary(alloc, image, part, *variable, steps)?;
-            is_shallow_if(alloc, image, &part.method, tree, steps)
+            Ok(is_low(&tree))
         }
         CodeMove::InlineTemporary { method, variable } => {
             let tree = with_value(alloc, image, method, *variable, steps)?;
-            is_shallow_if(alloc, image, method, tree, steps)
+            Ok(is_low(&tree))
         }
     }
 }

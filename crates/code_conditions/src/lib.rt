@@ -1,6 +1,7 @@
 //! Which conditions hold that only commands have which move code.
 #![tactic(auto)]
 
+mod abstracted;
 mod heights;
 mod lets;
 mod parts;

@@ -54,7 +54,7 @@ fn is_shallow<L: Ledger>(
         Command::AddParameter(new) => {
             is_shallow_speaking(alloc, image, index, new.selector, steps)
         }
-        Command::MoveCode(change) => is_shallow_after(alloc, image, change, steps),
+        Command::MoveCode(change) => is_shallow_after(alloc, image, index, change, steps),
         _ => Ok(false),
     }
 }

@@ -23,4 +23,4 @@ returns g c =
     let f = c.in-Some.found in
     let there : ◌≡◌ {A = Option (EntryOf ℕ × Part)} (Some (found_in s.classes f)) (users_part s c.args.part.now) = sym (ap (option_map (found_in s.classes)) c.in-Some.is) ∙ c.in_ok-found.ensures.part in
     extracted_low s c.args.part.now c.args.to (entry_in s.classes f.method) (part_of f.part) there c.names-names.result.now c.self_name.result c.names-names.ensures c.self_name.ensures
-    c.is_shallow_with.result (method_of c.in_ok-made.made.method) (method_of c.in_ok-made.made.sender) c.in_ok-made.ensures.method (sym c.is_high.ensures ∙ c.if-is_high.false) c.in_ok-made.ensures.sender c.is_shallow_with.ensures
+    (method_of c.in_ok-made.made.method) c.in_ok-made.ensures.method (sym c.is_high.ensures ∙ c.if-is_high.false) (method_of c.in_ok-made.made.sender) c.in_ok-made.ensures.sender c.is_high-2.result c.is_high-2.ensures

@@ -1,5 +1,0 @@
-pub mod Alls
-pub mod Slots
-mod AbstractedAlls
-mod Sameness
-mod Told
