@@ -1,5 +1,5 @@
 -- The forms of a command line's words.
-use Rattle.std.specs.Prelude.{ℕ, Bool, true, false, ◌&&◌, ◌||◌, List, [], ◌∷◌, codes, if◌then◌else◌}
+use Rattle.std.specs.Prelude.{ℕ, Bool, true, false, List, [], ◌∷◌, codes, if◌then◌else◌}
 use Rattle.std.specs.Option.{option_map_or}
 use Rattle.std.specs.Str.{bytes_eq}
 use Rattle.query_model.specs.Queries.{QueryOf}
@@ -12,6 +12,8 @@ use Rattle.command_words.specs.declared.words.Words.TheVariants as words
 pub data Form : Type 0 where
   -- `apply IMAGE SCRIPT`
   Apply : List ℕ → List ℕ → Form
+  -- `changes IMAGE SCRIPT`
+  Changes : List ℕ → List ℕ → Form
   -- `format IMAGE`
   Format : List ℕ → Form
   -- `run IMAGE EXPRESSION` and `run IMAGE EXPRESSION BUDGET`, with the number of ticks
@@ -47,18 +49,19 @@ form_of_two command word =
     if bytes_eq command (codes "format") then Format word else
     (if bytes_eq command (codes "demo") then option_map_or Demo (number_of 2000 word) NoForm else NoForm)
 
--- `changes IMAGE SCRIPT` and `team IMAGE LOG`
+-- `team IMAGE LOG`
 abbrev pub is_later : List ℕ → Bool
-is_later command = bytes_eq command (codes "changes") || bytes_eq command (codes "team")
+is_later command = bytes_eq command (codes "team")
 
--- `apply IMAGE SCRIPT`, `run IMAGE EXPRESSION` with 1,000,000 ticks, `strip IMAGE EXPRESSION`, `search IMAGE PATTERN`, and the forms above
+-- `apply IMAGE SCRIPT`, `changes IMAGE SCRIPT`, `run IMAGE EXPRESSION` with 1,000,000 ticks, `strip IMAGE EXPRESSION`, `search IMAGE PATTERN`, and the forms above
 abbrev pub form_of_three : List ℕ → List ℕ → List ℕ → Form
 form_of_three command image word =
     if bytes_eq command (codes "apply") then Apply image word else
+    (if bytes_eq command (codes "changes") then Changes image word else
     (if bytes_eq command (codes "run") then Run image word 1000000 else
     (if bytes_eq command (codes "strip") then Strip image word false else
     (if bytes_eq command (codes "search") then Search image word else
-    (if is_later command then Later else NoForm))))
+    (if is_later command then Later else NoForm)))))
 
 -- `run IMAGE EXPRESSION BUDGET` with a budget from 1 to 10,000,000
 abbrev pub run_of : List ℕ → List ℕ → List ℕ → Form
@@ -90,6 +93,7 @@ form_of words = NoForm
 -- the files that a form names, in the order in which they are asked for
 abbrev pub files_of : Form → List (List ℕ)
 files_of (Apply image script) = image ∷ script ∷ []
+files_of (Changes image script) = image ∷ script ∷ []
 files_of (Format image) = image ∷ []
 files_of (Run image expression budget) = image ∷ []
 files_of (Find image question) = image ∷ []
@@ -105,6 +109,7 @@ files_of NoForm = []
 -- the form that the program sees
 abbrev pub shows : Words → Form
 shows (words.Apply image script) = Apply image.now script.now
+shows (words.Changes image script) = Changes image.now script.now
 shows (words.Format image) = Format image.now
 shows (words.Run image expression budget) = Run image.now expression.now budget
 shows (words.Find image question) = Find image.now (asks question)

@@ -22,6 +22,11 @@ pub enum Words<'w> {
         image: &'w str,
         script: &'w str,
     },
+    /// `changes IMAGE SCRIPT`.
+    Changes {
+        image: &'w str,
+        script: &'w str,
+    },
     /// `format IMAGE`.
     Format {
         image: &'w str,
@@ -104,7 +109,7 @@ fn form_of_two<'w>(command: &str, word: &'w str) -> Words<'w>
 fn is_later(command: &str) -> bool
     ensures { result ≡ is_later command.now }
 {
-    command == "changes" || command == "team"
+    command == "team"
 }
 
 /// The form that three words are in.
@@ -113,6 +118,11 @@ fn form_of_three<'w>(command: &str, image: &'w str, word: &'w str) -> Words<'w>
 {
     if command == "apply" {
         Words::Apply {
+            image,
+            script: word,
+        }
+    } else if command == "changes" {
+        Words::Changes {
             image,
             script: word,
         }
