@@ -2,6 +2,7 @@
 #![tactic(auto)]
 
 mod apply;
+mod changes;
 mod demo;
 mod run;
 mod send;

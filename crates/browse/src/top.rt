@@ -7,10 +7,12 @@ ghost use Rattle.image_forms.specs.Loads.{World, world, IsHonest};
 ghost use Rattle.image_forms.specs.Answers.{Answers};
 
 use crate::apply::apply;
+use crate::changes::changes;
 use crate::demo::demo;
 use crate::run::run;
 use crate::send::send;
 use apply_model::has_one_answer_in_image;
+use changes_model::has_one_change_in_image;
 use command_words::{Words, words_of};
 use image_forms::{Status, find, format, help, rewrite, search, strip, unbuilt, usage, version};
 use rb_base::{Memory, Shelf, Sink, SinkError, Text};
@@ -31,6 +33,7 @@ fn answer<F: Shelf>(
 {
     match words_of(words) {
         Words::Apply { image, script } => apply(alloc, shelf, image, script, out),
+        Words::Changes { image, script } => changes(alloc, shelf, image, script, out),
         Words::Format { image } => format(alloc, shelf, image, out),
         Words::Run {
             image,
@@ -104,6 +107,7 @@ pub fn has_one_answer()
 {
     apply_model::has_one_answer();
     has_one_answer_in_image();
+    has_one_change_in_image();
     has_one_reading();
     has_one_pattern();
     has_one_rule();

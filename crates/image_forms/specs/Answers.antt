@@ -4,6 +4,7 @@ use Rattle.std.specs.Fmt.{decimal}
 use Rattle.apply_model.specs.declared.status.Status as applied
 use Rattle.apply_model.specs.declared.status.Status.TheVariants as verdict
 use Rattle.apply_model.specs.Applied as model
+use Rattle.changes_model.specs.Changes as change
 use Rattle.image_forms.specs.declared.status.Status.{Status}
 use Rattle.image_forms.specs.declared.status.Status.TheVariants as status
 use Rattle.token_model.specs.declared.kind.Dialect.TheVariants.{Second}
@@ -34,7 +35,7 @@ use Rattle.image_maker.specs.Generated.{image_text, expression_text, script_text
 use Rattle.run_model.specs.Views.{run_text}
 use Rattle.strip_model.specs.Reach.{ReachOf, reach}
 use Rattle.strip_model.specs.Stripped.{certificate, strip}
-use Rattle.command_words.specs.Forms.{Form, Apply, Format, Run, Find, Strip, Search, Rewrite, Demo, Help, Version, Later, NoForm, form_of}
+use Rattle.command_words.specs.Forms.{Form, Apply, Changes, Format, Run, Find, Strip, Search, Rewrite, Demo, Help, Version, Later, NoForm, form_of}
 use Rattle.image_forms.specs.Loads.{World, Loads, line}
 use Rattle.image_forms.specs.ImageLines.{image_refusal, expression_refusal, text_refusal}
 
@@ -54,7 +55,7 @@ usage = line (codes "usage: browse COMMAND ARGUMENTS")
 
 -- the forms as they are typed, each with what it does
 abbrev pub help : List ℕ
-help = line (codes "usage: browse COMMAND ARGUMENTS\napply IMAGE SCRIPT: prints the file-out IMAGE as the commands of SCRIPT change it\nrun IMAGE EXPRESSION [BUDGET]: runs the do-its of IMAGE and then EXPRESSION, for at most BUDGET ticks\nfind IMAGE KIND NAME: lists what sends or implements a selector, or means a class or a variable\nformat IMAGE: prints IMAGE with each source in canonical text\nstrip IMAGE EXPRESSION [sets]: prints IMAGE without what its do-its and EXPRESSION cannot reach, or what they reach\nsearch IMAGE PATTERN: lists the nodes that PATTERN matches\nrewrite IMAGE PATTERN REPLACEMENT: prints IMAGE with each node that PATTERN matches replaced\ndemo NUMBER: makes an image of NUMBER classes, runs it, renames in it, and runs it again\n--help: prints these lines\n--version: prints the version of the program and of the logic that proves it")
+help = line (codes "usage: browse COMMAND ARGUMENTS\napply IMAGE SCRIPT: prints the file-out IMAGE as the commands of SCRIPT change it\nchanges IMAGE SCRIPT: prints what to file in after IMAGE to have it as the commands of SCRIPT change it\nrun IMAGE EXPRESSION [BUDGET]: runs the do-its of IMAGE and then EXPRESSION, for at most BUDGET ticks\nfind IMAGE KIND NAME: lists what sends or implements a selector, or means a class or a variable\nformat IMAGE: prints IMAGE with each source in canonical text\nstrip IMAGE EXPRESSION [sets]: prints IMAGE without what its do-its and EXPRESSION cannot reach, or what they reach\nsearch IMAGE PATTERN: lists the nodes that PATTERN matches\nrewrite IMAGE PATTERN REPLACEMENT: prints IMAGE with each node that PATTERN matches replaced\ndemo NUMBER: makes an image of NUMBER classes, runs it, renames in it, and runs it again\n--help: prints these lines\n--version: prints the version of the program and of the logic that proves it")
 
 -- the version of the program, of the kit that builds it and of the logic that proves it
 abbrev pub version : List ℕ
@@ -71,6 +72,12 @@ status_applied verdict.ScriptText = status.ScriptText
 pub record Applies (text script : List ℕ) (s : Status) (sent : List ℕ) : Type 0 where
   pub verdict : applied.Status
   pub applies : model.Applies image_refusal text script verdict sent
+  pub status : s ≡ status_applied verdict
+
+-- `changes` answers these two texts with the status and the bytes
+pub record WritesChanges (text script : List ℕ) (s : Status) (sent : List ℕ) : Type 0 where
+  pub verdict : applied.Status
+  pub changes : change.Changes image_refusal text script verdict sent
   pub status : s ≡ status_applied verdict
 
 -- `format` answers this text with the status and the bytes
@@ -155,6 +162,7 @@ pub data DemosIn (classes : ℕ) (i : ImageOf (List ℕ)) (s : Status) (sent : L
 -- the form is answered with the status and the bytes
 abbrev pub AnswersForm : World → Form → Status → List ℕ → Type 0
 AnswersForm w (Apply image script) s sent = Loads w image image_limit s sent (λ i. Loads w script script_limit s sent (λ c. Applies i c s sent))
+AnswersForm w (Changes image script) s sent = Loads w image image_limit s sent (λ i. Loads w script script_limit s sent (λ c. WritesChanges i c s sent))
 AnswersForm w (Format image) s sent = Loads w image image_limit s sent (λ i. Formats i s sent)
 AnswersForm w (Run image expression budget) s sent = Loads w image image_limit s sent (λ i. Runs i expression budget s sent)
 AnswersForm w (Find image question) s sent = Loads w image image_limit s sent (λ i. Finds i question s sent)

@@ -10,6 +10,7 @@ use rb_base::{Memory, Text};
 /// The forms as they are typed, each with what it does.
 const HELP: &str = "usage: browse COMMAND ARGUMENTS
 apply IMAGE SCRIPT: prints the file-out IMAGE as the commands of SCRIPT change it
+changes IMAGE SCRIPT: prints what to file in after IMAGE to have it as the commands of SCRIPT change it
 run IMAGE EXPRESSION [BUDGET]: runs the do-its of IMAGE and then EXPRESSION, for at most BUDGET ticks
 find IMAGE KIND NAME: lists what sends or implements a selector, or means a class or a variable
 format IMAGE: prints IMAGE with each source in canonical text

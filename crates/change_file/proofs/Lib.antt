@@ -1,0 +1,11 @@
+pub mod KeyWalks
+pub mod Pairs
+pub mod ClassLists
+pub mod MethodLists
+pub mod EditTexts
+pub mod DoItTexts
+pub mod Differing
+pub mod Chosen
+pub mod Walks
+pub mod MethodTexts
+pub mod Signed

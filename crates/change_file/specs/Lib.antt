@@ -1,0 +1,3 @@
+pub mod Partners
+pub mod Shown
+pub mod Texts

@@ -1,0 +1,2 @@
+mod ToldApart
+mod Answering

@@ -1,0 +1,92 @@
+-- A script keeps how many do-its there are, and which of them stand at the head.
+use Rattle.std.proofs.Common.{◌≡◌, Bool, List, [], length, map, Option, Some, None, Ok, refl, sym, ap, subst, ◌∙◌}
+use Rattle.std.specs.Prelude.{option_map}
+use Rattle.std.specs.List.{AllByRecursion}
+use Rattle.std.specs.Option.{option_map_or, unwrap_or}
+use Rattle.std.proofs.lemmas.List.{length-map}
+use Rattle.image_model.specs.Image.{DoItOf, ImageOf}
+use Rattle.run_model.specs.Values.{Name}
+use Rattle.rename_model.specs.ClassRenamed.{canonical}
+use Rattle.command_model.specs.Asked.{text_asked}
+use Rattle.command_model.specs.Commands.{CommandOf, RenameClass, AddClass, RemoveClass, AddInstVar, RenameInstVar, RemoveInstVar, PushUpInstVar, PushDownInstVar, AddClassVar, RenameClassVar, RemoveClassVar, PushUpClassVar, PushDownClassVar, AddClassSideVar, RenameClassSideVar, RemoveClassSideVar, RenameSelector, AddMethod, RemoveMethod, PushUpMethod, PushDownMethod, AddParameter, RemoveParameter, RenameTemp, AbstractInstVar, ExtractMethod, InlineMethod, ExtractTemp, InlineTemp}
+use Rattle.command_model.specs.Effects.{effect}
+use Rattle.history_model.specs.Rules.{RequestOf, Perform, Undo, Redo, Asks}
+use Rattle.history_model.proofs.Keeping.{verdict-good}
+use Rattle.history_laws.proofs.JudgedBeside.{made}
+use Rattle.session_model.specs.Actions.{ActionOf}
+use Rattle.session_model.specs.Scripts.{Request, Version, History, rules, verdict_in}
+
+-- as many do-its, and the same of them at the head
+pub record HasSameDoIts (i j : ImageOf Name) : Type 0 where
+  pub doits : length i.doits ≡ length j.doits
+  pub heads : i.heads ≡ j.heads
+
+-- other classes and methods, and each do-it changed
+all-changed : (i : ImageOf Name) (f : DoItOf Name → DoItOf Name) → length i.doits ≡ length (map f i.doits)
+all-changed i f = sym (length-map i.doits f)
+
+-- where there is nothing to change the image stays
+where-there : {X : Type 0} (i : ImageOf Name) (f : X → ImageOf Name) → ((x : X) → HasSameDoIts i (f x)) → (o : Option X) → HasSameDoIts i (option_map_or f o i)
+where-there i f same None = record { doits = refl; heads = refl }
+where-there i f same (Some x) = same x
+
+where-made : {X : Type 0} (i : ImageOf Name) (f : X → ImageOf Name) → ((x : X) → HasSameDoIts i (f x)) → (o : Option X) → HasSameDoIts i (unwrap_or (option_map f o) i)
+where-made i f same None = record { doits = refl; heads = refl }
+where-made i f same (Some x) = same x
+
+-- what a command makes
+command-keeps : (i : ImageOf Name) (c : CommandOf Name) → HasSameDoIts i (effect text_asked canonical c i)
+command-keeps i (RenameClass c d) = record { doits = all-changed i _; heads = refl }
+command-keeps i (AddClass d p under) = record { doits = refl; heads = refl }
+command-keeps i (RemoveClass c) = record { doits = refl; heads = refl }
+command-keeps i (AddInstVar c x) = record { doits = refl; heads = refl }
+command-keeps i (RenameInstVar c x y) = record { doits = all-changed i _; heads = refl }
+command-keeps i (RemoveInstVar c x) = record { doits = refl; heads = refl }
+command-keeps i (PushUpInstVar c x) = where-there i _ (λ p. record { doits = refl; heads = refl }) _
+command-keeps i (PushDownInstVar c x) = record { doits = refl; heads = refl }
+command-keeps i (AddClassVar c x) = record { doits = refl; heads = refl }
+command-keeps i (RenameClassVar c x y) = record { doits = all-changed i _; heads = refl }
+command-keeps i (RemoveClassVar c x) = record { doits = refl; heads = refl }
+command-keeps i (PushUpClassVar c x) = where-there i _ (λ p. record { doits = refl; heads = refl }) _
+command-keeps i (PushDownClassVar c x d) = record { doits = refl; heads = refl }
+command-keeps i (AddClassSideVar c x) = record { doits = refl; heads = refl }
+command-keeps i (RenameClassSideVar c x y) = record { doits = all-changed i _; heads = refl }
+command-keeps i (RemoveClassSideVar c x) = record { doits = refl; heads = refl }
+command-keeps i (RenameSelector s t) = record { doits = all-changed i _; heads = refl }
+command-keeps i (AddMethod c meta protocol text tree) = record { doits = refl; heads = refl }
+command-keeps i (RemoveMethod c meta s) = record { doits = refl; heads = refl }
+command-keeps i (PushUpMethod c meta s) = where-there i _ (λ p. record { doits = refl; heads = refl }) _
+command-keeps i (PushDownMethod c meta s) = record { doits = refl; heads = refl }
+command-keeps i (AddParameter s t x passed) = record { doits = all-changed i _; heads = refl }
+command-keeps i (RemoveParameter s k t) = record { doits = all-changed i _; heads = refl }
+command-keeps i (AbstractInstVar c x setter given) = record { doits = all-changed i _; heads = refl }
+command-keeps i (ExtractMethod c meta s from to t) = where-made i _ (λ e. record { doits = refl; heads = refl }) _
+command-keeps i (InlineMethod c meta s from to) = where-made i _ (λ tree. record { doits = refl; heads = refl }) _
+command-keeps i (ExtractTemp c meta s from to x) = where-made i _ (λ tree. record { doits = refl; heads = refl }) _
+command-keeps i (InlineTemp c meta s x) = where-made i _ (λ tree. record { doits = refl; heads = refl }) _
+command-keeps i (RenameTemp c meta s x y) = where-made i _ (λ tree. record { doits = refl; heads = refl }) _
+
+-- nothing is asked of commands and actions
+all-fit : {X : Type 0} (xs : List X) → AllByRecursion (λ x. Unit {0}) xs
+all-fit [] = tt
+all-fit (x ∷ xs) = (tt, all-fit xs)
+
+request-fits : (r : Request) → Asks (λ x. Unit {0}) r
+request-fits (Perform x) = tt
+request-fits Undo = tt
+request-fits Redo = tt
+
+requests-fit : (rs : List Request) → AllByRecursion (Asks (λ x. Unit {0})) rs
+requests-fit [] = tt
+requests-fit (r ∷ rs) = (request-fits r, requests-fit rs)
+
+module _ (i : ImageOf Name) where
+  keeps : (v : Version) (c : CommandOf Name) (j : ImageOf Name) → HasSameDoIts i v.image → rules.judged v.image c ≡ Ok j → HasSameDoIts i j
+  keeps v c j good e =
+      let next = subst (HasSameDoIts v.image) (made v.image c j e).1 (command-keeps v.image c) in
+      record { doits = good.doits ∙ next.doits; heads = good.heads ∙ next.heads }
+
+  pub script-keeps : (script : List Request) (h : History) → verdict_in i script ≡ Ok h → HasSameDoIts i h.now.image
+  script-keeps script h e =
+      verdict-good rules (λ (v : Version). HasSameDoIts i v.image) (λ c. Unit {0}) (λ x. Unit {0}) (λ v c j good fit accepted. keeps v c j good accepted)
+      (λ v x good meant none. all-fit (rules.steps_of v.image x)) i script h (record { doits = refl; heads = refl }) (requests-fit script) e

@@ -1,0 +1,2 @@
+mod DoItsStay
+mod Made
