@@ -9,7 +9,7 @@ use Rattle.file_model.specs.Written.{file_of}
 use Rattle.file_model.proofs.OneImage.{one_image, one_refusal, no_image_where_refused}
 use Rattle.canonical_image.specs.Formatted.{formatted}
 use Rattle.image_forms.specs.declared.status.Status.{Status}
-use Rattle.command_words.specs.Forms.{Form, Apply, Format, Run, Find, Strip, Search, Rewrite, Demo, Help, Version, Later, NoForm, files_of, form_of}
+use Rattle.command_words.specs.Forms.{Form, Apply, Changes, Format, Run, Find, Strip, Search, Rewrite, Demo, Help, Version, Later, NoForm, files_of, form_of}
 use Rattle.image_forms.specs.Loads.{World, Loads, Given, Refused, Refuses, MayFail, IsTold, IsHonest}
 use Rattle.grammar_model.specs.Whole.{DoIt}
 use Rattle.grammar_model.proofs.Texts.{no_fault_DoIt, one_SpellsDoIt, one_HasFirstFault}
@@ -35,8 +35,9 @@ use Rattle.file_model.specs.Causes.{Refusal}
 use Rattle.apply_model.specs.declared.status.Status as applied
 use Rattle.apply_model.specs.declared.status.Status.TheVariants as verdict
 use Rattle.apply_model.specs.Applied as model
+use Rattle.changes_model.specs.Changes as change
 use Rattle.image_forms.specs.ImageLines.{image_refusal, expression_refusal, text_refusal}
-use Rattle.image_forms.specs.Answers.{status_applied, Applies, Formats, Formatted, Refused as Stopped, status_of, RunsIn, NoDoIt, Ran, Runs, NoImage, InImage, Finds, NoImageThere, Found, stripped_text, StripsIn, NoStart, Stripped, Strips, NoImageToStrip, StripsImage, OfImage, Unread, Read, SearchesIn, NoPattern, Matched, RewritesIn, NoRule, NoReplacement, Rewritten, summary, ChangesIn, Unchanged, Changed, DemosIn, NoExpression, Shown, AnswersForm, Answers, image_limit, script_limit}
+use Rattle.image_forms.specs.Answers.{status_applied, Applies, WritesChanges, Formats, Formatted, Refused as Stopped, status_of, RunsIn, NoDoIt, Ran, Runs, NoImage, InImage, Finds, NoImageThere, Found, stripped_text, StripsIn, NoStart, Stripped, Strips, NoImageToStrip, StripsImage, OfImage, Unread, Read, SearchesIn, NoPattern, Matched, RewritesIn, NoRule, NoReplacement, Rewritten, summary, ChangesIn, Unchanged, Changed, DemosIn, NoExpression, Shown, AnswersForm, Answers, image_limit, script_limit}
 
 -- both answers are one
 abbrev pub SameAnswer : Status → Status → List ℕ → List ℕ → Type 0
@@ -158,6 +159,7 @@ of_image_one text s t x y P Q step (Read i read p) (Read j read' q) = step j (su
 pub record OnceLaws : Type 0 where
   pub applies : (image_line : Refusal → List ℕ) (text script : List ℕ) (v u : applied.Status) (x y : List ℕ) → model.Applies image_line text script v x → model.Applies image_line text script u y → (v ≡ u) × (x ≡ y)
   pub applies_in : (i : ImageOf (List ℕ)) (script : List ℕ) (v u : applied.Status) (x y : List ℕ) → model.AppliesIn i script v x → model.AppliesIn i script u y → (v ≡ u) × (x ≡ y)
+  pub changes_in : (i : ImageOf (List ℕ)) (script : List ℕ) (v u : applied.Status) (x y : List ℕ) → change.ChangesIn i script v x → change.ChangesIn i script u y → (v ≡ u) × (x ≡ y)
   pub requests : (text : List ℕ) (rs qs : List Request) → Says text rs → Says text qs → rs ≡ qs
   pub pattern : (text : List ℕ) (p q : PatternOf (List ℕ)) → SaysPattern text p → SaysPattern text q → p ≡ q
   pub no_pattern : (text : List ℕ) (p : PatternOf (List ℕ)) (c : Cause) → SaysPattern text p → ¬ IsRefusedPattern text c
@@ -171,6 +173,20 @@ module _ (once : OnceLaws) where
   applies_one : (text script : List ℕ) (s t : Status) (x y : List ℕ) → Applies text script s x → Applies text script t y → SameAnswer s t x y
   applies_one text script s t x y a b =
       let same = once.applies image_refusal text script a.verdict b.verdict x y a.applies b.applies in
+      (a.status ∙ ap status_applied same.0 ∙ sym b.status, same.1)
+
+  -- a text and a script have one answer of `changes`
+  change_one : (text script : List ℕ) (v u : applied.Status) (x y : List ℕ) → change.Changes image_refusal text script v x → change.Changes image_refusal text script u y → (v ≡ u) × (x ≡ y)
+  change_one text script v u x y (change.NoImage r wrong is line) (change.NoImage q wrong' is' line') =
+      (is ∙ sym is', line ∙ ap image_refusal (one_refusal Second prelude_text text r q wrong wrong') ∙ sym line')
+  change_one text script v u x y (change.NoImage r wrong is line) (change.InImage i read p) = absurd (no_image_where_refused Second prelude_text text i r read wrong)
+  change_one text script v u x y (change.InImage i read p) (change.NoImage r wrong is line) = absurd (no_image_where_refused Second prelude_text text i r read wrong)
+  change_one text script v u x y (change.InImage i read p) (change.InImage j read' q) =
+      once.changes_in j script v u x y (subst (λ (k : ImageOf (List ℕ)). change.ChangesIn k script v x) (one_image Second prelude_text text i j read read') p) q
+
+  writes_one : (text script : List ℕ) (s t : Status) (x y : List ℕ) → WritesChanges text script s x → WritesChanges text script t y → SameAnswer s t x y
+  writes_one text script s t x y a b =
+      let same = change_one text script a.verdict b.verdict x y a.changes b.changes in
       (a.status ∙ ap status_applied same.0 ∙ sym b.status, same.1)
 
   searches_one : (i : ImageOf (List ℕ)) (pattern : List ℕ) (s t : Status) (x y : List ℕ) → SearchesIn i pattern s x → SearchesIn i pattern t y → SameAnswer s t x y
@@ -234,6 +250,9 @@ module _ (once : OnceLaws) where
   form_one w (Apply image script) s t x y honest p q =
       loads_one w image image_limit s t x y _ _ honest.told.0 honest.fine
       (λ i p' q'. loads_one w script script_limit s t x y _ _ honest.told.1.0 honest.fine (λ c. applies_one i c s t x y) p' q') p q
+  form_one w (Changes image script) s t x y honest p q =
+      loads_one w image image_limit s t x y _ _ honest.told.0 honest.fine
+      (λ i p' q'. loads_one w script script_limit s t x y _ _ honest.told.1.0 honest.fine (λ c. writes_one i c s t x y) p' q') p q
   form_one w (Format image) s t x y honest p q =
       loads_one w image image_limit s t x y _ _ honest.told.0 honest.fine (λ i. formats_one i s t x y) p q
   form_one w (Run image expression budget) s t x y honest p q =

@@ -4,6 +4,7 @@
 mod apply;
 mod changes;
 mod demo;
+mod loading;
 mod run;
 mod send;
 mod top;

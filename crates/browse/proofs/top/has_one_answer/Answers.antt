@@ -6,6 +6,7 @@ returns c =
     answers_one (record {
       applies = c.has_one_answer.ensures;
       applies_in = c.has_one_answer_in_image.ensures;
+      changes_in = c.has_one_change_in_image.ensures;
       requests = c.has_one_reading.ensures.requests;
       pattern = c.has_one_pattern.ensures.one;
       no_pattern = c.has_one_pattern.ensures.refused;
