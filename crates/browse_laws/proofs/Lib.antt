@@ -1,3 +1,4 @@
 pub mod Ends
 pub mod Undoing
 pub mod Sending
+mod FiledIn

@@ -8,6 +8,10 @@ use Rattle.image_forms.specs.Answers.{image_limit, script_limit}
 abbrev pub apply_words : List ℕ → List ℕ → List (List ℕ)
 apply_words image script = codes "apply" ∷ image ∷ script ∷ []
 
+-- `changes IMAGE SCRIPT`
+abbrev pub changes_words : List ℕ → List ℕ → List (List ℕ)
+changes_words image script = codes "changes" ∷ image ∷ script ∷ []
+
 -- `strip IMAGE EXPRESSION`
 abbrev pub strip_words : List ℕ → List ℕ → List (List ℕ)
 strip_words image expression = codes "strip" ∷ image ∷ expression ∷ []
