@@ -1,9 +1,8 @@
 -- The first byte that continues no certificate is one.
-use Rattle.std.proofs.Common.{◌≡◌, ◌⊎◌, inl, inr, ℕ, zero, suc, ◌<◌, ◌≤◌, List, [], ◌∷◌, ◌++◌, length, take, refl, sym, ap, subst, ◌∙◌, arith}
+use Rattle.std.proofs.Common.{◌≡◌, ◌⊎◌, inl, inr, ℕ, zero, suc, ◌<◌, ◌≤◌, [], ◌∷◌, ◌++◌, take, refl, ap, subst, arith}
 use Rattle.std.proofs.lemmas.Bool.{cases_lt}
 use Rattle.std.proofs.lemmas.List.{append_assoc}
 use Rattle.certified_model.specs.Marks.{Text}
-use Rattle.certified_model.specs.Certificates.{CertStep}
 use Rattle.certificate_model.specs.CertificateTexts.{SaysCertificate, BeginsCertificate, HasBadStep}
 
 -- fewer bytes of a text are a beginning of more of them

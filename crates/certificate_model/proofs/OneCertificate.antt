@@ -1,17 +1,16 @@
 -- A text says one certificate at most.
-use Rattle.std.proofs.Common.{◌≡◌, ◌⊎◌, inl, inr, ℕ, ◌<◌, ◌≤◌, ◌^◌, Bool, true, false, List, [], ◌∷◌, ◌++◌, map, length, refl, sym, ap, subst, ◌∙◌, arith}
-use Rattle.std.specs.Prelude.{◌≢◌, flat_map, if◌then◌else◌, nat_le, codes}
+use Rattle.std.proofs.Common.{◌≡◌, ℕ, ◌<◌, ◌^◌, Bool, true, false, List, [], ◌∷◌, ◌++◌, map, length, refl, sym, ap, ◌∙◌, arith}
+use Rattle.std.specs.Prelude.{◌≢◌, flat_map, if◌then◌else◌, codes}
 use Rattle.std.specs.List.{list_all, AllByRecursion}
 use Rattle.std.specs.Fmt.{decimal}
-use Rattle.std.specs.Str.Parse.{digits_value}
-use Rattle.std.proofs.lemmas.Bool.{and_parts, and_from, leb-true, le-leb}
+use Rattle.std.proofs.lemmas.Bool.{and_parts}
 use Rattle.std.proofs.lemmas.Fmt.{decimal_injective, digits_decimal, decimal_nonempty}
-use Rattle.std.proofs.lemmas.Str.Parse.{IsDigitsTest, IsNumeralModel, numerals_by_value}
 use Rattle.token_model.specs.Bytes.{is_digit}
 use Rattle.text_model.specs.Pieces.{pieces_joined}
+use Rattle.reread_law.proofs.Decimals.{digits_model}
 use Rattle.certified_model.specs.Marks.{Text}
 use Rattle.certified_model.specs.Certificates.{CertStep}
-use Rattle.certificate_model.specs.CertificateTexts.{path_text, step_text, certificate_text, HasNineDigits, IsStep, SaysCertificate}
+use Rattle.certificate_model.specs.CertificateTexts.{path_text, step_text, HasNineDigits, IsStep, SaysCertificate}
 
 -- no byte of a text is this one
 abbrev pub Lacks : ℕ → Text → Type 0
@@ -87,19 +86,6 @@ module _ {X : Type 0} (f : X → Text) (c : ℕ) (Good : X → Type 0) (lacks : 
 -- numbers are digits alone
 abbrev AreDigits : Text → Type 0
 AreDigits ds = list_all is_digit ds ≡ true
-
-digits_test : IsDigitsTest AreDigits
-digits_test = record {
-  empty = refl;
-  parts = λ c cs h.
-      let p = and_parts (is_digit c) (list_all is_digit cs) h in
-      let q = and_parts (nat_le 48 c) (nat_le c 57) p.0 in
-      ((leb-true 48 c q.0, leb-true c 57 q.1), p.1);
-  more = λ c cs r h. and_from (is_digit c) (list_all is_digit cs) (and_from (nat_le 48 c) (nat_le c 57) (le-leb 48 c r.0) (le-leb c 57 r.1)) h;
-}
-
-pub digits_model : IsNumeralModel AreDigits (digits_value 10)
-digits_model = numerals_by_value AreDigits digits_test
 
 digits_lack : (c : ℕ) → is_digit c ≡ false → (ds : Text) → AreDigits ds → Lacks c ds
 digits_lack c other [] h = tt

@@ -1,17 +1,17 @@
 -- Each text says a certificate, or has a first byte that continues none.
-use Rattle.std.proofs.Common.{◌≡◌, ◌⊎◌, inl, inr, ℕ, zero, suc, ◌+◌, ◌*◌, ◌/◌, ◌%◌, ◌<◌, ◌≤◌, ◌^◌, Bool, true, false, List, [], ◌∷◌, ◌++◌, map, length, take, refl, sym, ap, subst, ◌∙◌, arith}
+use Rattle.std.proofs.Common.{◌≡◌, ◌⊎◌, inl, inr, ℕ, zero, suc, ◌+◌, ◌/◌, ◌%◌, ◌<◌, ◌≤◌, Bool, true, false, List, [], ◌∷◌, ◌++◌, map, length, take, refl, sym, ap, subst, ◌∙◌, arith}
 use Rattle.std.specs.Prelude.{◌≢◌, flat_map, nat_eq, nat_le, if◌then◌else◌, codes}
 use Rattle.std.specs.List.{AllByRecursion}
 use Rattle.std.specs.Fmt.{decimal}
 use Rattle.std.specs.Str.Parse.{digits_value}
-use Rattle.std.proofs.lemmas.Bool.{cases_lt, eqb-true, eq-eqb, leb-true, le-leb, false≢true}
+use Rattle.std.proofs.lemmas.Bool.{eqb-true, eq-eqb, leb-true, le-leb, false≢true}
 use Rattle.std.proofs.lemmas.List.{append_assoc, append-nil}
-use Rattle.std.proofs.lemmas.Fmt.{decimal_injective, decimal_digit, decimal_step, decimal_by_steps, digits_value-decimal}
-use Rattle.text_model.specs.Pieces.{pieces_joined}
+use Rattle.std.proofs.lemmas.Fmt.{decimal_digit, decimal_step, decimal_by_steps, digits_value-decimal}
+use Rattle.reread_law.proofs.Decimals.{digits_model}
 use Rattle.certified_model.specs.Marks.{Text}
 use Rattle.certified_model.specs.Certificates.{CertStep}
-use Rattle.certificate_model.specs.CertificateTexts.{path_text, step_text, certificate_text, HasNineDigits, IsStep, SaysCertificate, BeginsCertificate, HasBadStep}
-use Rattle.certificate_model.proofs.OneCertificate.{Lacks, Starts, cut, lacks_both, small, digits_model, number_lacks, step_lacks}
+use Rattle.certificate_model.specs.CertificateTexts.{path_text, step_text, HasNineDigits, IsStep, SaysCertificate, BeginsCertificate, HasBadStep}
+use Rattle.certificate_model.proofs.OneCertificate.{Lacks, Starts, cut, small, number_lacks, step_lacks}
 
 -- whether or not
 abbrev pub Decided : Type 0 → Type 0

@@ -1,8 +1,8 @@
 -- Each edit names what differs.
-use Rattle.std.proofs.Common.{◌≡◌, ◌⊎◌, inl, inr, ℕ, suc, Bool, true, false, not, List, [], ◌∷◌, ◌++◌, map, filter, length, Option, Some, None, refl, ap, sym, subst, ◌∙◌, true≢false}
+use Rattle.std.proofs.Common.{◌≡◌, ◌⊎◌, inl, inr, ℕ, suc, Bool, true, false, not, List, [], ◌∷◌, ◌++◌, map, filter, length, refl, ap, sym, subst, ◌∙◌, true≢false}
 use Rattle.std.specs.Prelude.{◌&&◌, ◌==◌, ◌↔◌, reverse, flat_map, if◌then◌else◌}
 use Rattle.std.specs.List.{AllByRecursion}
-use Rattle.std.proofs.lemmas.Bool.{and_parts, eq-eqb}
+use Rattle.std.proofs.lemmas.Bool.{and_parts}
 use Rattle.std.proofs.lemmas.List.{reverse-append}
 use Rattle.rb_base.specs.Names.{text_eq}
 use Rattle.rb_base.proofs.NamesLemmas.{text_eq-refl}
@@ -19,6 +19,7 @@ use Rattle.change_model.specs.Edits.{Edit, Settle, Change, Put, Replace, cleared
 use Rattle.change_laws.specs.Merged.{Has, AreApart}
 use Rattle.change_laws.specs.Images.{CanBeMade}
 use Rattle.change_laws.proofs.Orders.{found, any_has, has_filter, filter_has, none_pass, one_alike, both_same, stays_there}
+use Rattle.change_laws.proofs.SameClasses.{one_with_itself}
 use Rattle.change_laws.proofs.Filed.{its_item}
 use Rattle.change_laws.proofs.Images.{classes_apart, methods_apart, spelled}
 use Rattle.change_laws.proofs.Tests.{namesake_same, namesake_back, namesake_through, class_same, class_alike, class_equal, counterparts, counterpart_same, counterpart_back, counterpart_through, method_same, method_alike, method_equal}
@@ -54,10 +55,6 @@ has_map : {X Y : Type 0} (f : X → Y) (x : X) (xs : List X) → Has x xs → Ha
 has_map f x [] h = absurd h
 has_map f x (z ∷ zs) (inl e) = inl (ap f e)
 has_map f x (z ∷ zs) (inr h) = inr (has_map f x zs h)
-
-one_with_itself : (o : Option ℕ) → is_one_place o o ≡ true
-one_with_itself None = refl
-one_with_itself (Some k) = eq-eqb k k refl
 
 -- an item that is listed with its place does not stay
 its_other : {X : Type 0} (stay : X → Bool) (k : ℕ) (ys : List X) (p : PlacedOf X) → Has p (differing_from k stay ys) → stay p.item ≡ false

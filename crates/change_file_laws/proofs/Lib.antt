@@ -10,5 +10,4 @@ pub mod Selectors
 pub mod Named
 pub mod Whole
 pub mod Counted
-pub mod Differing
 pub mod Nothing

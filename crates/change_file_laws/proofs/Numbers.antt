@@ -5,16 +5,16 @@ use Rattle.std.specs.Fmt.{decimal}
 use Rattle.std.specs.List.{list_all, list_any, before_first}
 use Rattle.std.specs.Option.{option_and_then}
 use Rattle.std.specs.Str.Parse.{digits_value}
-use Rattle.std.proofs.lemmas.Bool.{and_parts, and_from, or_from, leb-true, le-leb, lt-ltb, ne_eqb}
+use Rattle.std.proofs.lemmas.Bool.{and_parts, or_from, le-leb, lt-ltb, ne_eqb}
 use Rattle.std.proofs.lemmas.List.{get_or_past}
 use Rattle.std.proofs.lemmas.Fmt.{digits_decimal, digits_value-decimal, decimal_nonempty, length-decimal-le}
-use Rattle.std.proofs.lemmas.Str.Parse.{IsDigitsTest, IsNumeralModel, numerals_by_value}
 use Rattle.token_model.specs.Bytes.{is_digit}
 use Rattle.token_model.specs.Tokens.{Plain, Unscaled}
 use Rattle.token_model.proofs.Leads.{other_byte}
 use Rattle.run_model.specs.Numbers.{is_radix_mark, is_fraction_mark, unsigned_value, signed_value, fits, fitting, numeral_integer}
 use Rattle.reread_law.specs.WellFormed.{IsUnsigned}
 use Rattle.reread_law.proofs.Bytes.{all_at}
+use Rattle.reread_law.proofs.Decimals.{digits_model}
 use Rattle.file_model.specs.Filing.{Text}
 use Rattle.file_model.specs.Numerals.{digits_of, positive, place_in}
 use Rattle.change_file_laws.specs.Stated.{IsStatedNumber}
@@ -22,21 +22,6 @@ use Rattle.change_file_laws.specs.Stated.{IsStatedNumber}
 -- digits
 abbrev AreDigits : Text → Type 0
 AreDigits ds = list_all is_digit ds ≡ true
-
--- tested byte by byte
-digits_test : IsDigitsTest AreDigits
-digits_test = record {
-  empty = refl;
-  parts = λ c cs h.
-      let p = and_parts (is_digit c) (list_all is_digit cs) h in
-      let q = and_parts (nat_le 48 c) (nat_le c 57) p.0 in
-      ((leb-true 48 c q.0, leb-true c 57 q.1), p.1);
-  more = λ c cs r h. and_from (is_digit c) (list_all is_digit cs) (and_from (nat_le 48 c) (nat_le c 57) (le-leb 48 c r.0) (le-leb c 57 r.1)) h;
-}
-
--- their value
-digits_model : IsNumeralModel AreDigits (digits_value 10)
-digits_model = numerals_by_value AreDigits digits_test
 
 -- digits alone are a numeral
 digits_unsigned : (ds : Text) → AreDigits ds → 0 < length ds → IsUnsigned ds

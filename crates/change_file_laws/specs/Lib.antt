@@ -2,5 +2,3 @@ pub mod Trees
 pub mod Stated
 pub mod Behind
 pub mod Other
-pub mod Naming
-pub mod Examples

@@ -7,36 +7,32 @@ ghost use Rattle.rb_base.specs.Names.{text_eq};
 ghost use Rattle.token_model.specs.declared.kind.Dialect.{Dialect};
 ghost use Rattle.token_model.specs.declared.kind.Dialect.TheVariants.{Second};
 ghost use Rattle.chunk_format.specs.Blank.{IsBlank};
+ghost use Rattle.chunk_format.specs.declared.chunk_iter.Unended.{Unended};
 ghost use Rattle.chunk_format.specs.Left.{Left, start_of};
 ghost use Rattle.chunk_format.specs.Chunks.{Piece, HasChunks};
 ghost use Rattle.text_model.specs.Literals.{is_identifier, quoted_text};
 ghost use Rattle.grammar_model.specs.Spelling.{SpellsDoIt};
 ghost use Rattle.st_kernel.specs.KernelText.{prelude_text};
 ghost use Rattle.image_model.specs.Image.{ImageOf};
-ghost use Rattle.image_model.specs.Valid.{IsValid};
-ghost use Rattle.image_model.specs.Words.{text_words};
 ghost use Rattle.file_model.specs.Changes.{ChangeOf, RunOf};
-ghost use Rattle.file_model.specs.Fileable.{reading_of};
 ghost use Rattle.file_model.specs.Filing.{Text, Filing};
 ghost use Rattle.file_model.specs.Forms.{Changes, OpensAt, Settles, form_of, replacement_in};
-ghost use Rattle.file_model.specs.Hierarchy.{has_class};
 ghost use Rattle.file_model.specs.Numerals.{place_in};
 ghost use Rattle.file_model.specs.Places.{placed};
 ghost use Rattle.file_model.specs.Reading.{IsKernelOf, IsImageOf};
-ghost use Rattle.change_model.specs.Differs.{differs};
 ghost use Rattle.change_model.specs.Edits.{Edit, edits};
 ghost use Rattle.change_model.specs.Edited.{Stage, AreMade};
 ghost use Rattle.change_model.specs.Text.{change_source, change_text};
+ghost use Rattle.change_class_laws.specs.Named.{HoldsDifferences};
+ghost use Rattle.change_class_laws.specs.Whole.{HasRoot, NothingDiffers};
 ghost use Rattle.change_laws.specs.Chunks.{rests};
-ghost use Rattle.change_laws.specs.Images.{CanBeMade, IsMade, at_rest};
+ghost use Rattle.change_laws.specs.Images.{CanBeMade, at_rest};
 ghost use Rattle.change_file_laws.specs.Behind.{with_edits, GoesOn, IsRead};
-ghost use Rattle.change_file_laws.specs.Examples.{accounts, ledgers, renaming_text};
-ghost use Rattle.change_file_laws.specs.Naming.{NamesWhatDiffers, IsNone};
 ghost use Rattle.change_file_laws.specs.Other.{IsOtherOf};
 ghost use Rattle.change_file_laws.specs.Stated.{IsStatedNumber, IsStatedChange, IsStated};
 ghost use Rattle.change_file_laws.specs.Trees.{settling_tree, replacement_tree, placed_opening_tree, placed_opening_text, change_tree};
 
-use change_laws::makes_the_other_of_its_classes;
+use change_class_laws::{chunks_name_differences, edits_name_differences, law_changes_make};
 use file_rereading::spells_definitions;
 use kernel_image::{every_image_is_valid, kernel_is_valid};
 
@@ -85,24 +81,7 @@ pub fn goes_on_behind_a_text()
 /// Each edit that leads from one image to another can be stated, where there are fewer than 1,000,000,000 do-its: their
 /// numerals have at most nine digits.
 pub fn states_all_edits()
-    ensures { (kernel i j : ImageOf Text) → CanBeMade kernel i j → has_class text_eq kernel.classes (codes "Object") ≡ true → length j.doits < 10 ^ 9 → AllByRecursion IsStated (edits i j) }
-{}
-
-/// Each edit names a class, a method or a do-it that differs.
-pub fn names_what_differs()
-    ensures { (kernel i j : ImageOf Text) → IsValid text_words (reading_of Second kernel) i → IsValid text_words (reading_of Second kernel) j →
-        AllByRecursion (NamesWhatDiffers (differs i j)) (edits i j) }
-{}
-
-/// The change file is empty exactly where nothing differs.
-pub fn writes_nothing_where_nothing_differs()
-    ensures { (kernel i j : ImageOf Text) → CanBeMade kernel i j → (change_text i j ≡ []) ↔ IsNone (differs i j) }
-{}
-
-/// A class that gets another name, by hand: the class goes, the other comes at its place, with its method, and the do-it that
-/// names it is replaced.
-pub fn writes_a_change_file()
-    ensures { change_text accounts ledgers ≡ renaming_text }
+    ensures { (kernel i j : ImageOf Text) → CanBeMade kernel i j → HasRoot kernel → length j.doits < 10 ^ 9 → AllByRecursion IsStated (edits i j) }
 {}
 
 /// The image of a text has no more do-its than the text has bytes, behind a kernel without do-its.
@@ -111,33 +90,31 @@ pub fn counts_no_more_doits_than_bytes()
         IsImageOf dialect prelude text image → length image.doits ≤ length text }
 {}
 
-/// Where the edits make the second image of the first, the change file behind any text of the first is read, and makes the
-/// second, in its order. The kernel has `Object`, and there are fewer than 1,000,000,000 do-its.
+/// Where one image can be made of another, the change file behind any text of the first is read, and makes the second, in its
+/// order. The kernel has `Object`, and there are fewer than 1,000,000,000 do-its.
 pub fn makes_the_other_by_text()
-    ensures { (prelude text : Text) (kernel i j : ImageOf Text) → CanBeMade kernel i j → IsMade i j → has_class text_eq kernel.classes (codes "Object") ≡ true →
-        length j.doits < 10 ^ 9 → IsImageOf Second prelude text i → IsImageOf Second prelude (text ++ change_text i j) j }
+    ensures { (prelude text : Text) (kernel i j : ImageOf Text) → CanBeMade kernel i j → HasRoot kernel → length j.doits < 10 ^ 9 →
+        IsImageOf Second prelude text i → IsImageOf Second prelude (text ++ change_text i j) j }
 {
     spells_definitions();
+    law_changes_make();
 }
 
-/// Of each text that is read behind the kernel, and that has fewer than 1,000,000,000 bytes, the change file makes the
-/// second image, where the edits make it.
-pub fn changes_each_text()
-    ensures { (text : Text) (kernel i j : ImageOf Text) → IsKernelOf Second prelude_text kernel → IsImageOf Second prelude_text text i → length text < 10 ^ 9 →
-        IsOtherOf kernel i j → IsMade i j → IsImageOf Second prelude_text (text ++ change_text i j) j }
+/// Behind each text that is read behind the kernel, and that has fewer than 1,000,000,000 bytes, the change file is read, and
+/// makes the second image. It is chunks to its end: a blank one, the one that settles places, and such as are blank or name
+/// only what differs. And it is empty exactly if nothing differs.
+pub fn law_changed_texts()
+    ensures makes { (text : Text) (kernel i j : ImageOf Text) → IsKernelOf Second prelude_text kernel → IsImageOf Second prelude_text text i → length text < 10 ^ 9 →
+        IsOtherOf kernel i j → IsImageOf Second prelude_text (text ++ change_text i j) j }
+    ensures names { (text : Text) (kernel i j : ImageOf Text) (pieces : List Piece) (end : Option Unended) → IsKernelOf Second prelude_text kernel →
+        IsImageOf Second prelude_text text i → IsOtherOf kernel i j → HasChunks (start_of (change_text i j)) pieces end → (end ≡ None) × HoldsDifferences i j pieces }
+    ensures none { (text : Text) (kernel i j : ImageOf Text) → IsKernelOf Second prelude_text kernel → IsImageOf Second prelude_text text i →
+        IsOtherOf kernel i j → (change_text i j ≡ []) ↔ NothingDiffers i j }
 {
     kernel_is_valid();
     every_image_is_valid();
     counts_no_more_doits_than_bytes();
     makes_the_other_by_text();
-}
-
-/// Where the classes are the same it does so without any premise on edits.
-pub fn changes_methods_and_doits_of_each_text()
-    ensures { (text : Text) (kernel i j : ImageOf Text) → IsKernelOf Second prelude_text kernel → IsImageOf Second prelude_text text i → length text < 10 ^ 9 →
-        IsOtherOf kernel i j → i.classes ≡ j.classes → IsImageOf Second prelude_text (text ++ change_text i j) j }
-{
-    every_image_is_valid();
-    makes_the_other_of_its_classes();
-    changes_each_text();
+    chunks_name_differences();
+    edits_name_differences();
 }

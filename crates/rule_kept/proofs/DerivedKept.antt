@@ -3,7 +3,7 @@ use Rattle.std.proofs.Common.{◌≡◌, List, [], ◌∷◌, Option, Some, None
 use Rattle.std.specs.Prelude.{ℕ, suc, Bool, true, false, not, if◌then◌else◌, is_none, option_map, option_and_then}
 use Rattle.std.specs.List.{list_all, list_any}
 use Rattle.std.specs.Option.{option_map_or}
-use Rattle.std.proofs.lemmas.Bool.{and_parts, false≢true}
+use Rattle.std.proofs.lemmas.Bool.{false≢true}
 use Rattle.tree_model.specs.Tree.{TreeOf}
 use Rattle.tree_model.specs.Bare.{bare, SameBare}
 use Rattle.tree_model.specs.Path.{part_at, replaced}
@@ -11,7 +11,6 @@ use Rattle.tree_model.proofs.Parts.{replaced-part_at}
 use Rattle.same_trees.specs.SameTrees.{same_tree}
 use Rattle.same_trees.proofs.Told.{tree_told}
 use Rattle.reread_law.specs.WellFormed.{NoReturn}
-use Rattle.pattern_model.specs.declared.kinds.MetaKind.{MetaKind}
 use Rattle.pattern_model.specs.Patterns.{MetaOf, PatternOf, metas}
 use Rattle.pattern_model.specs.Bindings.{BoundOf, BindingOf, same_meta, bound_of, each_once}
 use Rattle.pattern_model.specs.Matches.{is_of_kind, Matches}
@@ -24,21 +23,11 @@ use Rattle.pattern_laws.proofs.Matching.{match_sound}
 use Rattle.certified_model.specs.Marks.{Text, Mark, plain, is_same_mark, marked_tree, mark_words}
 use Rattle.certified_model.specs.Certificates.{CertStep, is_statement_meta, is_fit, plain_joined, turned, sides_of, take_step, stuck_from, derives}
 use Rattle.certified_rules.proofs.MarkWords.{mark_words_are}
-use Rattle.certified_rules.proofs.LawTurns.{of_law, IsKnown, Turns}
+use Rattle.certified_rules.proofs.LawTurns.{IsKnown, Turns}
 use Rattle.certified_rules.proofs.TableTurns.{sides-turn}
+use Rattle.certified_rules.proofs.DerivedSteps.{bound-fit}
 use Rattle.rule_kept.proofs.StepsKept.{Steps, steps_then, replaced_steps, same_steps}
 use Rattle.rule_kept.proofs.LawsKept.{KeepsLaw, sides_kept}
-
--- what is bound is fit, where all bindings are
-bound_fit : (bs : List (BindingOf Mark)) → list_all (λ (x : BindingOf Mark). is_fit x.bound) bs ≡ true → (k : MetaKind) (n : Text) → is_fit (bound_of is_same_mark bs (of_law k n)) ≡ true
-bound_fit [] e k n = refl
-bound_fit (b ∷ bs) e k n =
-    let h = and_parts (is_fit b.bound) (list_all (λ (x : BindingOf Mark). is_fit x.bound) bs) e in
-    by (same_meta is_same_mark b.meta (of_law k n)) h.0 (bound_fit bs h.1 k n)
-  where
-    by : (c : Bool) → is_fit b.bound ≡ true → is_fit (bound_of is_same_mark bs (of_law k n)) ≡ true → is_fit (if c then b.bound else bound_of is_same_mark bs (of_law k n)) ≡ true
-    by true f g = f
-    by false f g = g
 
 module _ (bound : MetaOf Text → BoundOf Text) (joined : List (List ℕ) → Text) (operands : (m : MetaOf Text) → not (is_statement_meta m.kind) ≡ true → NoReturn (bare (part_in m.name (bound m)))) where
   -- the node is another one but for comments, and the turned node may stand where that does
@@ -55,7 +44,7 @@ module _ (bound : MetaOf Text → BoundOf Text) (joined : List (List ℕ) → Te
 
       known : (bs : List (BindingOf Mark)) → Matches mark_words plain_joined left a bs → list_all (λ (x : BindingOf Mark). is_fit x.bound) bs ≡ true → IsKnown (bound_of is_same_mark bs) (metas left)
       known bs m fit = record {
-        fit = bound_fit bs fit;
+        fit = bound-fit bs fit;
         kinds = all_weaker (λ k. list_any (λ n. same_meta is_same_mark n k) (each_once is_same_mark (metas left)) ≡ true) (λ k. is_of_kind mark_words k.kind (bound_of is_same_mark bs k) ≡ true) (metas left)
             (λ k f. bound_right mark_words plain_joined mark_words_are bs m.in_kind k (ap (list_any (λ n. same_meta is_same_mark n k)) m.binds ∙ f))
             (once_there is_same_mark mark_words_are.refl mark_words_are.told (metas left));

@@ -1,28 +1,17 @@
 -- Trees that may stand where others stand, whatever names are known there: they are proper where the others are, and returns or values where the others are.
 use Rattle.std.proofs.Common.{inl, inr, List, [], ◌++◌}
-use Rattle.tree_model.specs.Tree.{TreeOf, var, literal, send, cascade, assign, block, brace, return, TreesOf, no_trees, more_trees, MessagesOf, no_messages, more_messages, StatementsOf, more_statements}
+use Rattle.tree_model.specs.Tree.{TreeOf, send, cascade, assign, block, brace, return, TreesOf, no_trees, more_trees, MessagesOf, no_messages, more_messages, StatementsOf, more_statements}
 use Rattle.grammar_model.specs.Checks.{Known}
-use Rattle.reread_law.specs.WellFormed.{LastOne, OneBefore, AreParts, FitsNone, FitsOne, FitsParts, FitsArguments, NoReturn, AreTwo}
+use Rattle.reread_law.specs.WellFormed.{LastOne, OneBefore, AreParts, FitsNone, FitsOne, FitsParts, FitsArguments, AreTwo}
 use Rattle.reread_law.specs.Declarations.{known_names}
 use Rattle.file_model.specs.Filing.{Text}
 use Rattle.code_effect_laws.proofs.Proper.{IsProper, AreProper, AreProperMessages, AreProperStatements}
-use Rattle.code_effect_laws.proofs.Stands.{IsReturn, IsEnd, StandsFor, itself_stands, statement_before, stands_statement, stands_no_return, stands_value}
-
--- a return is not without return
-return_not : (t : TreeOf Text) → IsReturn t → NoReturn t → ⊥
-return_not (return t) r n = n
-return_not (var n) r q = r
-return_not (literal l) r q = r
-return_not (send v s xs) r q = r
-return_not (cascade v ms) r q = r
-return_not (assign n v) r q = r
-return_not (block ps ts bs e) r q = r
-return_not (brace ts) r q = r
+use Rattle.code_effect_laws.proofs.Stands.{IsEnd, return_returns, StandsFor, itself_stands, statement_before, stands_statement, stands_no_return, stands_value}
 
 stands_then : (c d e : TreeOf Text) → StandsFor c d → StandsFor d e → StandsFor c e
 stands_then c d e (inl r) (inl q) = inl (r.0, q.1)
-stands_then c d e (inl r) (inr q) = absurd (return_not d r.1 q.0)
-stands_then c d e (inr r) (inl q) = absurd (return_not d q.0 r.1)
+stands_then c d e (inl r) (inr q) = absurd (return_returns d r.1 q.0)
+stands_then c d e (inr r) (inl q) = absurd (return_returns d q.0 r.1)
 stands_then c d e (inr r) (inr q) = inr (r.0, q.1, λ v. q.2 (r.2 v))
 
 -- a tree

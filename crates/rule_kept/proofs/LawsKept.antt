@@ -19,6 +19,7 @@ use Rattle.certified_model.specs.LawSteps.{IsSingle}
 use Rattle.certified_model.specs.Marks.{Text, Mark, plain, marked, marked_unary, marked_whole, in_keywords, undoubled, pattern_marked, mark_words}
 use Rattle.certified_model.specs.Certificates.{laws, CertStep, numbered_law, goes_back, sides_of, is_statement_meta, stands, is_fit, plain_joined}
 use Rattle.certified_rules.proofs.LawTurns.{of_law, IsKnown, single}
+use Rattle.certified_rules.proofs.TableTurns.{numbered}
 use Rattle.code_effect_laws.proofs.Proper.{IsProper, AreProper}
 use Rattle.code_effect_laws.proofs.Stands.{statement_value, value_statement}
 use Rattle.rule_kept.proofs.Kept.{Kept, KeptLines, fits_same, kept_block}
@@ -271,15 +272,6 @@ module _ (bound : MetaOf Text → BoundOf Text) (joined : List (List ℕ) → Te
       ),
     ),
   )
-
-  -- what holds of each law holds of the law of a number
-  numbered : (P : PatternOf Text × PatternOf Text → Type 0) (n : ℕ) (ls : List (PatternOf Text × PatternOf Text)) (l : PatternOf Text × PatternOf Text) → AllByRecursion P ls → numbered_law n ls ≡ Some l → P l
-  numbered P n [] l all e = let bad : ⊥ = cc in absurd bad
-  numbered P n (x ∷ xs) l all e = by (nat_eq n 1) e (λ f. numbered P (n - 1) xs l all.1 f)
-    where
-      by : (b : Bool) → (if b then Some x else numbered_law (n - 1) xs) ≡ Some l → (numbered_law (n - 1) xs ≡ Some l → P l) → P l
-      by true f on = let same : x ≡ l = cc in subst P same all.0
-      by false f on = on f
 
   record IsFrom (P : ℕ → PatternOf Text × PatternOf Text → Type 0) (k n : ℕ) (l : PatternOf Text × PatternOf Text) : Type 0 where
     before : ℕ

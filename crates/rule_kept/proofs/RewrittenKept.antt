@@ -18,9 +18,9 @@ use Rattle.pattern_model.specs.MatchTree.{FoundOf, bindings_of, match_places}
 use Rattle.pattern_model.specs.Rewritten.{RuleOf, each_statement, each_doubled, in_match, rewritten_by, rewritten_within, rewritten}
 use Rattle.pattern_laws.proofs.Matching.{match_of_places}
 use Rattle.pattern_laws.proofs.Gathered.{bound_right}
-use Rattle.certified_model.specs.Marks.{Text, undoubled, marked_tree}
+use Rattle.certified_model.specs.Marks.{Text, marked_tree}
 use Rattle.certified_model.specs.Certificates.{CertStep, is_statement_meta, derives}
-use Rattle.certified_rules.proofs.FilledAlike.{filled-alike}
+use Rattle.certified_rules.proofs.FilledAlike.{filled-alike, bound-alike}
 use Rattle.code_effect_laws.proofs.Stands.{stands_no_return}
 use Rattle.rule_kept.proofs.Kept.{Kept, kept_itself, kept_then, KeptLines}
 use Rattle.rule_kept.proofs.Bared.{filled_bare}
@@ -78,11 +78,6 @@ module _ (w : PatternWordsOf Text) where
   bound_none k s n (a_keyword m) e = tt
   bound_none k s n (a_message m ts) e = tt
 
--- what a metavariable is bound to does not depend on whether it is doubled
-bound_alike : (same : Text → Text → Bool) (bs : List (BindingOf Text)) (m : MetaOf Text) → bound_of same bs (undoubled m.kind m.name) ≡ bound_of same bs m
-bound_alike same [] m = refl
-bound_alike same (b ∷ bs) m = ap (λ (x : BoundOf Text). if same_meta same b.meta m then b.bound else x) (bound_alike same bs m)
-
 -- a metavariable that is not bound stands for a variable
 unbound : (same : Text → Text → Bool) (bs : List (BindingOf Text)) (m : MetaOf Text) → list_any (λ n. same_meta same n m) (map (λ (b : BindingOf Text). b.meta) bs) ≡ false → bound_of same bs m ≡ a_part (var m.name)
 unbound same [] m e = refl
@@ -113,7 +108,7 @@ module _ (w : PatternWordsOf Text) (joined : List (List ℕ) → Text) (known : 
       let none = λ (n : MetaOf Text) (s : not (is_statement_meta n.kind) ≡ true). stands_no_return (bare (part_in n.name (bound n))) (bare (part_in n.name (after n))) (part_of n.name (each n)).stands (no_return_bound (bindings_of w ys) m.in_kind n s) in
       let first : Kept (bare t) (filled_bare bound joined p) = subst (λ (u : TreeOf Text). Kept u (filled_bare bound joined p)) m.fills (kept_itself (filled_bare bound joined p)) in
       let second : Kept (filled_bare bound joined p) (filled_bare after joined p) = filled_kept bound after joined each p in
-      let alike = bound_alike w.tests.same (map (each_doubled g) (bindings_of w ys)) in
+      let alike = bound-alike w.tests.same (map (each_doubled g) (bindings_of w ys)) in
       let third : Kept (filled_bare after joined p) (filled_bare after joined q) =
       subst (λ (u : TreeOf Text). Kept u (filled_bare after joined q)) (ap bare (filled-alike after joined alike p))
       (subst (λ (u : TreeOf Text). Kept (made after joined (marked_tree p)) u) (ap bare (filled-alike after joined alike q)) (derived_kept after joined none xs p q derived).kept) in

@@ -1,10 +1,7 @@
 -- The comments in the blocks of a pattern that a text spells are comments.
-use Rattle.std.proofs.Common.{◌≡◌, ℕ, ◌+◌, ◌-◌, ◌≤◌, inl, inr, Bool, true, false, List, [], ◌∷◌, ◌++◌, length, get_or, take, drop, Option, Some, None, arith, refl, ap, sym, subst, ◌∙◌}
+use Rattle.std.proofs.Common.{◌≡◌, ℕ, inl, inr, Bool, true, false, List, [], ◌∷◌, ◌++◌, Option, Some, None, refl, sym, subst}
 use Rattle.std.specs.Prelude.{slice_range, if◌then◌else◌}
 use Rattle.std.specs.Option.{option_map_or}
-use Rattle.std.proofs.lemmas.List.{take-take}
-use Rattle.std.proofs.lemmas.List.Edits.{get_or-between, length-between}
-use Rattle.token_model.specs.Tokens.{IsComment}
 use Rattle.token_model.specs.TokenLists.{Piece}
 use Rattle.token_model.specs.declared.kind.Dialect.{Dialect}
 use Rattle.token_model.specs.declared.kind.Dialect.TheVariants.{Second}
@@ -24,8 +21,7 @@ use Rattle.grammar_model.specs.Literals.{KeywordRow, LastKeyword, JoinedKeyword,
 use Rattle.grammar_model.specs.Grammar.{Periods, OnePeriod, NoPeriods, Names, OneName, NoNames, Parameters, OneParameter, NoParameters, Temporaries, Declares, DeclaresNone, Expression, Assigned, Simple, Operand, Variable, SuperName, MetaOperand, LiteralOperand, Grouped, BlockOperand, BraceOperand, Unaries, OneUnary, AnyUnary, NoUnaries, Binaries, OneBinary, NoBinaries, Keywords, OneKeywords, AnyKeywords, NoKeywords, AnyMessage, WholeMessage, Parts, LastPart, FurtherPart, Argument, BinaryArgument, KeywordArgument, ArgumentOfKeyword, Cascaded, NoCascade, OneCascade, Messages, OneMessage, LastMessage, Message, UnaryMessage, AnyUnaryMessage, BinaryMessage, KeywordMessage, AnyKeywordMessage, Items, NoItems, OneItem, FurtherItems, NextItem, LastItem, BlockBody, WithoutParameters, ParametersAlone, WithParameters, Sequence, Sequenced, Statements, BlankPeriod, NoMore, Returned, AnyStatement, OneStatement, After, Ended, Unended, Finish, EndedReturn, UnendedReturn}
 use Rattle.grammar_model.specs.Spelling.{SpellsPatternAt}
 use Rattle.reread_law.specs.WellFormed.{IsNote, AllNotes}
-use Rattle.reread_law.proofs.Sound.{notes_append}
-use Rattle.reread_law.proofs.Copies.{IsCopy, comment_copy}
+use Rattle.reread_law.proofs.Sound.{notes_append, comment_good}
 use Rattle.pattern_model.specs.Patterns.{SelectorLike, this_selector, any_unary, of_keywords, any_message, PatternsOf}
 use Rattle.pattern_model.specs.Spelled.{is_meta, selector_like, arguments_like, pattern_of, patterns_in, messages_in, statements_in, operand_meta}
 use Rattle.pattern_model.specs.Patterns.{meta, var_like}
@@ -58,24 +54,6 @@ noted_clear s = record { held = tt; rest = s.rest }
 
 noted_back : {o i : Input} → Noted o → Noted i → Noted (back o i)
 noted_back s t = record { held = s.held; rest = t.rest }
-
--- the bytes of a comment are a copy of those in the text
-slice_copy : (t : List ℕ) (i j : ℕ) → i ≤ j → j ≤ length t → IsCopy (slice_range t i j) 0 t i (j - i)
-slice_copy t i j le in_text = record {
-  bytes = λ k lt. let e : 0 + k ≡ k = omega arith in ap (λ m. get_or (slice_range t i j) m 0) e ∙ get_or-between t i j k 0 (omega arith);
-  ranges = λ k le.
-      let e : 0 + k - 0 ≡ k = omega arith in
-      let f : i + k - i ≡ k = omega arith in
-      ap (λ m. take m (slice_range t i j)) e ∙ take-take k (j - i) (drop i t) le ∙ ap (λ m. take m (drop i t)) (sym f);
-}
-
-comment_good : (t : List ℕ) (i j : ℕ) → i ≤ j → j ≤ length t → IsComment t i j → IsNote (slice_range t i j)
-comment_good t i j le in_text h =
-    let size : length (slice_range t i j) ≡ j - i = length-between t i j in_text in
-    let e : i + (j - i) ≡ j = omega arith in
-    let whole_one : IsComment t i (i + (j - i)) = subst (IsComment t i) (sym e) h in
-    let f : 0 + (j - i) ≡ length (slice_range t i j) = omega arith in
-    subst (IsComment (slice_range t i j) 0) f (comment_copy (slice_range t i j) 0 t i (j - i) (slice_copy t i j le in_text) whole_one)
 
 -- what the grammar does not see is a comment
 comment_token : (d : Dialect) (t : List ℕ) (i j : ℕ) → IsPatternToken d token.Comment t i j → IsNote (slice_range t i j)
