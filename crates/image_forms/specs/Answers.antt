@@ -54,8 +54,24 @@ abbrev pub usage : List ℕ
 usage = line (codes "usage: browse COMMAND ARGUMENTS")
 
 -- the forms as they are typed, each with what it does
+abbrev pub help_forms : List ℕ
+help_forms = codes "usage: browse COMMAND ARGUMENTS\napply IMAGE SCRIPT: prints the file-out IMAGE as the commands of SCRIPT change it\nchanges IMAGE SCRIPT: prints what to file in after IMAGE to have it as the commands of SCRIPT change it\nrun IMAGE EXPRESSION [BUDGET]: runs the do-its of IMAGE and then EXPRESSION, for at most BUDGET ticks\nfind IMAGE KIND NAME: lists what sends or implements a selector, or means a class or a variable\nformat IMAGE: prints IMAGE with each source in canonical text\nstrip IMAGE EXPRESSION [sets]: prints IMAGE without what its do-its and EXPRESSION cannot reach, or what they reach\nsearch IMAGE PATTERN: lists the nodes that PATTERN matches\nrewrite IMAGE PATTERN REPLACEMENT: prints IMAGE with each node that PATTERN matches replaced\ndemo NUMBER: makes an image of NUMBER classes, runs it, renames in it, and runs it again\n--help: prints these lines\n--version: prints the version of the program and of the logic that proves it"
+
+-- the kinds of `find`, each with what it lists
+abbrev pub help_kinds : List ℕ
+help_kinds = codes "kinds of find, each with its NAME:\n  senders SELECTOR: the messages of the selector\n  implementors SELECTOR: the methods of the selector\n  class CLASS: where code means the class\n  inst CLASS.VARIABLE: where code reads or assigns the instance variable\n  shared CLASS.VARIABLE: where code reads or assigns the class variable\n  classInst CLASS.VARIABLE: where code reads or assigns the class-instance variable"
+
+-- the commands of a script, each with its arguments and what it does
+abbrev pub help_commands : List ℕ
+help_commands = codes "commands of a SCRIPT, one a line; a SIDE is instance or class, and FROM and TO are offsets as find and search print them:\n  renameClass CLASS NEW: renames a class\n  renameInstVar CLASS VARIABLE NEW: renames an instance variable\n  renameClassVar CLASS VARIABLE NEW: renames a class variable\n  renameClassSideVar CLASS VARIABLE NEW: renames a class-instance variable\n  renameSelector SELECTOR NEW: renames a message and its methods, in all classes\n  renameTemp CLASS SIDE SELECTOR VARIABLE NEW: renames an argument, a block parameter or a temporary\n  addClass NEW SUPERCLASS [CLASS ..]: adds a class, also between a class and its subclasses\n  addInstVar CLASS NEW: adds an instance variable\n  addClassVar CLASS NEW: adds a class variable\n  addClassSideVar CLASS NEW: adds a class-instance variable\n  addMethod CLASS SIDE PROTOCOL METHOD: adds a method, which stands on the same line\n  addParameter SELECTOR NEW VARIABLE LITERAL: gives a message one more argument\n  removeClass CLASS: removes a class that nothing names\n  removeInstVar CLASS VARIABLE: removes an instance variable that nothing uses\n  removeClassVar CLASS VARIABLE: removes a class variable that nothing uses\n  removeClassSideVar CLASS VARIABLE: removes a class-instance variable that nothing uses\n  removeMethod CLASS SIDE SELECTOR: removes a method that nothing sends, or that repeats the inherited one\n  removeParameter SELECTOR NUMBER NEW: takes an argument from a message\n  pushUpInstVar CLASS VARIABLE: moves an instance variable to the superclass\n  pushUpClassVar CLASS VARIABLE: moves a class variable to the superclass\n  pushUpMethod CLASS SIDE SELECTOR: moves a method to the superclass\n  pushUpWithMethods CLASS VARIABLE: moves an instance variable and its methods to the superclass\n  pushDownInstVar CLASS VARIABLE: moves an instance variable to the subclasses\n  pushDownClassVar CLASS VARIABLE SUBCLASS: moves a class variable to one subclass\n  pushDownMethod CLASS SIDE SELECTOR: moves a method to the subclasses\n  extractMethod CLASS SIDE SELECTOR FROM TO NEW: makes a method of a part of a method\n  extractTemp CLASS SIDE SELECTOR FROM TO NEW: makes a temporary of an expression\n  extractSuperclass NEW SUPERCLASS CLASS ..: makes a superclass of several classes\n  inlineMethod CLASS SIDE SELECTOR FROM TO: puts the body of a method in place of a message\n  inlineTemp CLASS SIDE SELECTOR VARIABLE: puts what is assigned to a temporary in its place\n  abstractInstVar CLASS VARIABLE: reads and assigns an instance variable by messages alone\n  createAccessors CLASS VARIABLE: adds a getter and a setter\n  undo: takes the last command back\n  redo: does it again"
+
+-- where the guides are
+abbrev pub help_guides : List ℕ
+help_guides = codes "guides: README.md and the folder docs of the repository; docs/commands.md has the commands, docs/conditions.md what refuses them"
+
+-- the answer to `--help`
 abbrev pub help : List ℕ
-help = line (codes "usage: browse COMMAND ARGUMENTS\napply IMAGE SCRIPT: prints the file-out IMAGE as the commands of SCRIPT change it\nchanges IMAGE SCRIPT: prints what to file in after IMAGE to have it as the commands of SCRIPT change it\nrun IMAGE EXPRESSION [BUDGET]: runs the do-its of IMAGE and then EXPRESSION, for at most BUDGET ticks\nfind IMAGE KIND NAME: lists what sends or implements a selector, or means a class or a variable\nformat IMAGE: prints IMAGE with each source in canonical text\nstrip IMAGE EXPRESSION [sets]: prints IMAGE without what its do-its and EXPRESSION cannot reach, or what they reach\nsearch IMAGE PATTERN: lists the nodes that PATTERN matches\nrewrite IMAGE PATTERN REPLACEMENT: prints IMAGE with each node that PATTERN matches replaced\ndemo NUMBER: makes an image of NUMBER classes, runs it, renames in it, and runs it again\n--help: prints these lines\n--version: prints the version of the program and of the logic that proves it")
+help = line help_forms ++ line help_kinds ++ line help_commands ++ line help_guides
 
 -- the version of the program, of the kit that builds it and of the logic that proves it
 abbrev pub version : List ℕ
