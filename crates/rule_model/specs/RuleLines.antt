@@ -1,13 +1,11 @@
 -- What stands behind the word of the command: the steps of a certificate, and then a pattern and a replacement, to the end of the line.
-use Rattle.std.specs.Prelude.{◌≡◌, ◌≢◌, ℕ, ◌<◌, List, [], ◌∷◌, ◌++◌, take, drop, length, codes, Result, Ok, Err}
+use Rattle.std.specs.Prelude.{◌≡◌, ℕ, ◌<◌, ◌++◌, take, drop, length, codes, Result, Ok, Err}
 use Rattle.std.specs.List.{prefix_len}
 use Rattle.std.specs.Prelude.{not}
 use Rattle.chunk_format.specs.Blank.{is_blank, drop_blanks}
 use Rattle.pattern_model.specs.Patterns.{PatternOf}
-use Rattle.pattern_model.specs.Rewritten.{RuleOf}
 use Rattle.certified_model.specs.Marks.{Text}
-use Rattle.certified_model.specs.Certificates.{CertStep}
-use Rattle.rewrite_model.specs.Saying.{SaysPattern, Cause, IsRefusedPattern, SaysReplacement, SaysRule, IsRefusedReplacement}
+use Rattle.rewrite_model.specs.Saying.{SaysPattern, Cause, IsRefusedPattern, SaysRule, IsRefusedReplacement}
 use Rattle.certificate_model.specs.CertificateTexts.{SaysCertificate, HasBadStep}
 use Rattle.rule_model.specs.RuleCommands.{RuleCommand}
 
