@@ -14,6 +14,8 @@ pub data Form : Type 0 where
   Apply : List ℕ → List ℕ → Form
   -- `changes IMAGE SCRIPT`
   Changes : List ℕ → List ℕ → Form
+  -- `team IMAGE LOG`
+  Team : List ℕ → List ℕ → Form
   -- `format IMAGE`
   Format : List ℕ → Form
   -- `run IMAGE EXPRESSION` and `run IMAGE EXPRESSION BUDGET`, with the number of ticks
@@ -32,8 +34,6 @@ pub data Form : Type 0 where
   Help : Form
   -- `--version`
   Version : Form
-  -- words in a form that is not built yet
-  Later : Form
   -- words in no form
   NoForm : Form
 
@@ -49,19 +49,15 @@ form_of_two command word =
     if bytes_eq command (codes "format") then Format word else
     (if bytes_eq command (codes "demo") then option_map_or Demo (number_of 2000 word) NoForm else NoForm)
 
--- `team IMAGE LOG`
-abbrev pub is_later : List ℕ → Bool
-is_later command = bytes_eq command (codes "team")
-
--- `apply IMAGE SCRIPT`, `changes IMAGE SCRIPT`, `run IMAGE EXPRESSION` with 1,000,000 ticks, `strip IMAGE EXPRESSION`, `search IMAGE PATTERN`, and the forms above
+-- `apply IMAGE SCRIPT`, `changes IMAGE SCRIPT`, `team IMAGE LOG`, `run IMAGE EXPRESSION` with 1,000,000 ticks, `strip IMAGE EXPRESSION`, `search IMAGE PATTERN`, and the forms above
 abbrev pub form_of_three : List ℕ → List ℕ → List ℕ → Form
 form_of_three command image word =
     if bytes_eq command (codes "apply") then Apply image word else
     (if bytes_eq command (codes "changes") then Changes image word else
+    (if bytes_eq command (codes "team") then Team image word else
     (if bytes_eq command (codes "run") then Run image word 1000000 else
     (if bytes_eq command (codes "strip") then Strip image word false else
-    (if bytes_eq command (codes "search") then Search image word else
-    (if is_later command then Later else NoForm)))))
+    (if bytes_eq command (codes "search") then Search image word else NoForm)))))
 
 -- `run IMAGE EXPRESSION BUDGET` with a budget from 1 to 10,000,000
 abbrev pub run_of : List ℕ → List ℕ → List ℕ → Form
@@ -94,6 +90,7 @@ form_of words = NoForm
 abbrev pub files_of : Form → List (List ℕ)
 files_of (Apply image script) = image ∷ script ∷ []
 files_of (Changes image script) = image ∷ script ∷ []
+files_of (Team image log) = image ∷ log ∷ []
 files_of (Format image) = image ∷ []
 files_of (Run image expression budget) = image ∷ []
 files_of (Find image question) = image ∷ []
@@ -103,13 +100,13 @@ files_of (Rewrite image pattern replacement) = image ∷ []
 files_of (Demo number) = []
 files_of Help = []
 files_of Version = []
-files_of Later = []
 files_of NoForm = []
 
 -- the form that the program sees
 abbrev pub shows : Words → Form
 shows (words.Apply image script) = Apply image.now script.now
 shows (words.Changes image script) = Changes image.now script.now
+shows (words.Team image log) = Team image.now log.now
 shows (words.Format image) = Format image.now
 shows (words.Run image expression budget) = Run image.now expression.now budget
 shows (words.Find image question) = Find image.now (asks question)
@@ -119,5 +116,4 @@ shows (words.Rewrite image pattern replacement) = Rewrite image.now pattern.now 
 shows (words.Demo number) = Demo number
 shows words.Help = Help
 shows words.Version = Version
-shows words.Later = Later
 shows words.NoForm = NoForm

@@ -1,6 +1,6 @@
 // The words of a command line.
 ghost use Rattle.std.specs.Prelude.{◌≡◌, map, string_bytes};
-ghost use Rattle.command_words.specs.Forms.{form_of, form_of_one, form_of_two, form_of_three, form_of_four, run_of, find_of, strip_of, is_later, shows};
+ghost use Rattle.command_words.specs.Forms.{form_of, form_of_one, form_of_two, form_of_three, form_of_four, run_of, find_of, strip_of, shows};
 
 use crate::questions::{Question, question_of};
 use crate::spelling::number_of;
@@ -26,6 +26,11 @@ pub enum Words<'w> {
     Changes {
         image: &'w str,
         script: &'w str,
+    },
+    /// `team IMAGE LOG`.
+    Team {
+        image: &'w str,
+        log: &'w str,
     },
     /// `format IMAGE`.
     Format {
@@ -70,8 +75,6 @@ pub enum Words<'w> {
     Help,
     /// `--version`.
     Version,
-    /// Words in a form that is not built yet.
-    Later,
     /// Words in no form.
     NoForm,
 }
@@ -105,13 +108,6 @@ fn form_of_two<'w>(command: &str, word: &'w str) -> Words<'w>
     }
 }
 
-/// Whether the command is one of three words that is not built yet.
-fn is_later(command: &str) -> bool
-    ensures { result ≡ is_later command.now }
-{
-    command == "team"
-}
-
 /// The form that three words are in.
 fn form_of_three<'w>(command: &str, image: &'w str, word: &'w str) -> Words<'w>
     ensures { shows result ≡ form_of_three command.now image.now word.now }
@@ -126,6 +122,8 @@ fn form_of_three<'w>(command: &str, image: &'w str, word: &'w str) -> Words<'w>
             image,
             script: word,
         }
+    } else if command == "team" {
+        Words::Team { image, log: word }
     } else if command == "run" {
         Words::Run {
             image,
@@ -143,8 +141,6 @@ fn form_of_three<'w>(command: &str, image: &'w str, word: &'w str) -> Words<'w>
             image,
             pattern: word,
         }
-    } else if is_later(command) {
-        Words::Later
     } else {
         Words::NoForm
     }

@@ -10,3 +10,4 @@ pub mod Renamed
 pub mod Superclass
 pub mod Steps
 pub mod Loops
+pub mod Groups

@@ -7,6 +7,6 @@ mod refusal;
 mod renames;
 mod session;
 
-pub use refusal::StepRefusal;
+pub use refusal::{GroupRefusal, StepRefusal};
 pub use renames::Renames;
 pub use session::Session;

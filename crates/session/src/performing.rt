@@ -2,7 +2,7 @@
 ghost use Rattle.std.specs.Prelude.{◌≡◌, ◌<◌, ◌+◌, ◌≤◌, ◌++◌, [], ◌∷◌, length, map, vec_len, OnOk, OnErr};
 ghost use Rattle.std.specs.List.{AllByRecursion};
 ghost use Rattle.std.specs.Vec.{vec_capacity};
-ghost use Rattle.rb_base.specs.Names.{name_at};
+ghost use Rattle.rb_base.specs.Names.{name_at, text_eq};
 ghost use Rattle.class_table.specs.Slots.{Slots};
 ghost use Rattle.change_set.specs.Changes.{all_applied, inverses, CanApplyAll};
 ghost use Rattle.command_numbers.specs.CommandNames.{CommandNames};
@@ -10,17 +10,27 @@ ghost use Rattle.command_numbers.specs.MappedCommands.{map_command};
 ghost use Rattle.commands.specs.Views.{command_of, HasSelf};
 ghost use Rattle.reference_index.specs.Mentioned.{IsIndexOf, DiffersAtMost};
 ghost use Rattle.session.specs.Log.{with_command};
+ghost use Rattle.run_model.specs.Values.{Name};
+ghost use Rattle.rename_model.specs.ClassRenamed.{canonical};
+ghost use Rattle.class_table.specs.View.{image_of};
+ghost use Rattle.session_model.specs.Steps as model;
+ghost use Rattle.commands.specs.Actions.{map_action};
+ghost use Rattle.commands.specs.Views.{action_of};
 ghost use Rattle.session.specs.Stepping.{IsUnderWay, IsCarriedOut};
+ghost use Rattle.proposals.specs.Proposed.{IsNamed, Proposed, action_in};
+ghost use Rattle.session.specs.Grouping.{IsActedOut, IsGroupedOut};
 
 use crate::done::{Done, DoneCommand, do_one};
-use crate::refusal::StepRefusal;
+use crate::refusal::{GroupRefusal, StepRefusal};
 use crate::renames::{Renames, renames_of};
 use class_table::{Image, Place};
 use code_command_numbers::all_verdicts_by_numbers;
 use command_plans::plan;
-use commands::Command;
+use commands::{Action, Command, NewClass};
+use composites::{first_own_false, steps_of};
 use conditions::first_false;
 use plans::Plan;
+use proposals::Proposal;
 use rb_base::{Memory, Steps};
 use reference_index::Index;
 use std::alloc::Global;
@@ -141,6 +151,123 @@ pub(crate) fn perform_each<L: Ledger>(
 {
     for command in commands {
         perform_one(alloc, image, index, command, done, steps)?;
+    }
+    Ok(())
+}
+
+/// Carries out the single commands of an action in order after others.
+fn perform_steps<L: Ledger>(
+    alloc: Global,
+    image: &mut Image,
+    index: &mut Index,
+    action: Action,
+    done: &mut Done,
+    steps: &mut Steps<L>,
+) -> Result<(), StepRefusal>
+    requires under_way { (first : Slots) × IsUnderWay first image.old index.old done.old }
+    requires self_known { HasSelf image.old.names }
+    requires named { IsNamed (length image.old.names) action }
+    ensures { IsCarriedOut image.old index.old done.old (model.steps_of text_eq (image_of image.old) canonical (map_action (name_at image.old.names) (action_of action))) image.new index.new done.new result }
+{
+    let commands = steps_of(alloc, image, index, action, steps)?;
+    perform_each(alloc, image, index, commands.as_slice(), done, steps)
+}
+
+/// The same of an action that is not given away; of a composite the names are copied.
+fn perform_steps_of<L: Ledger>(
+    alloc: Global,
+    image: &mut Image,
+    index: &mut Index,
+    action: &Action,
+    done: &mut Done,
+    steps: &mut Steps<L>,
+) -> Result<(), StepRefusal>
+    requires under_way { (first : Slots) × IsUnderWay first image.old index.old done.old }
+    requires self_known { HasSelf image.old.names }
+    requires named { IsNamed (length image.old.names) action.now }
+    ensures { IsCarriedOut image.old index.old done.old (model.steps_of text_eq (image_of image.old) canonical (map_action (name_at image.old.names) (action_of action.now))) image.new index.new done.new result }
+{
+    match action {
+        Action::Single(command) => perform_one(alloc, image, index, command, done, steps),
+        Action::CreateAccessors {
+            class,
+            variable,
+            setter,
+            parameter,
+        } => {
+            let copy = Action::CreateAccessors {
+                class: *class,
+                variable: *variable,
+                setter: *setter,
+                parameter: *parameter,
+            };
+            perform_steps(alloc, image, index, copy, done, steps)
+        }
+        Action::ExtractSuperclass(new) => {
+            let copy = NewClass {
+                name: new.name,
+                superclass: new.superclass,
+                under: new.under.try_copy(alloc)?,
+            };
+            perform_steps(
+                alloc,
+                image,
+                index,
+                Action::ExtractSuperclass(copy),
+                done,
+                steps,
+            )
+        }
+        Action::PushUpWithMethods { class, variable } => {
+            let copy = Action::PushUpWithMethods {
+                class: *class,
+                variable: *variable,
+            };
+            perform_steps(alloc, image, index, copy, done, steps)
+        }
+    }
+}
+
+/// Carries an action out after others, if none of its own conditions is false and none of its single commands is refused.
+fn perform_action<L: Ledger>(
+    alloc: Global,
+    image: &mut Image,
+    index: &mut Index,
+    action: &Action,
+    done: &mut Done,
+    steps: &mut Steps<L>,
+) -> Result<(), StepRefusal>
+    requires under_way { (first : Slots) × IsUnderWay first image.old index.old done.old }
+    requires self_known { HasSelf image.old.names }
+    requires named { IsNamed (length image.old.names) action.now }
+    ensures { IsActedOut image.old index.old done.old (map_action (name_at image.old.names) (action_of action.now)) image.new index.new done.new result }
+{
+    if let Some(condition) = first_own_false(alloc, image, index, action, steps)? {
+        return Err(StepRefusal::Condition(condition));
+    }
+    perform_steps_of(alloc, image, index, action, done, steps)
+}
+
+/// Carries actions out in order after others, or those before the first one that is refused.
+pub(crate) fn perform_group<L: Ledger>(
+    alloc: Global,
+    image: &mut Image,
+    index: &mut Index,
+    actions: &[Proposal],
+    done: &mut Done,
+    steps: &mut Steps<L>,
+) -> Result<(), GroupRefusal>
+    requires under_way { (first : Slots) × IsUnderWay first image.old index.old done.old }
+    requires self_known { HasSelf image.old.names }
+    requires known { AllByRecursion (λ p. p.names ≤ length image.old.names) actions.now }
+    ensures { IsGroupedOut image.old index.old done.old (map (action_in image.old.names) actions.now) image.new index.new done.new result }
+{
+    let mut nth = 0;
+    for proposal in actions {
+        nth += 1;
+        if let Err(refusal) = perform_action(alloc, image, index, proposal.action(), done, steps) {
+            return Err(refusal.at(nth));
+        }
     }
     Ok(())
 }

@@ -1,5 +1,5 @@
 // The steps of a session.
-ghost use Rattle.std.specs.Prelude.{◌≡◌, ◌<◌, ◌++◌, ◌∷◌, [], length, map, take, None, Ok, Err, IfOk, IfErr, OnOk, OnErr, vec_len};
+ghost use Rattle.std.specs.Prelude.{◌≡◌, ◌≢◌, ◌<◌, ◌≤◌, ℕ, ◌++◌, ◌∷◌, [], length, map, take, None, Ok, Err, IfOk, IfErr, OnOk, OnErr, vec_len};
 ghost use Rattle.std.specs.List.{AllByRecursion};
 ghost use Rattle.std.specs.Vec.{vec_capacity};
 ghost use Rattle.rb_base.specs.Names.{name_at};
@@ -21,15 +21,19 @@ ghost use Rattle.commands.specs.declared.condition.Condition.{Condition};
 ghost use Rattle.session.specs.Log.{IsLogOf};
 ghost use Rattle.session.specs.History.{renames_done, images_judged, renamed_along, history_of};
 ghost use Rattle.session.specs.Stepping.{IsStepped, after_commands};
+ghost use Rattle.proposals.specs.Proposed.{Proposed, action_in};
+ghost use Rattle.session.specs.Grouping.{grouped, IsGroupStepped};
 ghost use Rattle.session.specs.declared.refusal.StepRefusal.TheVariants as refusal;
+ghost use Rattle.session.specs.declared.refusal.GroupRefusal.TheVariants as group_refusal;
 
 use crate::done::{Done, do_again, take_back};
-use crate::performing::perform_each;
-use crate::refusal::StepRefusal;
+use crate::performing::{perform_each, perform_group};
+use crate::refusal::{GroupRefusal, StepRefusal};
 use crate::renames::Renames;
 use class_table::{Image, Place};
 use commands::{Action, Command, Condition, Request};
 use composites::{first_own_false, steps_of};
+use proposals::Proposal;
 use rb_base::{Memory, Steps};
 use reference_index::{Index, build};
 use std::alloc::Global;
@@ -296,5 +300,68 @@ impl Session {
                 self.redo(image, steps)
             }
         }
+    }
+
+    /// Does actions as one entry, and drops what was undone. If one is refused, those before it are taken back.
+    fn perform_group<L: Ledger>(
+        &mut self,
+        image: &mut Image,
+        actions: &[Proposal],
+        steps: &mut Steps<L>,
+    ) -> Result<(), GroupRefusal>
+        requires some { actions.now ≢ [] }
+        requires log { IsLogOf image.old self.old }
+        requires renewed { self.old.stale ≡ [] }
+        requires self_known { HasSelf image.old.names }
+        requires known { AllByRecursion (λ p. p.names ≤ length image.old.names) actions.now }
+        ensures { IsGroupStepped image.old self.old (grouped (history_of image.old self.old) (map (action_in image.old.names) actions.now)) image.new self.new result }
+    {
+        if self.entries.reserve(1).is_err() {
+            return Err(GroupRefusal::Memory);
+        }
+        let mut entry = Done::new(self.alloc);
+        match perform_group(
+            self.alloc,
+            image,
+            &mut self.index,
+            actions,
+            &mut entry,
+            steps,
+        ) {
+            Ok(()) => {
+                note(&mut self.entries, self.done, entry);
+                self.done = self.entries.len();
+                Ok(())
+            }
+            Err(refusal) => {
+                self.stale = entry.undo(image);
+                Err(refusal)
+            }
+        }
+    }
+
+    /// Does actions as one composite and one entry of the history, each in the image after those before it; no actions change
+    /// nothing. After a refusal nothing of them is left but further slots that are not live.
+    pub fn step_all<L: Ledger>(
+        &mut self,
+        image: &mut Image,
+        actions: &[Proposal],
+        steps: &mut Steps<L>,
+    ) -> Result<(), GroupRefusal>
+        requires log { IsLogOf image.old self.old }
+        requires self_known { HasSelf image.old.names }
+        requires known { AllByRecursion (λ p. p.names ≤ length image.old.names) actions.now }
+        ensures log { IsLogOf image.new self.new }
+        ensures names { image.new.names ≡ image.old.names }
+        ensures done { OnOk result (grouped (history_of image.old self.old) (map (action_in image.old.names) actions.now) ≡ Ok (history_of image.new self.new)) }
+        ensures same { OnErr result (history_of image.new self.new ≡ history_of image.old self.old) }
+        ensures refused { IfErr result (λ e. (n : ℕ) (c : Condition) → e ≡ group_refusal.Condition n c →
+            grouped (history_of image.old self.old) (map (action_in image.old.names) actions.now) ≡ Err (n, map_condition (name_at image.old.names) (condition_of c))) }
+    {
+        if actions.is_empty() {
+            return Ok(());
+        }
+        self.renew(image, steps)?;
+        self.perform_group(image, actions, steps)
     }
 }

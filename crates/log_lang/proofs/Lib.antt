@@ -1,0 +1,4 @@
+mod Acting
+pub mod Growing
+mod Reading
+mod Telling

@@ -1,0 +1,22 @@
+use Rattle.std.proofs.Common.{List, ℕ, Err, refl, sym}
+use Rattle.script_model.specs.Commands.{Cause, BadArgument}
+use Rattle.log_model.specs.Events.{IsPropose, ActSays, Proposes, ProposesWrong}
+use Rattle.script_lang.specs.Shown.{requests_in, fault_shown}
+use Rattle.log_lang.proofs.Telling.{told-cause, told-elsewhere}
+use Rattle.log_lang.proofs.log.proposal.Goals as goal
+
+pub returns-in-Some-clause-said : goal.returns-in-Some-clause-said
+returns-in-Some-clause-said c = λ word is. Proposes (requests_in c.parse_script.new.names c.in-Ok.requests.items) is c.in-Ok.ensures.ok (sym (c.in-Some.ensures.said c.parse_script.new.names))
+
+pub returns-in-Some-clause-known : goal.returns-in-Some-clause-known
+returns-in-Some-clause-known c = c.in-Some.ensures.known c.parse_script.new.names c.in-Ok.ensures.known
+
+pub returns-in-None-clause-fault : goal.returns-in-None-clause-fault
+returns-in-None-clause-fault c = λ n cause e.
+    told-cause c.args.line n BadArgument cause (λ x. (word : List ℕ) → IsPropose word → ActSays word c.args.text.now (Err x))
+    (λ word is. Proposes (requests_in c.parse_script.new.names c.in-Ok.requests.items) is c.in-Ok.ensures.ok (sym (c.in-None.ensures.said c.parse_script.new.names))) e
+
+pub returns-in-Err-clause-fault : goal.returns-in-Err-clause-fault
+returns-in-Err-clause-fault c = λ n cause e.
+    let told = told-elsewhere c.args.line n cause (fault_shown c.in-Err.fault) (fault_shown c.at_line.result) c.at_line.ensures e in
+    (told.0, λ word is. ProposesWrong told.1 cause is (c.in-Err.ensures.fault told.1 cause told.2) refl)

@@ -1,0 +1,3 @@
+mod EventAnswers
+mod OneLog
+mod SomeLog

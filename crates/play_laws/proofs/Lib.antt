@@ -1,0 +1,4 @@
+mod Scripted
+mod Spelled
+mod Kept
+mod SomeAnswer

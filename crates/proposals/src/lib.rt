@@ -1,0 +1,6 @@
+//! Actions that are proposed, with how many names they are over.
+#![tactic(auto)]
+
+mod proposal;
+
+pub use proposal::Proposal;
