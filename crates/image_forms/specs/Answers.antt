@@ -69,7 +69,7 @@ help_guides = codes "guides: README.md and the folder docs of the repository; do
 
 -- the answer to `--help`
 abbrev pub help : List ℕ
-help = line help_forms ++ line help_kinds ++ line help_commands ++ line help_guides
+help = ((line help_forms ++ line help_kinds) ++ line help_commands) ++ line help_guides
 
 -- the version of the program, of the kit that builds it and of the logic that proves it
 abbrev pub version : List ℕ
