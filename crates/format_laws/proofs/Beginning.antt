@@ -1,17 +1,11 @@
 -- The canonical text of a do-it that is not empty begins with no blank.
-use Rattle.std.proofs.Common.{◌≡◌, ◌≢◌, List, [], ◌∷◌, ◌++◌, refl, ap, arith}
-use Rattle.chunk_format.specs.Blank.{is_blank}
+use Rattle.std.proofs.Common.{◌≡◌, ◌≢◌, List, [], ◌∷◌, ◌++◌, refl, ap}
 use Rattle.tree_model.specs.Tree.{Notes, StatementsOf, no_statements, more_statements, SequenceOf}
 use Rattle.text_model.specs.Whole.{canonical_doit}
-use Rattle.reread_law.specs.WellFormed.{IsNote}
 use Rattle.reread_law.specs.WholeTrees.{WellFormedDoIt}
 use Rattle.file_model.specs.Filing.{Text}
-use Rattle.effect_laws.proofs.Blanks.{BeginsWell, doit_begins}
+use Rattle.effect_laws.proofs.Blanks.{BeginsWell, note_begins, doit_begins}
 use Rattle.format_laws.specs.Empty.{empty_code}
-
-note_begins : (c : Text) → IsNote c → BeginsWell c
-note_begins [] h = let none : 0 ≡ 34 = h.opens in absurd (omega (arith, none))
-note_begins (b ∷ w) h = let first : b ≡ 34 = h.opens in record { first = b; rest = w; is = refl; plain = ap is_blank first }
 
 longer : (t u : Text) → BeginsWell t → BeginsWell (t ++ u)
 longer t u b = record { first = b.first; rest = b.rest ++ u; is = ap (λ x. x ++ u) b.is; plain = b.plain }

@@ -1,17 +1,13 @@
 -- Images that are matched the other way.
-use Rattle.std.proofs.Common.{◌≡◌, ℕ, List, sym, ap, ◌∙◌, subst}
-use Rattle.std.proofs.lemmas.List.{map-append}
+use Rattle.std.proofs.Common.{◌≡◌, ℕ, sym, ap, ◌∙◌, subst}
 use Rattle.image_model.specs.Image.{ImageOf}
-use Rattle.run_model.specs.Values.{Name, Event}
+use Rattle.run_model.specs.Values.{Name}
 use Rattle.run_model.specs.Prefixes.{IsPrefixOf}
 use Rattle.run_model.specs.Runs.{RunOf, run}
-use Rattle.run_model.specs.Renamings.{Renaming, renamed_event, renamed_events, renamed_outcome}
+use Rattle.run_model.specs.Renamings.{Renaming, renamed_events, renamed_outcome}
 use Rattle.run_model.specs.Matched.{IsMatchedBy, IsMatchedBefore, AreMatched}
+use Rattle.run_model.proofs.MatchedLemmas.{prefix-renamed}
 use Rattle.mapped_model.specs.RenamedRuns.{RunsAsRenamed}
-
--- renamed events of a prefix
-prefix-renamed : (r : Renaming) (xs ys : List Event) → IsPrefixOf xs ys → IsPrefixOf (renamed_events r xs) (renamed_events r ys)
-prefix-renamed r xs ys p = (renamed_events r p.0, sym (map-append (renamed_event r) xs p.0) ∙ ap (renamed_events r) p.1)
 
 -- each run of an image has its names back after both renamings
 pub record HasNamesBack (i : ImageOf Name) (r q : Renaming) : Type 0 where

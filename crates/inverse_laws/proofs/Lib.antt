@@ -1,7 +1,3 @@
 mod Kept
 mod Backward
-mod ClassUnused
-mod ClassesInUse
-mod SelectorUnused
-mod SelectorsInUse
 mod OneBack

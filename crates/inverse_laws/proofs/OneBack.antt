@@ -1,8 +1,6 @@
 -- One thing is called by a new name, and back.
 use Rattle.std.proofs.Common.{◌≡◌, List, [], ◌∷◌, Some, None, refl, sym, ap, ◌∙◌}
 use Rattle.std.specs.Prelude.{Bool, true, false, ◌||◌, find, cond, option_map, unwrap_or, if◌then◌else◌, ◌&&◌, IsTrue, map}
-use Rattle.std.proofs.Math.Bool.{beq}
-use Rattle.std.specs.Cmp.{booleans_Decides}
 use Rattle.std.specs.List.{list_any}
 use Rattle.std.proofs.lemmas.Bool.{false≢true}
 use Rattle.rb_base.specs.Names.{text_eq}
@@ -10,9 +8,9 @@ use Rattle.rb_base.proofs.NamesLemmas.{text_eq-refl}
 use Rattle.image_model.specs.Image.{ClassOf, ImageOf}
 use Rattle.run_model.specs.Values.{Name}
 use Rattle.run_model.specs.Store.{same_pair}
-use Rattle.run_model.specs.Renamings.{OfClass, MethodName, same_method, same_temporary, mapped}
-use Rattle.run_model.proofs.Finite.{by_cases, and-true_both, and-true_left, and-true_right}
-use Rattle.run_model.proofs.RenamingLemmas.{text-same, pair-same, pair-refl}
+use Rattle.run_model.specs.Renamings.{OfClass, MethodName, same_temporary, mapped}
+use Rattle.run_model.proofs.Finite.{by_cases}
+use Rattle.run_model.proofs.RenamingLemmas.{text-same, pair-same, pair-refl, temporary-same, temporary-refl}
 use Rattle.mapped_model.specs.NamesInUse.{IsAmong}
 use Rattle.mapped_model.specs.RenamedVariables.{stands_above, renamed_below}
 
@@ -38,25 +36,6 @@ text-back old new n other = given-back text_eq text-same text_eq-refl old new n 
 
 pub pair-back : (old new n : OfClass) → (n ≡ new → ⊥) → called same_pair new old (called same_pair old new n n) (called same_pair old new n n) ≡ n
 pair-back old new n other = given-back same_pair pair-same pair-refl old new n other
-
--- temporaries
-method-same : (j k : MethodName) → same_method j k ≡ true → j ≡ k
-method-same j k e =
-    let rest = and-true_right (text_eq j.0 k.0) _ e in
-    ap (λ x. (x, j.1, j.2)) (text-same j.0 k.0 (and-true_left _ _ e))
-    ∙ ap (λ x. (k.0, x, j.2)) ((booleans_Decides j.1 k.1).0 (and-true_left _ _ rest))
-    ∙ ap (λ x. (k.0, k.1, x)) (text-same j.2 k.2 (and-true_right _ _ rest))
-
-temporary-same : (j k : MethodName × Name) → same_temporary j k ≡ true → j ≡ k
-temporary-same j k e = ap (λ x. (x, j.1)) (method-same j.0 k.0 (and-true_left _ _ e)) ∙ ap (λ y. (k.0, y)) (text-same j.1 k.1 (and-true_right _ _ e))
-
-side-refl : (b : Bool) → beq b b ≡ true
-side-refl true = refl
-side-refl false = refl
-
-temporary-refl : (t : MethodName × Name) → same_temporary t t ≡ true
-temporary-refl t =
-    and-true_both _ _ (and-true_both _ _ (text_eq-refl t.0.0) (and-true_both _ _ (side-refl t.0.1) (text_eq-refl t.0.2))) (text_eq-refl t.1)
 
 -- the name of a temporary of a method
 pub temporary-back : (m : MethodName) (x y : Name) (t : MethodName × Name) → (t ≡ (m, y) → ⊥) →

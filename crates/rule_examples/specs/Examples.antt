@@ -1,7 +1,7 @@
 -- A method that tests, the rules of which some certificates speak, and what they make of it; the texts stand beside them.
-use Rattle.std.specs.Prelude.{ℕ, List, [], ◌∷◌, true, false, Some, None, codes}
+use Rattle.std.specs.Prelude.{ℕ, [], ◌∷◌, true, false, codes}
 use Rattle.tree_model.specs.Tree.{TreeOf, var, send, block, return, no_trees, more_trees, StatementsOf}
-use Rattle.image_model.specs.Image.{EntryOf, ImageOf}
+use Rattle.image_model.specs.Image.{ImageOf}
 use Rattle.pattern_model.specs.Spelled.{pattern_of}
 use Rattle.pattern_model.specs.Rewritten.{RuleOf}
 use Rattle.certified_model.specs.Marks.{Text}

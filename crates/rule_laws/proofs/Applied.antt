@@ -1,9 +1,8 @@
 -- The image after a rule with a certificate comes from the image before by laws of rewriting.
-use Rattle.std.proofs.Common.{◌≡◌, List, [], ◌∷◌, ◌++◌, map, refl, sym, ap, subst, ◌∙◌}
+use Rattle.std.proofs.Common.{◌≡◌, List, [], ◌∷◌, ◌++◌, map, refl, subst}
 use Rattle.std.specs.Prelude.{Bool, true, false, ◌&&◌, if◌then◌else◌}
 use Rattle.std.specs.List.{AllZip, concat}
 use Rattle.std.proofs.lemmas.Bool.{and_parts}
-use Rattle.std.specs.Option.{option_eq}
 use Rattle.std.specs.Cmp.Lexicographic.{pointwise}
 use Rattle.rb_base.specs.Names.{text_eq}
 use Rattle.tree_model.specs.Tree.{StatementsOf, SequenceOf, MethodOf}
@@ -20,14 +19,13 @@ use Rattle.pattern_model.specs.Rewritten.{RuleOf, each_statement, rewritten, rew
 use Rattle.certified_laws.specs.RewrittenTrees.{LinesRewritten, method_with, doit_with, MethodRewritten, DoItRewritten, ImageRewritten, RewrittenAlong}
 use Rattle.certified_model.specs.Marks.{Text}
 use Rattle.certified_model.specs.Certificates.{CertStep, derives}
-use Rattle.certified_model.proofs.FilledSteps.{same-lines}
 use Rattle.certified_rules.specs.RulesApplied.{by_rule}
 use Rattle.certified_rules.proofs.ChangedImages.{images-changed, changed, is-changed}
 use Rattle.certified_rules.proofs.SameRule.{to-bare-lines, from-bare-lines}
 use Rattle.certified_rules.proofs.CertifiedRule.{derived-along}
 use Rattle.certified_rules.proofs.DerivedSteps.{derived-steps}
 use Rattle.rewrite_model.specs.Notes.{same_notes, equal_sequence, equal_method}
-use Rattle.rewrite_model.specs.Rewritten.{retold_entry, retold_doit, rewritten_entry, rewritten_doit, rewritten_image}
+use Rattle.rewrite_model.specs.Rewritten.{retold_entry, rewritten_entry, rewritten_doit, rewritten_image}
 
 -- rows one after the other
 along_then : (i : ImageOf Text) (ks : List (ImageOf Text)) (j : ImageOf Text) (ls : List (ImageOf Text)) (k : ImageOf Text) → RewrittenAlong i ks j → RewrittenAlong j ls k → RewrittenAlong i (ks ++ j ∷ ls) k

@@ -6,11 +6,11 @@ use Rattle.std.specs.Option.{option_map_or}
 use Rattle.rb_base.specs.Names.{text_eq}
 use Rattle.token_model.specs.declared.kind.Dialect.TheVariants.{Second}
 use Rattle.st_kernel.specs.Selectors.{is_reserved_selector}
-use Rattle.tree_model.specs.Tree.{TreeOf, var, literal, send, cascade, assign, block, brace, return, TreesOf, StatementsOf, no_statements, more_statements, SequenceOf}
+use Rattle.tree_model.specs.Tree.{TreeOf, var, send, return, TreesOf, StatementsOf}
 use Rattle.image_model.specs.Image.{DoItOf, ImageOf}
 use Rattle.file_model.specs.Filing.{Text}
 use Rattle.file_model.specs.Forms.{Form, Evaluates, Settles, no_form, definition_strings, the_argument, subclass_form, placed_strings, placed_subclass_form, placed_run_form, class_side_form, comment_form, run_form, removal_form, class_removal_form, definition_selector, placed_definition_selector, arguments_of, Receiver, name_in, receiver_of, Sent, sent_by, sent_in_statements, sent_of, is_to_system, replaces_doit, sent_form, form_of, is_doit}
-use Rattle.certified_laws.specs.RewrittenTrees.{one_tree, two_trees, just_block, expression_block, Rewritten, same_var, same_literal, in_send, in_cascade, in_assign, in_block, in_brace, in_return, forth_1, back_1, forth_2, back_2, forth_3, back_3, forth_4, back_4, forth_5, back_5, forth_6, back_6, forth_7, back_7, forth_8, back_8, forth_10, back_10, LinesRewritten, no_line_rewritten, line_rewritten, forth_9, back_9, doit_with, DoItRewritten, ImageRewritten, RewrittenAlong}
+use Rattle.certified_laws.specs.RewrittenTrees.{one_tree, two_trees, just_block, expression_block, Rewritten, same_var, in_send, forth_1, back_1, forth_2, back_2, forth_3, back_3, forth_4, back_4, forth_5, back_5, forth_6, back_6, forth_7, back_7, forth_8, back_8, back_10, LinesRewritten, no_line_rewritten, line_rewritten, forth_9, back_9, doit_with, DoItRewritten, RewrittenAlong}
 use Rattle.effect_laws.proofs.Tests.{told_apart}
 use Rattle.effect_laws.proofs.FormsKept.{not_reserved}
 

@@ -1,12 +1,11 @@
 -- A rule with a certificate leaves the start expression `nil`, and holds of an image with it where it holds of the image.
 use Rattle.std.proofs.Common.{◌≡◌, ℕ, Bool, true, false, not, List, [], ◌∷◌, ◌++◌, Option, Some, None, refl, sym, ap, subst, ◌∙◌}
-use Rattle.std.specs.Prelude.{◌||◌, ◌&&◌, ◌-◌, if◌then◌else◌, nat_eq, nat_le, is_none, option_map, option_and_then, codes, find}
+use Rattle.std.specs.Prelude.{◌||◌, ◌&&◌, if◌then◌else◌, nat_le, is_none, option_map, option_and_then, codes, find}
 use Rattle.std.specs.List.{list_all, list_any, concat, AllByRecursion}
 use Rattle.std.specs.Option.{option_map_or}
-use Rattle.std.proofs.lemmas.Bool.{and_parts, and_from, or_parts, not-true, false≢true}
-use Rattle.std.proofs.lemmas.List.Folds.{list_any-append}
+use Rattle.std.proofs.lemmas.Bool.{false≢true}
 use Rattle.rb_base.specs.Names.{text_eq}
-use Rattle.tree_model.specs.Tree.{TreeOf, var, StatementsOf, no_statements, more_statements, SequenceOf}
+use Rattle.tree_model.specs.Tree.{TreeOf, var, no_statements, more_statements, SequenceOf}
 use Rattle.tree_model.specs.Path.{part_at, replaced}
 use Rattle.tree_model.specs.Measure.{sequence_height}
 use Rattle.text_model.specs.Whole.{canonical_doit}
@@ -14,20 +13,20 @@ use Rattle.image_model.specs.Image.{EntryOf, DoItOf, ImageOf, plus}
 use Rattle.pattern_model.specs.Patterns.{PatternOf, meta, var_like, literal_like, send_like, cascade_like, assign_like, block_like, brace_like, return_like}
 use Rattle.pattern_model.specs.Words.{text_pattern_words}
 use Rattle.pattern_model.specs.MatchTree.{FoundOf, match_places}
-use Rattle.pattern_model.specs.Rewritten.{RuleOf, each_statement, rewritten_by, rewritten_within, rewritten, rewritten_sequence}
+use Rattle.pattern_model.specs.Rewritten.{rewritten_by, rewritten_within, rewritten, rewritten_sequence}
 use Rattle.certified_model.specs.Marks.{Text, Mark, marked_tree}
 use Rattle.certified_model.specs.Certificates.{laws, CertStep, turned, numbered_law, goes_back, sides_of, take_step, stuck_from, derives}
+use Rattle.certified_rules.proofs.TableTurns.{numbered}
 use Rattle.rename_model.specs.CommandWords.{text_command_words}
 use Rattle.rename_model.specs.Conditions.{reflects, method_reflects, has_no_reflection}
 use Rattle.command_model.specs.ParameterConditions.{is_shallow}
 use Rattle.session_model.specs.Admitted.{nil_doit}
 use Rattle.rewrite_model.specs.Notes.{equal_sequence}
-use Rattle.rewrite_model.specs.Rewritten.{rewritten_doit}
-use Rattle.rule_model.specs.RuleCommands.{RuleCommand, Reason, Unmet, Derived, rule_effect, rule_judged, first_false_of_rule}
+use Rattle.rule_model.specs.RuleCommands.{RuleCommand, Reason, Unmet, Derived, rule_effect, first_false_of_rule}
 use Rattle.command_model.specs.Conditions.{NoReflection, Shallow}
 use Rattle.rule_model.specs.Beside.{doit_after}
 use Rattle.rule_model.proofs.DoItBeside.{goes_along}
-use Rattle.rule_laws.proofs.RuleHolds.{RuleHolds, rule_holds}
+use Rattle.rule_laws.proofs.RuleHolds.{rule_holds}
 
 -- no side of a law is a variable
 abbrev NeverVariable : PatternOf Text × PatternOf Text → Type 0
@@ -38,15 +37,6 @@ none_forth = ((λ m. refl), ((λ m. refl), ((λ m. refl), ((λ m. refl), ((λ m.
 
 none_back : AllByRecursion (λ l. NeverVariable (l.1, l.0)) laws
 none_back = ((λ m. refl), ((λ m. refl), ((λ m. refl), ((λ m. refl), ((λ m. refl), ((λ m. refl), ((λ m. refl), ((λ m. refl), ((λ m. refl), ((λ m. refl), tt))))))))))
-
--- what holds of each law holds of the law of a number
-numbered : (P : PatternOf Text × PatternOf Text → Type 0) (n : ℕ) (ls : List (PatternOf Text × PatternOf Text)) (l : PatternOf Text × PatternOf Text) → AllByRecursion P ls → numbered_law n ls ≡ Some l → P l
-numbered P n [] l all e = let bad : ⊥ = cc in absurd bad
-numbered P n (x ∷ xs) l all e = by (nat_eq n 1) e (λ f. numbered P (n - 1) xs l all.1 f)
-  where
-    by : (b : Bool) → (if b then Some x else numbered_law (n - 1) xs) ≡ Some l → (numbered_law (n - 1) xs ≡ Some l → P l) → P l
-    by true f on = let same : x ≡ l = cc in subst P same all.0
-    by false f on = on f
 
 sides_never : (x : CertStep) (l : PatternOf Text × PatternOf Text) → sides_of x ≡ Some l → NeverVariable l
 sides_never x l e = by x.forward (goes_back x.law) e

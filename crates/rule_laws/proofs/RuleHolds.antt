@@ -1,5 +1,5 @@
 -- Where no condition of the command is false, each holds.
-use Rattle.std.proofs.Common.{◌≡◌, Bool, true, false, not, List, [], ◌∷◌, find, Option, Some, None, refl}
+use Rattle.std.proofs.Common.{◌≡◌, Bool, true, false, not, [], ◌∷◌, find, Option, Some, None, refl}
 use Rattle.std.specs.Option.{option_map_or}
 use Rattle.image_model.specs.Image.{ImageOf}
 use Rattle.certified_model.specs.Marks.{Text}

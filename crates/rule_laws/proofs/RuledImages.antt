@@ -1,7 +1,7 @@
 -- A rule with a certificate keeps images valid, fileable, and behind the kernel, where no tree is too high afterwards.
-use Rattle.std.proofs.Common.{◌≡◌, ◌⊎◌, inl, inr, ℕ, ◌≤◌, Bool, true, false, List, [], ◌∷◌, map, length, refl, sym, ap, subst, ◌∙◌, true≢false, arith}
-use Rattle.std.specs.Prelude.{◌||◌, ◌&&◌, if◌then◌else◌, nat_le}
-use Rattle.std.specs.List.{list_all, concat, AllByRecursion}
+use Rattle.std.proofs.Common.{◌≡◌, ◌⊎◌, inl, inr, ℕ, ◌≤◌, Bool, true, false, List, [], ◌∷◌, map, length, refl, sym, ap, subst, ◌∙◌, arith}
+use Rattle.std.specs.Prelude.{◌||◌, if◌then◌else◌, nat_le}
+use Rattle.std.specs.List.{list_all, concat}
 use Rattle.std.proofs.lemmas.Bool.{and_parts, and_from, leb-true}
 use Rattle.std.specs.Cmp.Lexicographic.{pointwise}
 use Rattle.rb_base.proofs.NamesLemmas.{text_eq-refl}
@@ -39,7 +39,7 @@ use Rattle.effect_laws.proofs.Filed.{IsFiled, filed_of, fileable, method_stands,
 use Rattle.effect_laws.proofs.KernelInFront.{AreFronts, fronts_of, first_of, front_map}
 use Rattle.rule_kept.specs.PatternComments.{HasComments}
 use Rattle.rule_kept.proofs.RuledTrees.{method_kept, doit_kept}
-use Rattle.rule_laws.proofs.Applied.{LeadsAfter, leads_after}
+use Rattle.rule_laws.proofs.Applied.{leads_after}
 use Rattle.rule_laws.proofs.FormsKept.{forms_along}
 
 -- a method of the user, and a do-it, in an image of low trees

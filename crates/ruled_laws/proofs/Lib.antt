@@ -1,4 +1,3 @@
-mod StepsSpelled
 mod RuledKept
 mod RuledBeside
 mod SameVerdicts

@@ -1,28 +1,19 @@
 -- One script with rules in an image, and in the image with one more do-it.
 use Rattle.std.proofs.Common.{◌≡◌, List, map, Ok, refl, sym, ap, ◌∙◌, subst}
 use Rattle.std.specs.List.{AllByRecursion}
-use Rattle.rb_base.specs.Names.{text_eq}
-use Rattle.token_model.specs.declared.kind.Dialect.TheVariants.{Second}
-use Rattle.grammar_model.specs.Spelling.{SpellsDoIt}
-use Rattle.grammar_model.proofs.Limits.{limit_DoIt}
 use Rattle.image_model.specs.Image.{DoItOf, ImageOf, plus}
-use Rattle.image_model.specs.Words.{text_words}
-use Rattle.image_model.proofs.GrownLemmas.{IsValid-plus}
 use Rattle.run_model.specs.Values.{Name}
 use Rattle.run_model.specs.Matched.{AreMatched}
-use Rattle.file_model.specs.Fileable.{reading_of}
 use Rattle.rename_model.specs.ClassRenamed.{canonical}
 use Rattle.command_model.specs.Asked.{text_asked}
-use Rattle.command_model.specs.Commands.{CommandOf, RenameClass}
 use Rattle.command_model.specs.Beside.{HasOneMore}
 use Rattle.command_model.specs.Effects.{effect}
-use Rattle.command_model.specs.Renamings.{renaming_of}
 use Rattle.command_model.proofs.EffectsBeside.{effect-beside}
 use Rattle.history_model.specs.Rules.{Asks}
 use Rattle.history_model.proofs.Beside.{AreBeside, verdicts-beside}
-use Rattle.session_model.specs.Actions.{ActionOf, Single, CreateAccessors, ExtractSuperclass, PushUpWithMethods}
-use Rattle.session_model.specs.Steps.{steps_of}
 use Rattle.kept_runs.specs.KeepsRuns.{IsSound, AllKeepRuns}
+use Rattle.history_laws.proofs.JudgedBeside.{renaming-plus, steps-plus}
+use Rattle.history_laws.proofs.ScriptsKeep.{plus-sound}
 use Rattle.rule_model.specs.RuleCommands.{RuleCommand, rule_effect}
 use Rattle.rule_model.specs.Beside.{doit_after}
 use Rattle.rule_model.proofs.DoItBeside.{goes_along}
@@ -32,22 +23,12 @@ use Rattle.ruled_laws.specs.SpelledRequests.{IsSpelledAsked}
 use Rattle.ruled_laws.proofs.RuledKept.{made, made_by_rule, ruled_kept}
 
 -- what a change renames, and the steps of an action
-renaming_plus : (i : ImageOf Name) (e : DoItOf Name) (c : CommandOf Name) → renaming_of (plus i e) c ≡ renaming_of i c
-renaming_plus i e (RenameClass c d) = refl
-renaming_plus i e c = refl
-
 pub change_plus : (i : ImageOf Name) (e : DoItOf Name) (c : Change) → change_renaming (plus i e) c ≡ change_renaming i c
-change_plus i e (Plainly c) = renaming_plus i e c
+change_plus i e (Plainly c) = renaming-plus i e c
 change_plus i e (ByRule c) = refl
 
-steps_plus : (i : ImageOf Name) (e : DoItOf Name) (x : ActionOf Name) → steps_of text_eq (plus i e) canonical x ≡ steps_of text_eq i canonical x
-steps_plus i e (Single c) = refl
-steps_plus i e (CreateAccessors c x s p) = refl
-steps_plus i e (ExtractSuperclass d p under) = refl
-steps_plus i e (PushUpWithMethods c x) = refl
-
 pub changes_plus : (i : ImageOf Name) (e : DoItOf Name) (x : Asked) → changes_of (plus i e) x ≡ changes_of i x
-changes_plus i e (Acts x) = ap (map (λ c. Plainly c)) (steps_plus i e x)
+changes_plus i e (Acts x) = ap (map (λ c. Plainly c)) (steps-plus i e x)
 changes_plus i e (Applies c) = refl
 
 -- one change on both sides
@@ -76,13 +57,9 @@ beside i script h e o a =
     i (plus i e) script h a.history (record { last = e; added = refl }) o a.accepted in
     (both.images, both.renamings)
 
--- an image with one more do-it is valid
-plus_sound : (kernel i : ImageOf Name) (e : DoItOf Name) → IsSound kernel i → SpellsDoIt Second e.source e.body → IsSound kernel (plus i e)
-plus_sound kernel i e sound spells = IsValid-plus text_words (reading_of Second kernel) i sound e (record { spells = spells; height = limit_DoIt Second e.source e.body spells })
-
 pub ruled_admitted : (kernel i : ImageOf Name) → AllKeepRuns kernel → ((c : RuleCommand) → IsSpelledRule c → RuleKeepsRuns kernel c) → (script : List Line) (h : History) (e : DoItOf Name) → IsSound kernel i → AllByRecursion (Asks IsSpelledAsked) script →
     ruled_verdict i script ≡ Ok h → (a : AdmitsRuled i script e) → HasOneMore h.now.image a.history.now.image × (a.history.now.renaming ≡ h.now.renaming) × AreMatched (plus i e) a.history.now.image h.now.renaming
 ruled_admitted kernel i keeps rule_keeps script h e sound spelled o a =
     let one = beside i script h e o a in
-    let kept = ruled_kept kernel (plus i e) keeps rule_keeps script a.history (plus_sound kernel i e sound a.spells) spelled a.accepted in
+    let kept = ruled_kept kernel (plus i e) keeps rule_keeps script a.history (plus-sound kernel i e sound a.spells) spelled a.accepted in
     (one.0, one.1, subst (AreMatched (plus i e) a.history.now.image) one.1 kept.matched)

@@ -23,7 +23,6 @@ use Rattle.command_model.specs.Renamings.{renaming_of}
 use Rattle.history_model.specs.Rules.{Asks}
 use Rattle.history_model.specs.History.{by_result, version_after}
 use Rattle.history_model.proofs.Keeping.{verdict-good}
-use Rattle.session_model.specs.Actions.{ActionOf}
 use Rattle.session_model.specs.OwnConditions.{first_own_false}
 use Rattle.session_model.specs.Steps.{steps_of}
 use Rattle.kept_runs.specs.WellSpelled.{IsWellSpelled}
@@ -32,7 +31,7 @@ use Rattle.rule_model.specs.RuleCommands.{RuleCommand, Reason, Unmet, rule_effec
 use Rattle.rule_laws.specs.KeptRules.{IsSpelledRule, RuleKeepsRuns}
 use Rattle.ruled_model.specs.RuledScripts.{Change, Plainly, ByRule, Asked, Acts, Applies, Line, Version, History, ruled, ruled_verdict, own_false, changes_of}
 use Rattle.ruled_laws.specs.SpelledRequests.{IsSpelledChange, IsSpelledAsked}
-use Rattle.ruled_laws.proofs.StepsSpelled.{steps_spelled}
+use Rattle.history_laws.proofs.ScriptsKeep.{steps-spelled}
 
 -- a command that is accepted has no condition that is false, and makes its effect
 made_by : (o : Option (ConditionOf Name)) (j m : ImageOf Name) →
@@ -60,7 +59,7 @@ none_of None r p e = refl
 none_of (Some q) r p e = let bad : ⊥ = cc in absurd bad
 
 changes_spelled : (kernel i : ImageOf Name) (x : Asked) → IsSound kernel i → IsSpelledAsked x → own_false i x ≡ None → AllByRecursion IsSpelledChange (changes_of i x)
-changes_spelled kernel i (Acts x) v s e = plainly_spelled (steps_of text_eq i canonical x) (steps_spelled kernel i x v s (none_of (first_own_false text_asked i x) (own_false i (Acts x)) refl e))
+changes_spelled kernel i (Acts x) v s e = plainly_spelled (steps_of text_eq i canonical x) (steps-spelled kernel i x v s (none_of (first_own_false text_asked i x) (own_false i (Acts x)) refl e))
 changes_spelled kernel i (Applies c) v s e = (s, tt)
 
 module _ (kernel i : ImageOf Name) (keeps : AllKeepRuns kernel) (rule_keeps : (c : RuleCommand) → IsSpelledRule c → RuleKeepsRuns kernel c) where

@@ -1,20 +1,17 @@
 -- A script with rules that is accepted admits the start expression `nil`.
-use Rattle.std.proofs.Common.{◌≡◌, List, map, Option, Some, None, Result, Ok, Err, option_map, refl, ap, ◌∙◌}
+use Rattle.std.proofs.Common.{◌≡◌, List, Option, None, Result, Ok, Err, option_map, refl, ap, ◌∙◌}
 use Rattle.std.specs.Option.{option_map_or}
 use Rattle.image_model.specs.Image.{ImageOf, plus}
 use Rattle.run_model.specs.Values.{Name}
 use Rattle.rename_model.specs.ClassRenamed.{canonical}
 use Rattle.command_model.specs.Asked.{text_asked}
-use Rattle.command_model.specs.Commands.{CommandOf}
 use Rattle.command_model.specs.Conditions.{ConditionOf}
 use Rattle.command_model.specs.Judged.{judged}
 use Rattle.history_model.specs.History.{by_result}
 use Rattle.history_model.proofs.Mapped.{all_made, verdict-made}
-use Rattle.session_model.specs.Actions.{ActionOf}
 use Rattle.session_model.specs.Admitted.{nil_doit}
-use Rattle.session_model.specs.OwnConditions.{first_own_false}
 use Rattle.history_laws.proofs.NilAdmitted.{judged-nil, own-nil, spells-nil}
-use Rattle.rule_model.specs.RuleCommands.{RuleCommand, Reason, Unmet, rule_effect, first_false_of_rule}
+use Rattle.rule_model.specs.RuleCommands.{Reason, Unmet, rule_effect}
 use Rattle.rule_laws.proofs.RuleHolds.{rule_holds}
 use Rattle.rule_laws.proofs.NilLeft.{effect_nil, nil_holds}
 use Rattle.ruled_model.specs.RuledScripts.{Change, Plainly, ByRule, Asked, Acts, Applies, Line, History, ruled, ruled_verdict, own_false, AdmitsRuled}

@@ -8,15 +8,15 @@ use Rattle.rename_model.specs.ClassRenamed.{canonical}
 use Rattle.command_model.specs.Asked.{text_asked}
 use Rattle.command_model.specs.Commands.{CommandOf}
 use Rattle.command_model.specs.Conditions.{ConditionOf}
-use Rattle.history_model.specs.Rules.{RequestOf, Perform, Undo, Redo}
-use Rattle.history_model.specs.History.{VersionOf, HistoryOf, by_result, version_after, after_all, after_action, appended, undone, redone, stepped, opened}
+use Rattle.history_model.specs.Rules.{Perform, Undo, Redo}
+use Rattle.history_model.specs.History.{by_result, version_after, after_all, after_action, appended, undone, redone, stepped, opened}
 use Rattle.history_model.specs.Verdicts.{RefusalOf, judged_from}
 use Rattle.session_model.specs.Actions.{ActionOf}
 use Rattle.session_model.specs.OwnConditions.{first_own_false}
 use Rattle.session_model.specs.Steps.{steps_of}
 use Rattle.session_model.specs.Scripts.{Request, Version, History, rules, verdict_in}
 use Rattle.rule_model.specs.RuleCommands.{Reason, Unmet}
-use Rattle.ruled_model.specs.RuledScripts.{Change, Plainly, Acts, ruled, ruled_verdict}
+use Rattle.ruled_model.specs.RuledScripts.{Plainly, Acts, ruled, ruled_verdict}
 use Rattle.ruled_laws.specs.SpelledRequests.{as_line, as_refusal}
 
 -- a result with its condition as a reason

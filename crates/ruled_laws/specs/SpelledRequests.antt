@@ -1,8 +1,7 @@
 -- What each line of a script gives of what it asks for.
-use Rattle.std.specs.Prelude.{List, map}
 use Rattle.command_model.specs.Conditions.{ConditionOf}
 use Rattle.run_model.specs.Values.{Name}
-use Rattle.history_model.specs.Rules.{RequestOf, Perform, Undo, Redo}
+use Rattle.history_model.specs.Rules.{Perform, Undo, Redo}
 use Rattle.history_model.specs.Verdicts.{RefusalOf}
 use Rattle.session_model.specs.Scripts.{Request}
 use Rattle.kept_runs.specs.WellSpelled.{IsWellSpelled, IsWellSpelledAction}
