@@ -1,10 +1,10 @@
 -- Code that means a variable mentions its name, and where none of it is high, all of it is low.
 use Rattle.std.proofs.Common.{◌≡◌, ℕ, ◌&&◌, ◌||◌, Bool, true, false, not, List, [], Option, None, Some, refl, sym, ap, ◌∙◌, true≢false}
 use Rattle.std.specs.Prelude.{nat_eq, Contains, if◌then◌else◌}
-use Rattle.std.specs.List.{list_any, list_all}
+use Rattle.std.specs.List.{list_any}
 use Rattle.std.specs.Option.{option_map_or}
 use Rattle.std.proofs.lemmas.Bool.{and_parts}
-use Rattle.tree_model.specs.Tree.{TreeOf, var, literal, send, cascade, assign, block, brace, return, SequenceOf, MethodOf}
+use Rattle.tree_model.specs.Tree.{TreeOf, var, literal, send, cascade, assign, block, brace, return, SequenceOf}
 use Rattle.tree_model.specs.Nodes.{Placed, nodes}
 use Rattle.image_model.specs.Image.{EntryOf, DoItOf, ImageOf}
 use Rattle.image_model.specs.Means.{MeaningOf, of_instance}

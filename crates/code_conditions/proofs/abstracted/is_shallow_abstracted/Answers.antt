@@ -1,4 +1,4 @@
-use Rattle.std.proofs.Common.{Bool, not, ap, ◌∙◌}
+use Rattle.std.proofs.Common.{not, ap, ◌∙◌}
 use Rattle.code_questions.proofs.AtPlaces.{listed-any}
 use Rattle.code_conditions.specs.HighCode.{is_method_high, is_doit_high}
 use Rattle.code_conditions.proofs.HighInImage.{only-methods, only-doits, none-high}

@@ -11,5 +11,5 @@ returns-in-None c = sym (ap (λ (o : Option Method). is_tree_low (option_map met
 pub returns-in-Some : goal.returns-in-Some
 returns-in-Some c =
     ap not c.is_high.ensures
-    ∙ not-not (is_low (sequence_of c.in-Some.tree.now.body))
+    ∙ not-not (is_low (sequence_of c.in-Some.tree.body))
     ∙ sym (ap (λ (o : Option Method). is_tree_low (option_map method_of o)) c.in-Some.is)

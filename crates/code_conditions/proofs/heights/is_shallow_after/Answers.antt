@@ -1,4 +1,4 @@
-use Rattle.std.proofs.Common.{Bool, sym, ap, ◌∙◌}
+use Rattle.std.proofs.Common.{sym, ap, ◌∙◌}
 use Rattle.class_table.specs.View.{number_image}
 use Rattle.command_model.specs.CodeHolds.{code_holds, is_low_made, are_low_abstracted}
 use Rattle.command_model.specs.Conditions.{Shallow}
