@@ -22,7 +22,8 @@ use Rattle.commands.specs.Views.{asked_by}
 use Rattle.commands.specs.declared.command.MethodName.{MethodName}
 use Rattle.plans.specs.Plan.{IsPlan}
 use Rattle.temporary_plans.specs.Retold.{Retells}
-use Rattle.code_plans.proofs.Users.{with-tree, no-tree, users-known}
+use Rattle.users_methods.proofs.UsersKnown.{users-known}
+use Rattle.code_plans.proofs.Users.{with-tree, no-tree}
 use Rattle.code_plans.proofs.Given.{plan-nothing, retells}
 
 module _ (s : Slots) (o : IsOrderly s) (method : MethodName) (x : ℕ) where

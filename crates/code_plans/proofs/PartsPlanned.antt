@@ -3,6 +3,7 @@ use Rattle.std.proofs.Common.{◌≡◌, ℕ, ◌<◌, ◌≤◌, Bool, true, fa
 use Rattle.std.specs.Prelude.{nat_eq, ◌&&◌, if◌then◌else◌, insert, unwrap_or}
 use Rattle.std.proofs.Math.Seq.{take-length}
 use Rattle.std.proofs.lemmas.List.{append-nil}
+use Rattle.std.proofs.lemmas.Option.{slice_get_within}
 use Rattle.tree_model.specs.Tree.{MethodOf}
 use Rattle.tree_model.specs.AllNames.{MethodNames}
 use Rattle.tree_model.specs.Normal.{normal}
@@ -22,11 +23,12 @@ use Rattle.class_table.specs.Valid.{IsLive, IsOrderly}
 use Rattle.class_table.specs.View.{live, entry_of, number_image}
 use Rattle.class_table.proofs.Live.{there}
 use Rattle.image_laws.proofs.Middles.{get-middle}
-use Rattle.image_laws.proofs.Orders.{absent-without}
+use Rattle.image_laws.proofs.Orders.{absent-without, stands-live}
 use Rattle.change_set.specs.declared.change.Change.{Change}
 use Rattle.change_set.specs.declared.change.Change.TheVariants as change
 use Rattle.wider_slots.specs.Closed.{IsClosed}
 use Rattle.wider_slots.specs.Wider.{one_method, widened, Wider}
+use Rattle.wider_slots.proofs.Append.{get-append}
 use Rattle.wider_slots.proofs.Images.{numbers-still}
 use Rattle.wider_slots.proofs.StepLemmas.{wider-same}
 use Rattle.command_model.specs.CodeEffects.{part_at}
@@ -40,6 +42,8 @@ use Rattle.commands.specs.declared.command.MethodPart.{MethodPart}
 use Rattle.plans.specs.Plan.{IsPlan}
 use Rattle.method_plans.proofs.Added.{wider_room, new-absent}
 use Rattle.method_plans.proofs.Leads.{Leads, leads-nowhere, leads-same, leads-in, leads-plan, roomy-orderly}
+use Rattle.users_methods.specs.Users.{is_users}
+use Rattle.temporary_plans.proofs.First.{users-live}
 use Rattle.temporary_plans.proofs.Retelling.{Retelling}
 use Rattle.code_plans.specs.Behind.{behind_last, is_beside}
 use Rattle.code_plans.specs.Extractions.{IsExtraction}
@@ -105,6 +109,18 @@ module _ (s : Slots) (o : IsOrderly s) (part : MethodPart) (to : ℕ) where
 
     pub sender-fits : (u : Slots) → u ≡ roomy → MethodNames (λ n. n < length u.names) (tree.method_of made.sender)
     sender-fits u e = subst (λ (ns : List (List ℕ)). MethodNames (λ n. n < length ns) (tree.method_of made.sender)) (sym (room-names u e)) is.sender_known
+
+    -- a slot of the order holds the method there where it did before
+    pub users-roomy : (u : Slots) → u ≡ roomy → (i j : ℕ) → slice_get u.method_order i ≡ Some j → is_users u part.method j ≡ is_users s part.method j
+    users-roomy u e i j at =
+        let stands : slice_get s.method_order i ≡ Some j = ap (λ (v : Slots). slice_get v.method_order i) (sym e) ∙ at in
+        let l : IsLive s.method_order j = stands-live j s.method_order i stands in
+        let r = there s.methods j (o.method_order.below j l) in
+        let still : slice_get (s.methods ++ made.rec ∷ []) j ≡ Some r.0 = get-append s.methods (made.rec ∷ []) j (slice_get_within s.methods j r.0 r.1) ∙ r.1 in
+        ap (λ (v : Slots). is_users v part.method j) e
+        ∙ users-live roomy (room-orderly roomy refl) part.method j r.0 l still
+        ∙ ap (λ (cs : List ClassRec). is_method nat_eq c meta part.method.selector (entry_of cs r.0) && not r.0.kernel) (append-nil s.classes)
+        ∙ sym (users-live s o part.method j r.0 l r.1)
 
     module _ (closed : IsClosed s) where
       abbrev k : ℕ

@@ -10,6 +10,7 @@ ghost use Rattle.commands.specs.Views.{asked_by, code_command, self_in};
 ghost use Rattle.commands.specs.declared.command.CodeMove.TheVariants as code;
 ghost use Rattle.code_plans.specs.Extractions.{IsExtraction};
 ghost use Rattle.plans.specs.Plan.{IsPlan};
+ghost use Rattle.reference_index.specs.Mentioned.{IsIndexOf};
 
 use crate::behind::place_behind;
 use class_table::{Image, MethodRec};
@@ -19,13 +20,14 @@ use method_plans::put_live;
 use part_lookup::users_part;
 use plans::Plan;
 use rb_base::{Memory, NameId, Steps, Text};
+use reference_index::Index;
 use slot_room::room_for_method;
 use st_formatter::format_method;
 use st_tree::Method;
 use std::alloc::Global;
 use std::sync::ledger::Ledger;
 use temporary_plans::{no_changes, put_retold};
-use users_methods::is_users;
+use users_methods::{is_listed, users_slots};
 
 /// What comes of a method of which a part is extracted.
 pub(crate) struct Extraction {
@@ -84,6 +86,7 @@ fn extracted<L: Ledger>(
 pub fn plan_extraction<L: Ledger>(
     alloc: Global,
     image: &mut Image,
+    index: &Index,
     part: &MethodPart,
     to: NameId,
     self_name: NameId,
@@ -91,6 +94,7 @@ pub fn plan_extraction<L: Ledger>(
 ) -> Result<Plan, Memory>
     requires closed { IsClosed image.old }
     requires orderly { IsOrderly image.old }
+    requires index { IsIndexOf image.old index.now }
     requires self_is { self_name ≡ self_in image.old.names }
     requires self_known { self_name < length image.old.names }
     requires known { to < length image.old.names }
@@ -98,6 +102,8 @@ pub fn plan_extraction<L: Ledger>(
     ensures names { image.new.names ≡ image.old.names }
     ensures plan { IfOk result (λ found. IsPlan image.new (code_command (code.ExtractMethod part.now to)) found.changes found.touched.items) }
 {
+    let users = users_slots(alloc, image, index, &part.method)?;
+    let own = users.as_slice();
     let Some(found) = extracted(alloc, image, part, to, self_name, steps)? else {
         return Ok(no_changes(alloc));
     };
@@ -108,7 +114,7 @@ pub fn plan_extraction<L: Ledger>(
     let mut plan = no_changes(alloc);
     let roomy: &Image = image;
     for other in roomy.methods() {
-        if is_users(roomy, *other, &part.method) {
+        if is_listed(own, *other) {
             put_retold(alloc, roomy, *other, &sender, &mut plan, steps)?;
         }
     }

@@ -8,6 +8,7 @@ ghost use Rattle.commands.specs.Views.{code_command};
 ghost use Rattle.commands.specs.declared.command.CodeMove.TheVariants as code_move;
 ghost use Rattle.part_questions.specs.Parts.{part_of};
 ghost use Rattle.plans.specs.Plan.{IsPlan};
+ghost use Rattle.reference_index.specs.Mentioned.{IsIndexOf};
 ghost use Rattle.code_plans.specs.Inlined.{inlined_at};
 
 use class_table::Image;
@@ -18,6 +19,7 @@ use part_lookup::users_part;
 use part_questions::MethodCode;
 use plans::Plan;
 use rb_base::{Memory, Steps};
+use reference_index::Index;
 use st_tree::{Method, Part};
 use std::alloc::Global;
 use std::sync::ledger::Ledger;
@@ -62,10 +64,12 @@ fn with_body<L: Ledger>(
 pub fn plan_inlined_message<L: Ledger>(
     alloc: Global,
     image: &Image,
+    index: &Index,
     part: &MethodPart,
     steps: &mut Steps<L>,
 ) -> Result<Plan, Memory>
-    requires { IsOrderly image.now }
+    requires orderly { IsOrderly image.now }
+    requires index { IsIndexOf image.now index.now }
     ensures { IfOk result (λ plan. IsPlan image.now (code_command (code_move.InlineMethod part.now)) plan.changes plan.touched.items) }
 {
     let Some(found) = users_part(alloc, image, part, steps)? else {
@@ -79,5 +83,5 @@ pub fn plan_inlined_message<L: Ledger>(
     let Some(after) = with_body(alloc, image, &code, &found.part, steps)? else {
         return Ok(no_changes(alloc));
     };
-    plan_retold(alloc, image, &part.method, &after, steps)
+    plan_retold(alloc, image, index, &part.method, &after, steps)
 }

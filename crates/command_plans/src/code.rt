@@ -31,18 +31,20 @@ use wider_slots::law_wider;
 fn plan_temporary_of<L: Ledger>(
     alloc: Global,
     image: &Image,
+    index: &Index,
     part: MethodPart,
     variable: NameId,
     steps: &mut Steps<L>,
 ) -> Result<Plan, Memory>
     requires orderly { IsOrderly image.now }
+    requires index { IsIndexOf image.now index.now }
     requires known { variable < length image.now.names }
     ensures { IfOk result (λ found. IsPlan image.now (code_command (code.ExtractTemporary part variable)) found.changes found.touched.items) }
 {
     let Some(found) = users_part(alloc, image, &part, steps)? else {
         return Ok(no_changes(alloc));
     };
-    plan_extracted_temporary(alloc, image, part, &found.part, variable, steps)
+    plan_extracted_temporary(alloc, image, index, part, &found.part, variable, steps)
 }
 
 /// The changes by which the code moves, and the room that they need.
@@ -83,14 +85,14 @@ pub(crate) fn plan_code<L: Ledger>(
             plan_abstraction(alloc, image, index, &abstraction, steps)
         }
         CodeMove::ExtractMethod { part, to } => {
-            plan_extraction(alloc, image, &part, to, self_name, steps)
+            plan_extraction(alloc, image, index, &part, to, self_name, steps)
         }
-        CodeMove::InlineMethod(part) => plan_inlined_message(alloc, image, &part, steps),
+        CodeMove::InlineMethod(part) => plan_inlined_message(alloc, image, index, &part, steps),
         CodeMove::ExtractTemporary { part, variable } => {
-            plan_temporary_of(alloc, image, part, variable, steps)
+            plan_temporary_of(alloc, image, index, part, variable, steps)
         }
         CodeMove::InlineTemporary { method, variable } => {
-            plan_inlined_temporary(alloc, image, method, variable, steps)
+            plan_inlined_temporary(alloc, image, index, method, variable, steps)
         }
     }
 }

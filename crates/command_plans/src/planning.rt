@@ -51,9 +51,9 @@ pub fn plan<L: Ledger>(
         Command::RemoveClass { class } => plan_class_removal(alloc, image, *class),
         Command::Variable(change) => plan_move(alloc, image, change),
         Command::AddMethod(new) => plan_new_method(alloc, image, new),
-        Command::RemoveMethod(method) => plan_method_removal(alloc, image, *method),
-        Command::PushUpMethod(method) => plan_method_up(alloc, image, *method),
-        Command::PushDownMethod(method) => plan_method_down(alloc, image, *method),
+        Command::RemoveMethod(method) => plan_method_removal(alloc, image, index, *method),
+        Command::PushUpMethod(method) => plan_method_up(alloc, image, index, *method),
+        Command::PushDownMethod(method) => plan_method_down(alloc, image, index, *method),
         Command::AddParameter(new) => {
             plan_parameter(alloc, image, index, &ParameterChange::Added(new), steps)
         }
@@ -73,7 +73,7 @@ pub fn plan<L: Ledger>(
             method,
             variable,
             to,
-        } => plan_temporary(alloc, image, *method, *variable, *to, steps),
+        } => plan_temporary(alloc, image, index, *method, *variable, *to, steps),
         Command::MoveCode(change) => plan_code(alloc, image, index, change, steps),
     }
 }

@@ -17,7 +17,8 @@ use Rattle.class_questions.proofs.AnyLive.{live_at-live}
 use Rattle.class_questions.proofs.ChainLaws.{named-record}
 use Rattle.command_model.specs.Hierarchy.{superclass_name}
 use Rattle.commands.specs.declared.command.MethodName.{MethodName}
-use Rattle.method_plans.specs.Named.{is_named, superclass_slot}
+use Rattle.method_plans.specs.Named.{superclass_slot}
+use Rattle.users_methods.specs.Users.{is_named}
 
 module _ {X Y : Type 0} (g : X → Y) (xs : List X) where
   -- what the slots of two orders hold, and those of an order with a first one

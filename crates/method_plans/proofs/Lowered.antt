@@ -38,7 +38,8 @@ use Rattle.wider_slots.specs.Wider.{one_method, widened, Wider}
 use Rattle.wider_slots.proofs.Append.{get-append}
 use Rattle.wider_slots.proofs.StepLemmas.{wider-same}
 use Rattle.plans.specs.Plan.{IsPlan}
-use Rattle.method_plans.specs.Named.{is_named, receives, receivers, moved_to, with_copy}
+use Rattle.method_plans.specs.Named.{receives, receivers, moved_to, with_copy}
+use Rattle.users_methods.specs.Users.{is_named}
 use Rattle.method_plans.proofs.Leads.{Leads, leads-nowhere, leads-same, leads-out, leads-in, leads-roomy, roomy-orderly, leads-plan}
 use Rattle.method_plans.proofs.Orders.{drop-at, take-at, live-left, live-right, distinct-before, without-middle, insert-middle}
 use Rattle.method_plans.proofs.LiveMethods.{live-append, live-cons, named-live}
@@ -136,8 +137,8 @@ module _ (s : Slots) (o : IsOrderly s) (method : MethodName) where
         → lowered s method (e r) ≡ (if b then map (of_class_named (e r)) (hierarchy.receivers nat_eq (number_image s) method.class method.meta method.selector) else e r ∷ [])
     lowered-is b h = ap (λ (c : Bool). if c then map (of_class_named (e r)) (hierarchy.receivers nat_eq (number_image s) method.class method.meta method.selector) else e r ∷ []) h
 
-    test-is : (b : Bool) → is_named (grown s more) method k ≡ b → is_method nat_eq method.class method.meta method.selector (e r) ≡ b
-    test-is b h = sym (named-live (grown s more) method k r is_live still) ∙ h
+    test-is : (b : Bool) → is_named s method k ≡ b → is_method nat_eq method.class method.meta method.selector (e r) ≡ b
+    test-is b h = sym (named-live s method k r is_live there) ∙ h
 
     behind-is : flat_map (lowered s method) (map e (live s.methods (drop at order))) ≡ lowered s method (e r) ++ flat_map (lowered s method) (map e (live s.methods (drop (at + 1) order)))
     behind-is =
@@ -145,7 +146,7 @@ module _ (s : Slots) (o : IsOrderly s) (method : MethodName) where
         ∙ ap (flat_map (lowered s method)) (live-cons e s.methods k r (drop (at + 1) order) there)
 
     -- the slot holds another method
-    lowering-miss : (cs : List Change) (ps : List Place) → is_named (grown s more) method k ≡ false → LoweringAt s method more (at + 1) cs ps → LoweringAt s method more at cs ps
+    lowering-miss : (cs : List Change) (ps : List Place) → is_named s method k ≡ false → LoweringAt s method more (at + 1) cs ps → LoweringAt s method more at cs ps
     lowering-miss cs ps h now = record {
       wider = now.wider;
       orderly = now.orderly;
@@ -158,7 +159,7 @@ module _ (s : Slots) (o : IsOrderly s) (method : MethodName) where
     }
 
     -- the slot holds such a method, which goes
-    lowering-hit : (ids : List ℕ) (cs : List Change) (ps : List Place) → is_named (grown s more) method k ≡ true → LoweringAt s method more (at + 1) cs ps
+    lowering-hit : (ids : List ℕ) (cs : List Change) (ps : List Place) → is_named s method k ≡ true → LoweringAt s method more (at + 1) cs ps
         → CopyingAt s method ids more at k (length ids) (cs ++ change.Live (slot.Method k) None ∷ []) (ps ++ place.Method k ∷ [])
     lowering-hit ids cs ps h now =
         let front : List ℕ = take at order in
@@ -346,17 +347,17 @@ module _ (s : Slots) (o : IsOrderly s) (method : MethodName) where
     now_at : LoweringAt s method now.more (at + 1) cs ps
     now_at = subst (λ (j : ℕ). LoweringAt s method now.more j cs ps) one now.at
 
-    pub lowering-skips : is_named u method k ≡ false → Lowering s u method at cs ps
+    pub lowering-skips : is_named s method k ≡ false → Lowering s u method at cs ps
     lowering-skips h =
         let r = rec-there s o at k here in
-        record { more = now.more; is = now.is; at = lowering-miss s o method now.more at k r.0 here r.1 cs ps (ap (λ (x : Slots). is_named x method k) (sym now.is) ∙ h) now_at }
+        record { more = now.more; is = now.is; at = lowering-miss s o method now.more at k r.0 here r.1 cs ps h now_at }
 
-    pub lowering-begins : (ids : List ℕ) (left : ℕ) (ds : List Change) (qs : List Place) → is_named u method k ≡ true → left ≡ length ids → ds ≡ cs ++ change.Live (slot.Method k) None ∷ [] → qs ≡ ps ++ place.Method k ∷ []
+    pub lowering-begins : (ids : List ℕ) (left : ℕ) (ds : List Change) (qs : List Place) → is_named s method k ≡ true → left ≡ length ids → ds ≡ cs ++ change.Live (slot.Method k) None ∷ [] → qs ≡ ps ++ place.Method k ∷ []
         → Copying s u method ids at k left ds qs
     lowering-begins ids left ds qs h a b c =
         let r = rec-there s o at k here in
         let so : CopyingAt s method ids now.more at k (length ids) (cs ++ change.Live (slot.Method k) None ∷ []) (ps ++ place.Method k ∷ []) =
-        lowering-hit s o method now.more at k r.0 here r.1 ids cs ps (ap (λ (x : Slots). is_named x method k) (sym now.is) ∙ h) now_at in
+        lowering-hit s o method now.more at k r.0 here r.1 ids cs ps h now_at in
         record {
           more = now.more;
           is = now.is;

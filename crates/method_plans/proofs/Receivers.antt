@@ -1,6 +1,6 @@
 -- The direct subclasses that have no method of a selector of their own, and copies for classes.
 use Rattle.std.proofs.Common.{◌≡◌, ℕ, ◌&&◌, ◌||◌, Bool, true, false, cond, not, List, [], ◌∷◌, map, filter, find, Option, None, Some, option_map, slice_get, refl, sym, ap, subst, ◌∙◌}
-use Rattle.std.specs.Prelude.{nat_eq, is_none}
+use Rattle.std.specs.Prelude.{nat_eq, is_none, is_some}
 use Rattle.std.specs.List.{filter_map, cons_option, list_any}
 use Rattle.std.specs.Option.{option_map_or, option_and_then}
 use Rattle.image_model.specs.Image.{ClassOf, EntryOf}
@@ -16,6 +16,8 @@ use Rattle.class_table.proofs.KeptLemmas.{method-fits}
 use Rattle.class_questions.proofs.AnyLive.{live_at-live, live-live_at, any_live}
 use Rattle.command_model.specs.Hierarchy as hierarchy
 use Rattle.commands.specs.declared.command.MethodName.{MethodName}
+use Rattle.hierarchy_questions.specs.OwnMethods.{own_slot}
+use Rattle.hierarchy_questions.proofs.OwnMethods.{none-same}
 use Rattle.wider_slots.specs.Closed.{IsClosed}
 use Rattle.wider_slots.specs.Wider.{one_method, widened, Wider}
 use Rattle.wider_slots.proofs.StepLemmas.{wider-same}
@@ -44,6 +46,23 @@ filter-live p (k ∷ ks) j l = by (p k) (filter-live p ks j) l
         first true rest h = refl
         first false rest h = rest h
     by false rest h = IsLive-rest j k ks (rest h)
+
+-- whether there is one is asked of the slot that the class itself has
+pub own-has : (s : Slots) → IsOrderly s → (method : MethodName) → is_some (own_slot s method.class method.meta method.selector) ≡ has_method s method
+own-has s o method =
+    let test : EntryOf ℕ → Bool = is_method nat_eq method.class method.meta method.selector in
+    some-none (own_slot s method.class method.meta method.selector)
+    ∙ ap not (sym (none-same s o method.class method.meta method.selector) ∙ none-found test (number_image s).methods)
+    ∙ not-not (list_any test (number_image s).methods)
+    ∙ sym (any_live (entry_of s.classes) test s.methods s.method_order)
+  where
+    some-none : (q : Option ℕ) → is_some q ≡ not (is_none q)
+    some-none None = refl
+    some-none (Some k) = refl
+
+    not-not : (b : Bool) → not (not b) ≡ b
+    not-not true = refl
+    not-not false = refl
 
 module _ (s : Slots) (o : IsOrderly s) (method : MethodName) where
   -- whether a class of the image is one of them

@@ -21,7 +21,7 @@ use Rattle.change_set.specs.declared.change.Change.TheVariants as change
 use Rattle.command_model.specs.Commands.{RemoveMethod}
 use Rattle.commands.specs.declared.command.MethodName.{MethodName}
 use Rattle.plans.specs.Plan.{IsPlan}
-use Rattle.method_plans.specs.Named.{is_named}
+use Rattle.users_methods.specs.Users.{is_named}
 use Rattle.method_plans.proofs.Leads.{Leads, leads-nowhere, leads-same, leads-out, leads-plan}
 use Rattle.method_plans.proofs.Orders.{drop-at, take-at, distinct-before, without-middle}
 use Rattle.method_plans.proofs.LiveMethods.{live-cons, named-live}

@@ -38,7 +38,8 @@ use Rattle.mentions.specs.Mentions.{method_names}
 use Rattle.reference_index.specs.Mentioned.{DiffersAtMost}
 use Rattle.wider_slots.proofs.Fitting as fitting
 use Rattle.plans.specs.Plan.{IsPlan}
-use Rattle.method_plans.specs.Named.{is_named, superclass_slot, moved_to}
+use Rattle.method_plans.specs.Named.{superclass_slot, moved_to}
+use Rattle.users_methods.specs.Users.{is_named}
 use Rattle.method_plans.proofs.Leads.{Leads, leads-nowhere, leads-on, leads-plan}
 use Rattle.method_plans.proofs.Orders.{drop-at, take-at, parts-at, distinct-before, distinct-right, live-apart}
 use Rattle.method_plans.proofs.LiveMethods.{live-append, live-cons, named-live, superclass-named}

@@ -2,24 +2,19 @@
 use Rattle.std.specs.Prelude.{ℕ, List, filter, Bool, false, not, nat_eq, ◌&&◌, Option, option_map}
 use Rattle.std.specs.List.{list_any}
 use Rattle.std.specs.Option.{option_map_or, option_and_then}
-use Rattle.image_model.specs.Lookup.{is_method}
 use Rattle.class_table.specs.declared.record.ClassRec.{ClassRec}
 use Rattle.class_table.specs.declared.record.MethodRec.{MethodRec}
 use Rattle.class_table.specs.Finding.{named_in}
 use Rattle.class_table.specs.Slots.{Slots}
-use Rattle.class_table.specs.View.{entry_of, live_at}
+use Rattle.class_table.specs.View.{live_at}
 use Rattle.wider_slots.specs.Wider.{one_method, widened}
 use Rattle.commands.specs.declared.command.MethodName.{MethodName}
+use Rattle.users_methods.specs.Users.{is_named}
 
 module _ (s : Slots) (method : MethodName) where
-  -- whether a slot is live and holds such a method
-  abbrev pub is_named : ℕ → Bool
-  is_named k =
-      option_map_or (λ (m : MethodRec). is_method nat_eq method.class method.meta method.selector (entry_of s.classes m)) (live_at s.methods s.method_order k) false
-
   -- whether there is such a method
   abbrev pub has_method : Bool
-  has_method = list_any is_named s.method_order
+  has_method = list_any (is_named s method) s.method_order
 
 -- the name of the superclass of a class, if the superclass is live
 abbrev pub name_above : Slots → ClassRec → Option ℕ

@@ -13,28 +13,28 @@ ghost use Rattle.command_model.specs.Commands.{PushDownMethod};
 ghost use Rattle.command_model.specs.Judged.{first_false};
 ghost use Rattle.commands.specs.Views.{asked_by};
 ghost use Rattle.plans.specs.Plan.{IsPlan};
+ghost use Rattle.reference_index.specs.Mentioned.{IsIndexOf};
 ghost use Rattle.method_plans.specs.Named as named;
 
 use crate::copies::copy_for;
 use crate::going::put_live;
-use crate::named::is_named;
 use change_set::Changes;
 use class_table::{ClassId, ClassIds, Image, MethodSlot};
 use commands::MethodName;
+use hierarchy_questions::own_method;
 use plans::Plan;
 use rb_base::Memory;
+use reference_index::Index;
 use slot_room::room_for_method;
 use std::alloc::Global;
+use users_methods::{is_listed, named_slots};
 
 /// Whether there is such a method.
-fn has_method(image: &Image, method: &MethodName) -> bool
+fn has_method(image: &Image, method: MethodName) -> bool
     requires { IsOrderly image.now }
-    ensures { result ≡ named.has_method image.now method.now }
+    ensures { result ≡ named.has_method image.now method }
 {
-    image
-        .methods()
-        .iter()
-        .any(|slot| is_named(image, *slot, method))
+    own_method(image, method).is_some()
 }
 
 /// Whether the slot is that of a direct subclass that has no such method of its own.
@@ -55,7 +55,7 @@ fn receives(image: &Image, class: ClassId, method: &MethodName) -> bool
         class: rec.name,
         ..*method
     };
-    method.class == above.name && !has_method(image, &own)
+    method.class == above.name && !has_method(image, own)
 }
 
 /// The direct subclasses that have no such method of their own, in the order of classes.
@@ -106,10 +106,12 @@ fn put_copy(
 pub fn plan_method_down(
     alloc: Global,
     image: &mut Image,
+    index: &Index,
     method: MethodName,
 ) -> Result<Plan, Memory>
     requires closed { IsClosed image.old }
     requires orderly { IsOrderly image.old }
+    requires index { IsIndexOf image.old index.now }
     requires holds { first_false (asked_by image.old.names) (number_image image.old) (PushDownMethod method.class method.meta method.selector) ≡ None }
     ensures wider { Wider image.old image.new }
     ensures names { image.new.names ≡ image.old.names }
@@ -117,6 +119,8 @@ pub fn plan_method_down(
 {
     let found = receivers(alloc, image, &method)?;
     let classes = found.as_slice();
+    let slots = named_slots(alloc, image, index, &method)?;
+    let named = slots.as_slice();
     let mut plan = Plan {
         changes: Changes::new(alloc),
         touched: Vec::new(alloc),
@@ -126,7 +130,7 @@ pub fn plan_method_down(
     while place > 0 {
         place -= 1;
         let slot = image.methods()[place];
-        if !is_named(image, slot, &method) {
+        if !is_listed(named, slot) {
             continue;
         }
         put_live(&mut plan, slot, None)?;

@@ -13,16 +13,18 @@ ghost use Rattle.command_model.specs.Judged.{first_false};
 ghost use Rattle.command_numbers.specs.CommandNames.{CommandNames};
 ghost use Rattle.commands.specs.Views.{asked_by};
 ghost use Rattle.plans.specs.Plan.{IsPlan};
+ghost use Rattle.reference_index.specs.Mentioned.{IsIndexOf};
 
-use crate::named::is_named;
 use change_set::{Change, Changes};
 use class_table::{Image, MethodRec, MethodSlot, Place, Slot};
 use commands::{MethodName, NewMethod};
 use plans::Plan;
 use rb_base::Memory;
+use reference_index::Index;
 use slot_room::room_for_method;
 use st_tree::try_copy;
 use std::alloc::Global;
+use users_methods::{is_listed, named_slots};
 
 /// Puts the change by which a method comes to a place of the order, or goes, at the end of a plan. Want of memory, if there is
 /// not enough of it for a longer plan.
@@ -39,17 +41,25 @@ pub fn put_live(plan: &mut Plan, slot: MethodSlot, place: Option<usize>) -> Resu
 }
 
 /// The changes by which the method goes.
-pub fn plan_method_removal(alloc: Global, image: &Image, method: MethodName) -> Result<Plan, Memory>
+pub fn plan_method_removal(
+    alloc: Global,
+    image: &Image,
+    index: &Index,
+    method: MethodName,
+) -> Result<Plan, Memory>
     requires orderly { IsOrderly image.now }
+    requires index { IsIndexOf image.now index.now }
     requires holds { first_false (asked_by image.now.names) (number_image image.now) (RemoveMethod method.class method.meta method.selector) ≡ None }
     ensures { IfOk result (λ found. IsPlan image.now (RemoveMethod method.class method.meta method.selector) found.changes found.touched.items) }
 {
+    let found = named_slots(alloc, image, index, &method)?;
+    let named = found.as_slice();
     let mut plan = Plan {
         changes: Changes::new(alloc),
         touched: Vec::new(alloc),
     };
     for slot in image.methods() {
-        if is_named(image, *slot, &method) {
+        if is_listed(named, *slot) {
             put_live(&mut plan, *slot, None)?;
         }
     }

@@ -9,16 +9,19 @@ ghost use Rattle.command_model.specs.Commands.{PushUpMethod};
 ghost use Rattle.command_model.specs.Judged.{first_false};
 ghost use Rattle.commands.specs.Views.{asked_by};
 ghost use Rattle.plans.specs.Plan.{IsPlan};
+ghost use Rattle.reference_index.specs.Mentioned.{IsIndexOf};
 ghost use Rattle.method_plans.specs.Named.{moved_to};
 
 use crate::copies::copy_for;
-use crate::named::{is_named, superclass};
+use crate::named::superclass;
 use change_set::{Change, Changes};
 use class_table::{ClassId, Image, MethodSlot};
 use commands::MethodName;
 use plans::Plan;
 use rb_base::Memory;
+use reference_index::Index;
 use std::alloc::Global;
+use users_methods::{is_listed, named_slots};
 
 /// Puts the change by which the method in a live slot becomes one of another class at the end.
 fn put_moved(
@@ -37,8 +40,14 @@ fn put_moved(
 }
 
 /// The changes by which the method goes up to the superclass, at its place.
-pub fn plan_method_up(alloc: Global, image: &Image, method: MethodName) -> Result<Plan, Memory>
+pub fn plan_method_up(
+    alloc: Global,
+    image: &Image,
+    index: &Index,
+    method: MethodName,
+) -> Result<Plan, Memory>
     requires orderly { IsOrderly image.now }
+    requires index { IsIndexOf image.now index.now }
     requires holds { first_false (asked_by image.now.names) (number_image image.now) (PushUpMethod method.class method.meta method.selector) ≡ None }
     ensures { IfOk result (λ found. IsPlan image.now (PushUpMethod method.class method.meta method.selector) found.changes found.touched.items) }
 {
@@ -49,8 +58,10 @@ pub fn plan_method_up(alloc: Global, image: &Image, method: MethodName) -> Resul
     let Some(class) = superclass(image, method.class) else {
         return Ok(plan);
     };
+    let found = named_slots(alloc, image, index, &method)?;
+    let named = found.as_slice();
     for slot in image.methods() {
-        if is_named(image, *slot, &method) {
+        if is_listed(named, *slot) {
             put_moved(alloc, image, *slot, class, &mut plan.changes)?;
         }
     }

@@ -42,7 +42,8 @@ use Rattle.plans.specs.Plan.{IsPlan}
 use Rattle.method_plans.proofs.Leads.{Leads, leads-nowhere, leads-on, leads-plan}
 use Rattle.method_plans.proofs.Orders.{drop-at, take-at, parts-at, distinct-before, distinct-right, live-apart}
 use Rattle.method_plans.proofs.LiveMethods.{live-append, live-cons}
-use Rattle.temporary_plans.specs.Retold.{is_users, retold_at, Retells}
+use Rattle.users_methods.specs.Users.{is_users}
+use Rattle.temporary_plans.specs.Retold.{retold_at, Retells}
 use Rattle.temporary_plans.proofs.First.{users-live}
 
 -- the text of a tree

@@ -1,32 +1,20 @@
--- The user's methods of a class, a side and a selector, and these with another tree.
-use Rattle.std.specs.Prelude.{◌≡◌, ℕ, Bool, false, not, ◌&&◌, nat_eq, if◌then◌else◌, find, Option, None, Some}
-use Rattle.std.specs.Option.{option_map_or, option_and_then}
+-- Methods with another tree.
+use Rattle.std.specs.Prelude.{◌≡◌, ℕ, nat_eq, if◌then◌else◌, Option, None, Some}
+use Rattle.std.specs.Option.{option_and_then}
 use Rattle.tree_model.specs.Tree.{MethodOf}
 use Rattle.tree_model.specs.Normal.{normal}
 use Rattle.same_trees.specs.SameTrees.{same_code}
 use Rattle.st_tree.specs.View.{method_of}
 use Rattle.st_tree.specs.declared.tree.Method.{Method}
-use Rattle.image_model.specs.Lookup.{is_method}
 use Rattle.class_table.specs.declared.record.MethodRec.{MethodRec}
 use Rattle.class_table.specs.Slots.{Slots}
-use Rattle.class_table.specs.View.{entry_of, live_at, number_image}
+use Rattle.class_table.specs.View.{live_at, number_image}
 use Rattle.command_model.specs.Commands.{CommandOf}
 use Rattle.command_model.specs.Effects.{effect}
 use Rattle.command_model.specs.Numbers.{number_writing}
 use Rattle.command_model.specs.Sequences.{with_tree}
 use Rattle.commands.specs.Views.{asked_by}
 use Rattle.commands.specs.declared.command.MethodName.{MethodName}
-
-module _ (s : Slots) (method : MethodName) where
-  -- whether a slot is live and holds such a method of the user
-  abbrev pub is_users : ℕ → Bool
-  is_users k =
-      option_map_or (λ (m : MethodRec). is_method nat_eq method.class method.meta method.selector (entry_of s.classes m) && not m.kernel)
-      (live_at s.methods s.method_order k) false
-
-  -- the first such slot
-  abbrev pub users_slot : Option ℕ
-  users_slot = find is_users s.method_order
 
 module _ (s : Slots) (tree : Method) where
   -- a method with another tree and its text, if that is another one

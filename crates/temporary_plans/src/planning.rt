@@ -9,18 +9,21 @@ ghost use Rattle.command_model.specs.Judged.{first_false};
 ghost use Rattle.command_numbers.specs.CommandNames.{CommandNames};
 ghost use Rattle.commands.specs.Views.{asked_by};
 ghost use Rattle.plans.specs.Plan.{IsPlan};
+ghost use Rattle.reference_index.specs.Mentioned.{IsIndexOf};
 ghost use Rattle.temporary_plans.specs.Retold.{Retells};
 
-use crate::retold::{is_users, put_retold, users_slot};
+use crate::retold::put_retold;
 use change_set::Changes;
 use class_table::Image;
 use commands::MethodName;
 use plans::Plan;
 use rb_base::{Memory, NameId, Steps};
+use reference_index::Index;
 use st_tree::Method;
 use std::alloc::Global;
 use std::sync::ledger::Ledger;
 use temporary_code::renamed_temporary;
+use users_methods::{is_listed, users_method, users_slots};
 
 /// No changes, which takes no memory.
 pub fn no_changes(alloc: Global) -> Plan
@@ -38,17 +41,21 @@ pub fn no_changes(alloc: Global) -> Plan
 pub fn plan_retold<L: Ledger>(
     alloc: Global,
     image: &Image,
+    index: &Index,
     method: &MethodName,
     tree: &Method,
     steps: &mut Steps<L>,
 ) -> Result<Plan, Memory>
     requires orderly { IsOrderly image.now }
+    requires index { IsIndexOf image.now index.now }
     requires known { MethodNames (λ n. n < length image.now.names) (method_of tree.now) }
     ensures { IfOk result (λ found. (command : CommandOf ℕ) → Retells image.now method.now tree.now command → IsPlan image.now command found.changes found.touched.items) }
 {
+    let found = users_slots(alloc, image, index, method)?;
+    let own = found.as_slice();
     let mut plan = no_changes(alloc);
     for slot in image.methods() {
-        if is_users(image, *slot, method) {
+        if is_listed(own, *slot) {
             put_retold(alloc, image, *slot, tree, &mut plan, steps)?;
         }
     }
@@ -60,23 +67,22 @@ pub fn plan_retold<L: Ledger>(
 pub fn plan_temporary<L: Ledger>(
     alloc: Global,
     image: &Image,
+    index: &Index,
     method: MethodName,
     variable: NameId,
     to: NameId,
     steps: &mut Steps<L>,
 ) -> Result<Plan, Memory>
     requires orderly { IsOrderly image.now }
+    requires index { IsIndexOf image.now index.now }
     requires known { CommandNames (λ n. n < length image.now.names) (RenameTemp method.class method.meta method.selector variable to) }
     requires holds { first_false (asked_by image.now.names) (number_image image.now) (RenameTemp method.class method.meta method.selector variable to) ≡ None }
     ensures { IfOk result (λ found. IsPlan image.now (RenameTemp method.class method.meta method.selector variable to) found.changes found.touched.items) }
 {
     // The user has the method, so it is found.
-    let Some(first) = users_slot(image, &method) else {
+    let Some(old) = users_method(image, method, steps) else {
         return Ok(no_changes(alloc));
     };
-    let Some(old) = image.open_body(first, steps) else {
-        return Ok(no_changes(alloc));
-    };
-    let tree = renamed_temporary(alloc, old, image.names(), variable, to)?;
-    plan_retold(alloc, image, &method, &tree, steps)
+    let tree = renamed_temporary(alloc, old.tree, image.names(), variable, to)?;
+    plan_retold(alloc, image, index, &method, &tree, steps)
 }

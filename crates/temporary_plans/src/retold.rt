@@ -1,17 +1,15 @@
-// The user's methods of a class, a side and a selector, and these with another tree.
+// Methods with another tree.
 ghost use Rattle.std.specs.Prelude.{◌≡◌, ◌<◌, ◌∷◌, [], ◌++◌, length, IfOk, OnOk};
 ghost use Rattle.std.specs.Option.{option_map_or};
 ghost use Rattle.tree_model.specs.AllNames.{MethodNames};
 ghost use Rattle.st_tree.specs.View.{method_of};
 ghost use Rattle.class_table.specs.declared.record.MethodRec.{MethodRec};
 ghost use Rattle.class_table.specs.declared.record.Place.TheVariants as places;
-ghost use Rattle.class_table.specs.Valid.{IsOrderly};
 ghost use Rattle.change_set.specs.declared.change.Change.TheVariants as change;
 ghost use Rattle.temporary_plans.specs.Retold as model;
 
 use change_set::Change;
 use class_table::{Image, MethodRec, MethodSlot, Place};
-use commands::MethodName;
 use plans::Plan;
 use rb_base::{Memory, Steps, Text};
 use st_formatter::format_method;
@@ -19,35 +17,6 @@ use st_tree::{Method, try_copy};
 use std::alloc::Global;
 use std::sync::ledger::Ledger;
 use temporary_code::same_code;
-
-/// Whether the slot is live and holds the method, and it is one of the user.
-pub(crate) fn is_users(image: &Image, slot: MethodSlot, method: &MethodName) -> bool
-    requires { IsOrderly image.now }
-    ensures { result ≡ model.is_users image.now method.now slot }
-{
-    let Some(info) = image.method_info(slot) else {
-        return false;
-    };
-    let Some(class) = image.class_rec(info.class) else {
-        return false;
-    };
-    method.class == class.name
-        && method.meta == info.meta
-        && method.selector == info.selector
-        && !info.kernel
-}
-
-/// The first slot that holds the method as one of the user.
-pub(crate) fn users_slot(image: &Image, method: &MethodName) -> Option<MethodSlot>
-    requires { IsOrderly image.now }
-    ensures { result ≡ model.users_slot image.now method.now }
-{
-    image
-        .methods()
-        .iter()
-        .copied()
-        .find(|slot| is_users(image, *slot, method))
-}
 
 /// The method in a slot with another tree, whose canonical text is the source, if the slot is live and the tree is not the
 /// same but for comments. Counts one step.

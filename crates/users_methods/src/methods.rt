@@ -5,10 +5,10 @@ ghost use Rattle.class_table.specs.Valid.{IsLive, IsOrderly};
 ghost use Rattle.class_table.specs.View.{class_name, number_image};
 ghost use Rattle.command_model.specs.CodeEffects.{method_at};
 ghost use Rattle.commands.specs.Views.{asked_by};
-ghost use Rattle.users_methods.specs.Users.{entry_in, is_users};
+ghost use Rattle.users_methods.specs.Users.{entry_in};
 ghost use Rattle.users_methods.specs.declared.methods.UsersMethod.{UsersMethod};
 
-use class_table::{ClassId, Image, MethodSlot};
+use class_table::{ClassId, Image};
 use commands::MethodName;
 use hierarchy_questions::own_method;
 use rb_base::Steps;
@@ -52,21 +52,4 @@ pub fn users_method<'a, L: Ledger>(
         source: info.source,
         tree,
     })
-}
-
-/// Whether the slot is live and holds the method, and it is one of the user.
-pub fn is_users(image: &Image, slot: MethodSlot, method: &MethodName) -> bool
-    requires { IsOrderly image.now }
-    ensures { result ≡ is_users image.now method.now slot }
-{
-    let Some(info) = image.method_info(slot) else {
-        return false;
-    };
-    let Some(class) = image.class_rec(info.class) else {
-        return false;
-    };
-    method.class == class.name
-        && method.meta == info.meta
-        && method.selector == info.selector
-        && !info.kernel
 }

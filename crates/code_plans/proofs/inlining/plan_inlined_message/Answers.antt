@@ -28,7 +28,7 @@ returns-in_default-2 g c =
     let none : None ≡ option_map normal (inlined_at s p.method.class p.method.meta e.0.tree e.1) =
     sym (ap (λ (q : Option Method). option_map method_of q) c.in_default-2.is) ∙ c.in_ok-after.ensures p.method.class (c.in_ok-found.ensures.named c.in-Some.found c.in-Some.is) in
     let plan = c.no_changes-in_default-2 in
-    nowhere s c.requires p e there plan.result.changes plan.result.touched.items plan.ensures.changes plan.ensures.touched none
+    nowhere s c.requires.orderly p e there plan.result.changes plan.result.touched.items plan.ensures.changes plan.ensures.touched none
 
 pub plan_retold-requires-clause-known : goal.plan_retold-requires-clause-known
 plan_retold-requires-clause-known g c =
@@ -39,7 +39,7 @@ plan_retold-requires-clause-known g c =
     sym (ap (λ (q : Option UsersPart). option_map (found_in s.classes) q) c.in-Some.is) ∙ c.in_ok-found.ensures.part in
     let is : Some (method_of c.in-Some-2.after) ≡ option_map normal (inlined_at s p.method.class p.method.meta e.0.tree e.1) =
     sym (ap (λ (q : Option Method). option_map method_of q) c.in-Some-2.is) ∙ c.in_ok-after.ensures p.method.class (c.in_ok-found.ensures.named c.in-Some.found c.in-Some.is) in
-    made-known s c.requires p e there c.in-Some-2.after is
+    made-known s c.requires.orderly p e there c.in-Some-2.after is
 
 pub returns : goal.returns
 returns g c =
@@ -51,5 +51,5 @@ returns g c =
     sym (ap (λ (q : Option UsersPart). option_map (found_in s.classes) q) c.in-Some.is) ∙ c.in_ok-found.ensures.part in
     let is : Some (method_of c.in-Some-2.after) ≡ option_map normal (inlined_at s p.method.class p.method.meta e.0.tree e.1) =
     sym (ap (λ (q : Option Method). option_map method_of q) c.in-Some-2.is) ∙ c.in_ok-after.ensures p.method.class (c.in_ok-found.ensures.named c.in-Some.found c.in-Some.is) in
-    let makes : Retells s p.method c.in-Some-2.after command = told s c.requires p e there c.in-Some-2.after is in
+    let makes : Retells s p.method c.in-Some-2.after command = told s c.requires.orderly p e there c.in-Some-2.after is in
     IfOk-weaker c.plan_retold.result _ (λ (plan : Plan). IsPlan s command plan.changes plan.touched.items) (λ found leads. leads command makes) c.plan_retold.ensures

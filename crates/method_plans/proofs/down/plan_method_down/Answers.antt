@@ -1,4 +1,6 @@
 use Rattle.std.proofs.Common.{◌≡◌, ℕ, ◌-◌, ◌<◌, length, Some, slice_get, refl, sym, ap, ◌∙◌, arith, rules}
+use Rattle.std.specs.Prelude.{nat_eq}
+use Rattle.std.specs.List.{list_any}
 use Rattle.wider_slots.proofs.StepLemmas.{wider-twice}
 use Rattle.method_plans.proofs.Orders.{item-at}
 use Rattle.method_plans.proofs.Lowered.{lowering-start, lowering-order, lowering-skips, lowering-begins, lowering-end, copying-live, copying-next, copying-done, copying-wider}
@@ -22,8 +24,8 @@ offset_bounds-methods-place c =
     let within : c.loop-place.place - 1 < length c.methods.result.now = omega (arith, same, c.loop-place.invariant.0) in
     search rules
 
-pub loop-place-preserved-then-not-is_named : goal.loop-place-preserved-then-not-is_named
-loop-place-preserved-then-not-is_named c =
+pub loop-place-preserved-then-not-is_listed : goal.loop-place-preserved-then-not-is_listed
+loop-place-preserved-then-not-is_listed c =
     let s = c.args.image.now in
     let u = c.loop-place.image in
     let k = c.index-methods-place.result in
@@ -32,8 +34,8 @@ loop-place-preserved-then-not-is_named c =
     ap length (c.methods.ensures.value ∙ lowering-order s c.args.method c.loop-place.place u c.loop-place.plan.changes c.loop-place.plan.touched.items c.loop-place.invariant.1) in
     let within : c.loop-place.place - 1 < length c.methods.result.now = omega (arith, same, c.loop-place.invariant.0) in
     let stands : slice_get u.method_order at ≡ Some k = item-at c.methods.result.now u.method_order at k c.methods.ensures.value within c.index-methods-place.is in
-    let h = c.if-not-is_named.true in
-    (omega (arith, c.loop-place.invariant.0), lowering-skips s c.requires.orderly c.args.method c.loop-place.place at k u c.loop-place.plan.changes c.loop-place.plan.touched.items (omega arith) stands c.loop-place.invariant.1 (sym c.is_named.ensures ∙ h))
+    let h = c.if-not-is_listed.true in
+    (omega (arith, c.loop-place.invariant.0), lowering-skips s c.requires.orderly c.args.method c.loop-place.place at k u c.loop-place.plan.changes c.loop-place.plan.touched.items (omega arith) stands c.loop-place.invariant.1 (sym (c.is_listed.ensures ∙ ap (list_any (nat_eq k)) c.as_slice-named.ensures.value ∙ c.in_ok-slots.ensures k) ∙ h))
 
 pub loop-left-init : goal.loop-left-init
 loop-left-init c =
@@ -45,10 +47,10 @@ loop-left-init c =
     ap length (c.methods.ensures.value ∙ lowering-order s c.args.method c.loop-place.place u c.loop-place.plan.changes c.loop-place.plan.touched.items c.loop-place.invariant.1) in
     let within : c.loop-place.place - 1 < length c.methods.result.now = omega (arith, same, c.loop-place.invariant.0) in
     let stands : slice_get u.method_order at ≡ Some k = item-at c.methods.result.now u.method_order at k c.methods.ensures.value within c.index-methods-place.is in
-    let h = c.if-not-is_named.false in (
+    let h = c.if-not-is_listed.false in (
       omega arith,
       lowering-begins s c.requires.orderly c.args.method c.loop-place.place at k u c.loop-place.plan.changes c.loop-place.plan.touched.items (omega arith) stands c.loop-place.invariant.1
-          c.as_slice-classes.result.now (length c.as_slice-classes.result.now) c.put_live.new.plan.changes c.put_live.new.plan.touched.items (sym c.is_named.ensures ∙ h) refl c.in_ok-put_live.ensures.changes c.in_ok-put_live.ensures.touched,
+          c.as_slice-classes.result.now (length c.as_slice-classes.result.now) c.put_live.new.plan.changes c.put_live.new.plan.touched.items (sym (c.is_listed.ensures ∙ ap (list_any (nat_eq k)) c.as_slice-named.ensures.value ∙ c.in_ok-slots.ensures k) ∙ h) refl c.in_ok-put_live.ensures.changes c.in_ok-put_live.ensures.touched,
     )
 
 pub loop-place-preserved : goal.loop-place-preserved

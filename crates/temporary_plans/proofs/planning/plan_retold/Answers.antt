@@ -1,9 +1,11 @@
 use Rattle.std.proofs.Common.{◌≡◌, ◌+◌, Some, slice_get, length, sym, ap, ◌∙◌, arith}
+use Rattle.std.specs.Prelude.{nat_eq}
+use Rattle.std.specs.List.{list_any}
 use Rattle.plans.specs.declared.plan.Plan.{Plan}
 use Rattle.method_plans.proofs.Orders.{item-at}
 use Rattle.temporary_plans.proofs.Retelling.{retelling-start, retelling-same, retelling-hit, retelling-miss, retelling-end}
 use Rattle.temporary_plans.proofs.planning.plan_retold.Goals as goal
-use Rattle.temporary_plans.proofs.planning.plan_retold.Goals.{then-is_users+in_ok-put_retold, else-is_users}
+use Rattle.temporary_plans.proofs.planning.plan_retold.Goals.{then-is_listed+in_ok-put_retold, else-is_listed}
 
 pub loop-slot-init : goal.loop-slot-init
 loop-slot-init g c = retelling-start c.args.image.now c.requires.orderly c.args.method.now c.args.tree.now c.requires.known c.no_changes-plan.result.changes c.no_changes-plan.result.touched.items c.no_changes-plan.ensures.changes c.no_changes-plan.ensures.touched
@@ -16,15 +18,16 @@ loop-slot-preserved g c =
     let i = c.loop-slot.slot-index in
     let k = c.slot-item.result in
     let at : slice_get s.method_order i ≡ Some k = item-at c.methods-slot-items.result.now s.method_order i k c.methods-slot-items.ensures.value c.loop-slot-test.true c.slot-item.is in
-    elim c.if-is_users.branch [
-      | then-is_users+in_ok-put_retold w ↦
+    let users = c.is_listed.ensures ∙ ap (list_any (nat_eq k)) c.as_slice-own.ensures.value ∙ c.in_ok-found.ensures k in
+    elim c.if-is_listed.branch [
+      | then-is_listed+in_ok-put_retold w ↦
           retelling-same s m t (i + 1) _ _ _ _
           (ap (λ (p : Plan). p.changes) w.plan-is ∙ w.in_ok-put_retold.ensures.changes)
           (ap (λ (p : Plan). p.touched.items) w.plan-is ∙ w.in_ok-put_retold.ensures.touched)
-          (retelling-hit s c.requires.orderly m t c.requires.known i k c.loop-slot.plan.changes c.loop-slot.plan.touched.items at (sym c.is_users.ensures ∙ w.if-is_users.true) c.loop-slot.invariant)
-      | else-is_users w ↦
+          (retelling-hit s c.requires.orderly m t c.requires.known i k c.loop-slot.plan.changes c.loop-slot.plan.touched.items at (sym users ∙ w.if-is_listed.true) c.loop-slot.invariant)
+      | else-is_listed w ↦
           retelling-same s m t (i + 1) _ _ _ _ (ap (λ (p : Plan). p.changes) w.plan-is) (ap (λ (p : Plan). p.touched.items) w.plan-is)
-          (retelling-miss s c.requires.orderly m t c.requires.known i k c.loop-slot.plan.changes c.loop-slot.plan.touched.items at (sym c.is_users.ensures ∙ w.if-is_users.false) c.loop-slot.invariant)
+          (retelling-miss s c.requires.orderly m t c.requires.known i k c.loop-slot.plan.changes c.loop-slot.plan.touched.items at (sym users ∙ w.if-is_listed.false) c.loop-slot.invariant)
     ]
 
 pub returns : goal.returns
