@@ -54,7 +54,7 @@ module _ (text script : Text) (laws : Laws text script) where
   -- the image and the history are those of the changed file
   in-history : (i : ImageOf Text) (rs : List Request) (h : History) (sent : Text) → IsImageOf Second prelude_text text i → Says script rs → verdict_in i rs ≡ Ok h → sent ≡ change_text i h.now.image → IsChangeFile text script sent
   in-history i rs h sent is says v file =
-      let applies = λ (image_line : ImageRefusal → Text). model.InImage {image_line = image_line} i is (model.Accepted rs h says v refl refl) in
+      let applies : (image_line : ImageRefusal → Text) → model.Applies image_line text script status.Done (file_of h.now.image) = λ image_line. model.InImage i is (model.Accepted rs h says v refl refl) in
       let o = laws.applied (λ r. []) status.Done (file_of h.now.image) (applies (λ r. [])) refl in
       let same : i ≡ o.changed.image = laws.one_image i o.changed.image is o.changed.is_image in
       let histories : ◌≡◌ {A = Result History Refusal} (Ok h) (Ok o.changed.history) =

@@ -1,5 +1,5 @@
 -- A script has one answer in an image.
-use Rattle.std.proofs.Common.{◌≡◌, ℕ, List, Result, Ok, Err, sym, ap, ◌∙◌, subst}
+use Rattle.std.proofs.Common.{◌≡◌, ℕ, List, Result, Ok, Err, sym, ap, ◌∙◌}
 use Rattle.image_model.specs.Image.{ImageOf}
 use Rattle.script_model.specs.Makers.{Text}
 use Rattle.script_model.specs.Commands.{Cause}
