@@ -1,3 +1,1 @@
-mod Accessors
-mod Spelled
 mod WaysBack

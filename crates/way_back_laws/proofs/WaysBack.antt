@@ -18,9 +18,10 @@ use Rattle.history_model.proofs.Keeping.{verdict-good}
 use Rattle.session_model.specs.Scripts.{Request, Version, History, rules, verdict_in}
 use Rattle.kept_runs.specs.WellSpelled.{IsWellSpelled, IsWellSpelledAction}
 use Rattle.kept_runs.specs.KeepsRuns.{IsSound, AllKeepRuns}
+use Rattle.history_laws.proofs.JudgedBeside.{made}
+use Rattle.history_laws.proofs.ScriptsKeep.{steps-spelled}
 use Rattle.inverse_laws.specs.Inverse.{inverse, TakesBack}
 use Rattle.way_back_laws.specs.WayBack.{HasWayBack}
-use Rattle.way_back_laws.proofs.Spelled.{made, steps-spelled}
 
 module _ (kernel i : ImageOf Name) (keeps : AllKeepRuns kernel)
     (takes_back : (v : ImageOf Name) (c : CommandOf Name) → IsSound kernel v → first_false text_asked v c ≡ None → TakesBack (names_in v) (renaming_of v c) (inverse (renaming_of v c)))
