@@ -90,7 +90,7 @@ pub fn counts_no_more_doits_than_bytes()
         IsImageOf dialect prelude text image → length image.doits ≤ length text }
 {}
 
-/// Where one image can be made of another, the change file behind any text of the first is read, and makes the second, in its
+/// If one image can be made of another, the change file after any text of the first is read, and makes the second, in its
 /// order. The kernel has `Object`, and there are fewer than 1,000,000,000 do-its.
 pub fn makes_the_other_by_text()
     ensures { (prelude text : Text) (kernel i j : ImageOf Text) → CanBeMade kernel i j → HasRoot kernel → length j.doits < 10 ^ 9 →
@@ -100,9 +100,9 @@ pub fn makes_the_other_by_text()
     law_changes_make();
 }
 
-/// Behind each text that is read behind the kernel, and that has fewer than 1,000,000,000 bytes, the change file is read, and
-/// makes the second image. It is chunks to its end: a blank one, the one that settles places, and such as are blank or name
-/// only what differs. And it is empty exactly if nothing differs.
+/// After each text of fewer than 1,000,000,000 bytes that is read as an image over the program's kernel, the change file to
+/// another image is read, and makes that image. It has no chunk, or it is chunks to its end: a blank one, the one that settles
+/// places, and then such as are blank or name only what differs. It is empty exactly if nothing differs.
 pub fn law_changed_texts()
     ensures makes { (text : Text) (kernel i j : ImageOf Text) → IsKernelOf Second prelude_text kernel → IsImageOf Second prelude_text text i → length text < 10 ^ 9 →
         IsOtherOf kernel i j → IsImageOf Second prelude_text (text ++ change_text i j) j }

@@ -1,4 +1,4 @@
-//! The text of a change file, behind any text of the first image, is read as the edits that it states, makes the second
+//! The text of a change file, after any text of the first image, is read as the edits that it states, makes the second
 //! image and names only what differs. No program text runs here.
 #![tactic(auto)]
 
