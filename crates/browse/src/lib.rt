@@ -7,7 +7,6 @@ mod demo;
 mod loading;
 mod run;
 mod send;
-mod team;
 mod top;
 
 pub use image_forms::Status;

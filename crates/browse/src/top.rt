@@ -11,11 +11,10 @@ use crate::changes::changes;
 use crate::demo::demo;
 use crate::run::run;
 use crate::send::send;
-use crate::team::team;
 use apply_model::has_one_answer_in_image;
 use changes_model::has_one_change_in_image;
 use command_words::{Words, words_of};
-use image_forms::{Status, find, format, help, rewrite, search, strip, usage, version};
+use image_forms::{Status, find, format, help, rewrite, search, strip, unbuilt, usage, version};
 use rb_base::{Memory, Shelf, Sink, SinkError, Text};
 use rewrite_model::{has_one_list_of_lines, has_one_pattern, has_one_rule};
 use script_model::has_one_reading;
@@ -35,7 +34,6 @@ fn answer<F: Shelf>(
     match words_of(words) {
         Words::Apply { image, script } => apply(alloc, shelf, image, script, out),
         Words::Changes { image, script } => changes(alloc, shelf, image, script, out),
-        Words::Team { image, log } => team(alloc, shelf, image, log, out),
         Words::Format { image } => format(alloc, shelf, image, out),
         Words::Run {
             image,
@@ -57,6 +55,7 @@ fn answer<F: Shelf>(
         Words::Help => help(out),
         Words::Version => version(out),
         Words::Demo { number } => demo(alloc, number, out),
+        Words::Team { .. } => unbuilt(out),
         Words::NoForm => usage(out),
     }
 }
@@ -109,7 +108,6 @@ pub fn has_one_answer()
     apply_model::has_one_answer();
     has_one_answer_in_image();
     has_one_change_in_image();
-    play_model::has_one_answer();
     has_one_reading();
     has_one_pattern();
     has_one_rule();
