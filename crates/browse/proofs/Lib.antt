@@ -1,5 +1,5 @@
 pub mod Outcomes
-pub mod Loading
+pub mod FilesLoaded
 pub mod OneAnswer
 pub mod NoWrite
 pub mod Shown

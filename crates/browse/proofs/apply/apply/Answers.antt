@@ -1,7 +1,7 @@
 use Rattle.std.proofs.Common.{arith}
 use Rattle.std.proofs.lemmas.Result.{IfOk-weaker}
 use Rattle.image_forms.specs.Loads.{Given, Refused}
-use Rattle.browse.proofs.Loading.{Refuses-within}
+use Rattle.browse.proofs.FilesLoaded.{Refuses-within}
 use Rattle.browse.proofs.apply.apply.Goals as goal
 
 pub returns-in-Err-2-clause-answered : goal.returns-in-Err-2-clause-answered
