@@ -6,15 +6,17 @@ ghost use Rattle.image_forms.specs.Loads.{world};
 ghost use Rattle.image_forms.specs.Answers.{AnswersForm, Applies, status_applied};
 ghost use Rattle.image_forms.specs.declared.status.Status.{Status};
 
-use crate::loading::load_both;
 use applied_scripts::apply_script;
 use apply_model::Status as Verdict;
 use file_faults::ImageFault;
 use file_reading::read_image;
-use image_forms::{Status, push_image_refusal};
+use image_forms::{IMAGE_LIMIT, Status, load, push_image_refusal};
 use rb_base::{Memory, Shelf, Text};
 use std::alloc::Global;
 use std::mem::forget;
+
+/// The most bytes of a script.
+pub(crate) const SCRIPT_LIMIT: u32 = 1048576;
 
 /// How a call ends whose files are answered so.
 pub(crate) fn status_of(verdict: Verdict) -> Status
@@ -60,8 +62,13 @@ pub fn apply<F: Shelf>(
     ensures answered { IfOk result (λ status. AnswersForm (world F.told F.faults F.taken shelf.old shelf.new) (Apply image.now script.now) status out.new) }
     ensures same { F.told shelf.new ≡ F.told shelf.old }
 {
-    match load_both(alloc, shelf, image, script, out)? {
-        Ok((text, commands)) => apply_texts(alloc, text.as_slice(), commands.as_slice(), out),
-        Err(status) => Ok(status),
-    }
+    let image = match load(alloc, shelf, image, IMAGE_LIMIT, out)? {
+        Ok(bytes) => bytes,
+        Err(status) => return Ok(status),
+    };
+    let script = match load(alloc, shelf, script, SCRIPT_LIMIT, out)? {
+        Ok(bytes) => bytes,
+        Err(status) => return Ok(status),
+    };
+    apply_texts(alloc, image.as_slice(), script.as_slice(), out)
 }

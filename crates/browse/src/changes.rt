@@ -9,13 +9,12 @@ ghost use Rattle.command_words.specs.Forms.{Changes};
 ghost use Rattle.image_forms.specs.Loads.{world};
 ghost use Rattle.image_forms.specs.Answers.{AnswersForm, WritesChanges};
 
-use crate::apply::status_of;
-use crate::loading::load_both;
+use crate::apply::{SCRIPT_LIMIT, status_of};
 use changed_scripts::change_script;
 use class_table::Image;
 use file_faults::ImageFault;
 use file_reading::read_image;
-use image_forms::{Status, push_image_refusal};
+use image_forms::{IMAGE_LIMIT, Status, load, push_image_refusal};
 use rb_base::{Memory, Shelf, Text};
 use std::alloc::Global;
 use std::mem::forget;
@@ -71,8 +70,13 @@ pub fn changes<F: Shelf>(
     ensures answered { IfOk result (λ status. AnswersForm (world F.told F.faults F.taken shelf.old shelf.new) (Changes image.now script.now) status out.new) }
     ensures same { F.told shelf.new ≡ F.told shelf.old }
 {
-    match load_both(alloc, shelf, image, script, out)? {
-        Ok((text, commands)) => changes_texts(alloc, text.as_slice(), commands.as_slice(), out),
-        Err(status) => Ok(status),
-    }
+    let image = match load(alloc, shelf, image, IMAGE_LIMIT, out)? {
+        Ok(bytes) => bytes,
+        Err(status) => return Ok(status),
+    };
+    let script = match load(alloc, shelf, script, SCRIPT_LIMIT, out)? {
+        Ok(bytes) => bytes,
+        Err(status) => return Ok(status),
+    };
+    changes_texts(alloc, image.as_slice(), script.as_slice(), out)
 }

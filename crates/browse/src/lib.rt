@@ -4,7 +4,6 @@
 mod apply;
 mod changes;
 mod demo;
-mod loading;
 mod run;
 mod send;
 mod top;
