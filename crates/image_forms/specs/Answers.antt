@@ -5,6 +5,7 @@ use Rattle.apply_model.specs.declared.status.Status as applied
 use Rattle.apply_model.specs.declared.status.Status.TheVariants as verdict
 use Rattle.apply_model.specs.Applied as model
 use Rattle.changes_model.specs.Changes as change
+use Rattle.play_model.specs.Played as play
 use Rattle.image_forms.specs.declared.status.Status.{Status}
 use Rattle.image_forms.specs.declared.status.Status.TheVariants as status
 use Rattle.token_model.specs.declared.kind.Dialect.TheVariants.{Second}
@@ -35,7 +36,7 @@ use Rattle.image_maker.specs.Generated.{image_text, expression_text, script_text
 use Rattle.run_model.specs.Views.{run_text}
 use Rattle.strip_model.specs.Reach.{ReachOf, reach}
 use Rattle.strip_model.specs.Stripped.{certificate, strip}
-use Rattle.command_words.specs.Forms.{Form, Apply, Changes, Format, Run, Find, Strip, Search, Rewrite, Demo, Team, Help, Version, NoForm, form_of}
+use Rattle.command_words.specs.Forms.{Form, Apply, Changes, Team, Format, Run, Find, Strip, Search, Rewrite, Demo, Help, Version, NoForm, form_of}
 use Rattle.image_forms.specs.Loads.{World, Loads, line}
 use Rattle.image_forms.specs.ImageLines.{image_refusal, expression_refusal, text_refusal}
 
@@ -47,15 +48,12 @@ image_limit = 4194304
 abbrev pub script_limit : ℕ
 script_limit = 1048576
 
-abbrev pub unbuilt : List ℕ
-unbuilt = line (codes "unbuilt")
-
 abbrev pub usage : List ℕ
 usage = line (codes "usage: browse COMMAND ARGUMENTS")
 
 -- the forms as they are typed, each with what it does
 abbrev pub help_forms : List ℕ
-help_forms = codes "usage: browse COMMAND ARGUMENTS\napply IMAGE SCRIPT: prints the file-out IMAGE as the commands of SCRIPT change it\nchanges IMAGE SCRIPT: prints what to file in after IMAGE to have it as the commands of SCRIPT change it\nrun IMAGE EXPRESSION [BUDGET]: runs the do-its of IMAGE and then EXPRESSION, for at most BUDGET ticks\nfind IMAGE KIND NAME: lists what sends or implements a selector, or means a class or a variable\nformat IMAGE: prints IMAGE with each source in canonical text\nstrip IMAGE EXPRESSION [sets]: prints IMAGE without what its do-its and EXPRESSION cannot reach, or what they reach\nsearch IMAGE PATTERN: lists the nodes that PATTERN matches\nrewrite IMAGE PATTERN REPLACEMENT: prints IMAGE with each node that PATTERN matches replaced\ndemo NUMBER: makes an image of NUMBER classes, runs it, renames in it, and runs it again\n--help: prints these lines\n--version: prints the version of the program and of the logic that proves it"
+help_forms = codes "usage: browse COMMAND ARGUMENTS\napply IMAGE SCRIPT: prints the file-out IMAGE as the commands of SCRIPT change it\nchanges IMAGE SCRIPT: prints what to file in after IMAGE to have it as the commands of SCRIPT change it\nteam IMAGE LOG: prints what the sessions of LOG are answered, and IMAGE as they change it\nrun IMAGE EXPRESSION [BUDGET]: runs the do-its of IMAGE and then EXPRESSION, for at most BUDGET ticks\nfind IMAGE KIND NAME: lists what sends or implements a selector, or means a class or a variable\nformat IMAGE: prints IMAGE with each source in canonical text\nstrip IMAGE EXPRESSION [sets]: prints IMAGE without what its do-its and EXPRESSION cannot reach, or what they reach\nsearch IMAGE PATTERN: lists the nodes that PATTERN matches\nrewrite IMAGE PATTERN REPLACEMENT: prints IMAGE with each node that PATTERN matches replaced\ndemo NUMBER: makes an image of NUMBER classes, runs it, renames in it, and runs it again\n--help: prints these lines\n--version: prints the version of the program and of the logic that proves it"
 
 -- the kinds of `find`, each with what it lists
 abbrev pub help_kinds : List ℕ
@@ -94,6 +92,12 @@ pub record Applies (text script : List ℕ) (s : Status) (sent : List ℕ) : Typ
 pub record WritesChanges (text script : List ℕ) (s : Status) (sent : List ℕ) : Type 0 where
   pub verdict : applied.Status
   pub changes : change.Changes image_refusal text script verdict sent
+  pub status : s ≡ status_applied verdict
+
+-- `team` answers these two texts with the status and the bytes
+pub record PlaysLog (text log : List ℕ) (s : Status) (sent : List ℕ) : Type 0 where
+  pub verdict : applied.Status
+  pub plays : play.Plays image_refusal text log verdict sent
   pub status : s ≡ status_applied verdict
 
 -- `format` answers this text with the status and the bytes
@@ -179,6 +183,7 @@ pub data DemosIn (classes : ℕ) (i : ImageOf (List ℕ)) (s : Status) (sent : L
 abbrev pub AnswersForm : World → Form → Status → List ℕ → Type 0
 AnswersForm w (Apply image script) s sent = Loads w image image_limit s sent (λ i. Loads w script script_limit s sent (λ c. Applies i c s sent))
 AnswersForm w (Changes image script) s sent = Loads w image image_limit s sent (λ i. Loads w script script_limit s sent (λ c. WritesChanges i c s sent))
+AnswersForm w (Team image log) s sent = Loads w image image_limit s sent (λ i. Loads w log script_limit s sent (λ l. PlaysLog i l s sent))
 AnswersForm w (Format image) s sent = Loads w image image_limit s sent (λ i. Formats i s sent)
 AnswersForm w (Run image expression budget) s sent = Loads w image image_limit s sent (λ i. Runs i expression budget s sent)
 AnswersForm w (Find image question) s sent = Loads w image image_limit s sent (λ i. Finds i question s sent)
@@ -188,7 +193,6 @@ AnswersForm w (Rewrite image pattern replacement) s sent = Loads w image image_l
 AnswersForm w (Demo number) s sent = OfImage (image_text number) s sent (λ i. DemosIn number i s sent)
 AnswersForm w Help s sent = (s ≡ status.Done) × (sent ≡ help)
 AnswersForm w Version s sent = (s ≡ status.Done) × (sent ≡ version)
-AnswersForm w (Team image log) s sent = (s ≡ status.Unbuilt) × (sent ≡ unbuilt)
 AnswersForm w NoForm s sent = (s ≡ status.Usage) × (sent ≡ usage)
 
 -- the words are answered with the status and the bytes

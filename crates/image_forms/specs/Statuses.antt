@@ -1,7 +1,7 @@
 -- The numbers of the statuses.
 use Rattle.std.specs.Prelude.{ℕ}
 use Rattle.image_forms.specs.declared.status.Status.{Status}
-use Rattle.image_forms.specs.declared.status.Status.TheVariants.{Done, Condition, Usage, ImageText, ScriptText, Read, Write, Memory, TooLarge, RunError, Spent, Unbuilt}
+use Rattle.image_forms.specs.declared.status.Status.TheVariants.{Done, Condition, Usage, ImageText, ScriptText, Read, Write, Memory, TooLarge, RunError, Spent}
 
 -- with which number a process ends that ended so
 abbrev pub number_of : Status → ℕ
@@ -16,4 +16,3 @@ number_of Memory = 7
 number_of TooLarge = 8
 number_of RunError = 9
 number_of Spent = 10
-number_of Unbuilt = 11

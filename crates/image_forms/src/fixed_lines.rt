@@ -1,7 +1,7 @@
 // What the program says of itself, and of words that it cannot answer.
 ghost use Rattle.std.specs.Prelude.{◌≡◌, [], IfOk, OnOk};
 ghost use Rattle.image_forms.specs.declared.status.Status.{Status};
-ghost use Rattle.image_forms.specs.Answers.{help, version, usage, unbuilt};
+ghost use Rattle.image_forms.specs.Answers.{help, version, usage};
 
 use crate::loading::push_line;
 use crate::status::Status;
@@ -11,6 +11,7 @@ use rb_base::{Memory, Text};
 const FORMS: &str = "usage: browse COMMAND ARGUMENTS
 apply IMAGE SCRIPT: prints the file-out IMAGE as the commands of SCRIPT change it
 changes IMAGE SCRIPT: prints what to file in after IMAGE to have it as the commands of SCRIPT change it
+team IMAGE LOG: prints what the sessions of LOG are answered, and IMAGE as they change it
 run IMAGE EXPRESSION [BUDGET]: runs the do-its of IMAGE and then EXPRESSION, for at most BUDGET ticks
 find IMAGE KIND NAME: lists what sends or implements a selector, or means a class or a variable
 format IMAGE: prints IMAGE with each source in canonical text
@@ -103,14 +104,4 @@ pub fn usage(out: &mut Text) -> Result<Status, Memory>
 {
     push_line(out, "usage: browse COMMAND ARGUMENTS", b"")?;
     Ok(Status::Usage)
-}
-
-/// The answer to what is in no form that is built.
-pub fn unbuilt(out: &mut Text) -> Result<Status, Memory>
-    requires { out.old ≡ [] }
-    ensures status { IfOk result (λ status. status ≡ Status.Unbuilt) }
-    ensures text { OnOk result (out.new ≡ unbuilt) }
-{
-    push_line(out, "unbuilt", b"")?;
-    Ok(Status::Unbuilt)
 }

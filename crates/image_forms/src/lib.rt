@@ -13,7 +13,7 @@ mod status;
 mod stripping;
 
 pub use finding::find;
-pub use fixed_lines::{help, unbuilt, usage, version};
+pub use fixed_lines::{help, usage, version};
 pub use formatting::format;
 pub use image_lines::{push_expression_refusal, push_image_refusal, push_number};
 pub use loading::{IMAGE_LIMIT, load, push_line};

@@ -27,8 +27,6 @@ pub enum Status {
     RunError,
     /// 10: a run wanted a tick when none was left; the last line says how many it had.
     Spent,
-    /// 11: the words are in a form that is not built yet.
-    Unbuilt,
 }
 
 impl Status {
@@ -48,7 +46,6 @@ impl Status {
             Status::TooLarge => 8,
             Status::RunError => 9,
             Status::Spent => 10,
-            Status::Unbuilt => 11,
         }
     }
 }

@@ -10,6 +10,7 @@ use Rattle.commands.specs.Actions.{map_action}
 use Rattle.commands.specs.Views.{action_of, IsKnownRequest}
 use Rattle.commands.specs.declared.command.Action.{Action}
 use Rattle.commands.specs.declared.command.Request.TheVariants as request
+use Rattle.proposals.specs.Proposed.{Proposed, IsNamed}
 use Rattle.script_model.specs.Commands.{Cause, BadArgument}
 use Rattle.log_model.specs.Events as log
 use Rattle.log_lang.specs.declared.event.Act.{Act}
@@ -26,14 +27,18 @@ IsKnownAction names a = IsKnownRequest names (request.Perform a)
 -- what a session does, over texts
 abbrev pub act_in : List (List ℕ) → Act → log.Act
 act_in names act.Begin = model.Begin
-act_in names (act.Propose a) = model.Propose (action_in names a)
+act_in names (act.Propose p) = model.Propose (action_in names p.action)
 act_in names act.Commit = model.Commit
 act_in names act.Undo = model.Undo
 act_in names act.Redo = model.Redo
 
+-- the names of what is proposed are among the first ones, as many as it says
+abbrev pub IsKnownProposal : List (List ℕ) → Proposed → Type 0
+IsKnownProposal names p = (p.names ≤ length names) × IsNamed p.names p.action
+
 abbrev pub IsKnownAct : List (List ℕ) → Act → Type 0
 IsKnownAct names act.Begin = Unit {0}
-IsKnownAct names (act.Propose a) = IsKnownAction names a
+IsKnownAct names (act.Propose p) = IsKnownProposal names p
 IsKnownAct names act.Commit = Unit {0}
 IsKnownAct names act.Undo = Unit {0}
 IsKnownAct names act.Redo = Unit {0}

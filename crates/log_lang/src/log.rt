@@ -11,6 +11,7 @@ ghost use Rattle.log_lang.specs.Shown.{act_in, IsKnownAct, IsKnownAction, event_
 use crate::event::{Act, Event};
 use command_words::number_of;
 use commands::{Action, Request};
+use proposals::Proposal;
 use rb_base::{Memory, Names};
 use script_lang::{
     ScriptFault, is_blank_line, is_skipped, lines_of, parse_script, same_text, split_word,
@@ -79,7 +80,7 @@ fn proposal(alloc: Global, text: &[u8], line: usize, names: &mut Names) -> Resul
 {
     match parse_script(alloc, text, names) {
         Ok(requests) => match only_action(requests) {
-            Some(action) => Ok(Act::Propose(action)),
+            Some(action) => Ok(Act::Propose(Proposal::new(action, names.len()))),
             None => Err(ScriptFault::BadArgument { line }),
         },
         Err(fault) => Err(at_line(fault, line)),

@@ -1,15 +1,25 @@
-use Rattle.std.proofs.Common.{List, ℕ, Err, refl, sym}
+use Rattle.std.proofs.Common.{◌≡◌, List, ℕ, length, Ok, Err, refl, sym, subst, arith}
 use Rattle.script_model.specs.Commands.{Cause, BadArgument}
 use Rattle.log_model.specs.Events.{IsPropose, ActSays, Proposes, ProposesWrong}
 use Rattle.script_lang.specs.Shown.{requests_in, fault_shown}
+use Rattle.proposals.specs.Proposed.{Proposed, IsNamed}
+use Rattle.log_lang.specs.declared.event.Act.TheVariants as act
+use Rattle.log_lang.specs.Shown.{act_in, IsKnownProposal}
 use Rattle.log_lang.proofs.Telling.{told-cause, told-elsewhere}
 use Rattle.log_lang.proofs.log.proposal.Goals as goal
 
 pub returns-in-Some-clause-said : goal.returns-in-Some-clause-said
-returns-in-Some-clause-said c = λ word is. Proposes (requests_in c.parse_script.new.names c.in-Ok.requests.items) is c.in-Ok.ensures.ok (sym (c.in-Some.ensures.said c.parse_script.new.names))
+returns-in-Some-clause-said c = λ word is.
+    subst (λ (p : Proposed). ActSays word c.args.text.now (Ok (act_in c.parse_script.new.names (act.Propose p)))) (sym c.new.ensures)
+    (Proposes (requests_in c.parse_script.new.names c.in-Ok.requests.items) is c.in-Ok.ensures.ok (sym (c.in-Some.ensures.said c.parse_script.new.names)))
+
+pub new-requires : goal.new-requires
+new-requires c = subst (λ (n : ℕ). IsNamed n c.in-Some.action) (sym c.len.ensures.len) (c.in-Some.ensures.known c.parse_script.new.names c.in-Ok.ensures.known)
 
 pub returns-in-Some-clause-known : goal.returns-in-Some-clause-known
-returns-in-Some-clause-known c = c.in-Some.ensures.known c.parse_script.new.names c.in-Ok.ensures.known
+returns-in-Some-clause-known c =
+    let known = subst (λ (n : ℕ). IsNamed n c.in-Some.action) (sym c.len.ensures.len) (c.in-Some.ensures.known c.parse_script.new.names c.in-Ok.ensures.known) in
+    subst (IsKnownProposal c.parse_script.new.names) (sym c.new.ensures) (omega (arith, c.len.ensures.len), known)
 
 pub returns-in-None-clause-fault : goal.returns-in-None-clause-fault
 returns-in-None-clause-fault c = λ n cause e.
