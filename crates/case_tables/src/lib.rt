@@ -1,4 +1,8 @@
-//! Tables of cases: calls of the program, each with its words, its files and the answer that is wanted.
+//! Tables of cases: calls of a program, each with its words, its files and the answer that is wanted. The cases of a table are run,
+//! and it is told which of them are answered otherwise than they say.
+//!
+//! Each case is run as soon as it is read, and a line is printed where its answer differs. A line tells how many cases agree. A
+//! table that is out of form is not read on: a last line tells the line that is wrong, and the cases before it were run.
 //!
 //! A table has lines of words parted by single blanks, and bytes. The bytes follow the line that gives their length, and a line
 //! feed behind them is not part of them. Numbers are decimal, without a sign or a leading zero, and at most 4294967295.
@@ -23,8 +27,10 @@
 
 mod case;
 mod fault;
+mod run;
 mod table;
 
 pub use case::{Case, Wanted};
 pub use fault::{Fault, TableFault};
+pub use run::{Difference, Program, run_table};
 pub use table::Table;
