@@ -10,13 +10,13 @@ use st_tree::Node;
 
 /// The text of an argument, and the arguments behind it.
 #[derive(Clone, Copy)]
-pub(crate) struct FirstText<'a> {
+pub struct FirstText<'a> {
     pub text: &'a [u8],
     pub others: &'a [Node],
 }
 
-/// The symbol with which the arguments begin.
-pub(crate) fn symbol_first(arguments: &[Node]) -> Option<FirstText<'_>>
+/// The symbol with which the arguments begin, if they begin with one. Takes no memory.
+pub fn symbol_first(arguments: &[Node]) -> Option<FirstText<'_>>
     ensures { (f : ℕ → List ℕ) → option_map (first_text f) result ≡ symbol_first (forms.arguments_of (map_trees f (trees_of arguments.now))) }
 {
     match arguments.split_first() {
@@ -28,8 +28,8 @@ pub(crate) fn symbol_first(arguments: &[Node]) -> Option<FirstText<'_>>
     }
 }
 
-/// The string with which the arguments begin.
-pub(crate) fn string_first(arguments: &[Node]) -> Option<FirstText<'_>>
+/// The string with which the arguments begin, if they begin with one. Takes no memory.
+pub fn string_first(arguments: &[Node]) -> Option<FirstText<'_>>
     ensures { (f : ℕ → List ℕ) → option_map (first_text f) result ≡ string_first (forms.arguments_of (map_trees f (trees_of arguments.now))) }
 {
     match arguments.split_first() {
@@ -54,8 +54,8 @@ pub(crate) fn numeral_first(arguments: &[Node]) -> Option<FirstText<'_>>
     }
 }
 
-/// The argument of a message that has one.
-pub(crate) fn one_argument(arguments: &[Node]) -> Argument<'_>
+/// The argument of a message that has one, and `Other` if it has none or more. Takes no memory.
+pub fn one_argument(arguments: &[Node]) -> Argument<'_>
     ensures { HasOneArgument arguments.now result }
 {
     match arguments.split_first() {

@@ -12,8 +12,10 @@ mod replacements;
 mod sent;
 mod words;
 
+pub use arguments::{FirstText, one_argument, string_first, symbol_first};
 pub use form::{ChunkForm, ClassDefinition};
 pub use messages::chunk_form;
 pub use numerals::place_in;
 pub use replacements::{Replacement, replacement_in};
-pub use words::{may_name, may_name_all, word_len};
+pub use sent::{Argument, Sent, sent_in, text_of};
+pub use words::{is_blank_string, may_name, may_name_all, same_text, word_len};

@@ -12,7 +12,7 @@ use st_tree::{Literal, LiteralKind, Node, NodeKind, Sequence, Statement};
 
 /// An argument of a message: a symbol, a string, a numeral, or anything else.
 #[derive(Clone, Copy)]
-pub(crate) enum Argument<'a> {
+pub enum Argument<'a> {
     Symbol(&'a [u8]),
     String(&'a [u8]),
     Numeral(&'a [u8]),
@@ -28,15 +28,15 @@ pub(crate) struct Receiver {
 
 /// A message to a name, or to the class side of a name.
 #[derive(Clone, Copy)]
-pub(crate) struct Sent<'a> {
+pub struct Sent<'a> {
     pub class: NameId,
     pub meta: bool,
     pub selector: NameId,
     pub arguments: &'a [Node],
 }
 
-/// The text of a number, and the empty text where the table has no such number.
-pub(crate) fn text_of(names: &Names, name: NameId) -> &[u8]
+/// The text of a number, and the empty text where the table has no such number. Takes no memory.
+pub fn text_of(names: &Names, name: NameId) -> &[u8]
     ensures { result.now ≡ name_at names.now name }
 {
     if name.0 < names.len() {
@@ -147,8 +147,8 @@ fn sent_in_statements<'a>(statements: &'a [Statement], names: &Names) -> Option<
     }
 }
 
-/// The message that a chunk is, where it has no temporaries and this one statement.
-pub(crate) fn sent_in<'a>(body: &'a Sequence, names: &Names) -> Option<Sent<'a>>
+/// The message that a chunk is, where it has no temporaries and this one statement. Takes no memory.
+pub fn sent_in<'a>(body: &'a Sequence, names: &Names) -> Option<Sent<'a>>
     ensures { option_map (sent_text names.now) result ≡ forms.sent_of (map_sequence (name_at names.now) (sequence_of body.now)) (map (name_at names.now) body.now.temporaries) }
 {
     if body.temporaries.is_empty() {

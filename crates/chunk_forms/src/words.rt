@@ -9,7 +9,7 @@ ghost use Rattle.text_model.specs.Literals as literal;
 ghost use Rattle.file_model.specs.Words as word;
 
 /// Whether both texts are the same.
-pub(crate) fn same_text(a: &[u8], b: &[u8]) -> bool
+pub fn same_text(a: &[u8], b: &[u8]) -> bool
     ensures { result ≡ text_eq a.now b.now }
 {
     a == b
@@ -121,7 +121,7 @@ pub fn may_name_all(text: &[u8]) -> bool
 }
 
 /// Whether a string holds nothing but blanks.
-pub(crate) fn is_blank_string(text: &[u8]) -> bool
+pub fn is_blank_string(text: &[u8]) -> bool
     ensures { result ≡ word.is_blank_string text.now }
 {
     text.iter().all(|byte| is_blank(*byte))
