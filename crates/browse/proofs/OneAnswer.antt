@@ -9,7 +9,7 @@ use Rattle.file_model.specs.Written.{file_of}
 use Rattle.file_model.proofs.OneImage.{one_image, one_refusal, no_image_where_refused}
 use Rattle.canonical_image.specs.Formatted.{formatted}
 use Rattle.image_forms.specs.declared.status.Status.{Status}
-use Rattle.command_words.specs.Forms.{Form, Apply, Changes, Format, Run, Find, Strip, Search, Rewrite, Demo, Team, Help, Version, NoForm, files_of, form_of}
+use Rattle.command_words.specs.Forms.{Form, Apply, Changes, Team, Format, Run, Find, Strip, Search, Rewrite, Demo, Help, Version, NoForm, files_of, form_of}
 use Rattle.image_forms.specs.Loads.{World, Loads, Given, Refused, Refuses, MayFail, IsTold, IsHonest}
 use Rattle.grammar_model.specs.Whole.{DoIt}
 use Rattle.grammar_model.proofs.Texts.{no_fault_DoIt, one_SpellsDoIt, one_HasFirstFault}
@@ -35,9 +35,10 @@ use Rattle.file_model.specs.Causes.{Refusal}
 use Rattle.apply_model.specs.declared.status.Status as applied
 use Rattle.apply_model.specs.declared.status.Status.TheVariants as verdict
 use Rattle.apply_model.specs.Applied as model
+use Rattle.play_model.specs.Played as play
 use Rattle.changes_model.specs.Changes as change
 use Rattle.image_forms.specs.ImageLines.{image_refusal, expression_refusal, text_refusal}
-use Rattle.image_forms.specs.Answers.{status_applied, Applies, WritesChanges, Formats, Formatted, Refused as Stopped, status_of, RunsIn, NoDoIt, Ran, Runs, NoImage, InImage, Finds, NoImageThere, Found, stripped_text, StripsIn, NoStart, Stripped, Strips, NoImageToStrip, StripsImage, OfImage, Unread, Read, SearchesIn, NoPattern, Matched, RewritesIn, NoRule, NoReplacement, Rewritten, summary, ChangesIn, Unchanged, Changed, DemosIn, NoExpression, Shown, AnswersForm, Answers, image_limit, script_limit}
+use Rattle.image_forms.specs.Answers.{status_applied, Applies, PlaysLog, WritesChanges, Formats, Formatted, Refused as Stopped, status_of, RunsIn, NoDoIt, Ran, Runs, NoImage, InImage, Finds, NoImageThere, Found, stripped_text, StripsIn, NoStart, Stripped, Strips, NoImageToStrip, StripsImage, OfImage, Unread, Read, SearchesIn, NoPattern, Matched, RewritesIn, NoRule, NoReplacement, Rewritten, summary, ChangesIn, Unchanged, Changed, DemosIn, NoExpression, Shown, AnswersForm, Answers, image_limit, script_limit}
 
 -- both answers are one
 abbrev pub SameAnswer : Status → Status → List ℕ → List ℕ → Type 0
@@ -160,6 +161,7 @@ pub record OnceLaws : Type 0 where
   pub applies : (image_line : Refusal → List ℕ) (text script : List ℕ) (v u : applied.Status) (x y : List ℕ) → model.Applies image_line text script v x → model.Applies image_line text script u y → (v ≡ u) × (x ≡ y)
   pub applies_in : (i : ImageOf (List ℕ)) (script : List ℕ) (v u : applied.Status) (x y : List ℕ) → model.AppliesIn i script v x → model.AppliesIn i script u y → (v ≡ u) × (x ≡ y)
   pub changes_in : (i : ImageOf (List ℕ)) (script : List ℕ) (v u : applied.Status) (x y : List ℕ) → change.ChangesIn i script v x → change.ChangesIn i script u y → (v ≡ u) × (x ≡ y)
+  pub plays : (image_line : Refusal → List ℕ) (text log : List ℕ) (v u : applied.Status) (x y : List ℕ) → play.Plays image_line text log v x → play.Plays image_line text log u y → (v ≡ u) × (x ≡ y)
   pub requests : (text : List ℕ) (rs qs : List Request) → Says text rs → Says text qs → rs ≡ qs
   pub pattern : (text : List ℕ) (p q : PatternOf (List ℕ)) → SaysPattern text p → SaysPattern text q → p ≡ q
   pub no_pattern : (text : List ℕ) (p : PatternOf (List ℕ)) (c : Cause) → SaysPattern text p → ¬ IsRefusedPattern text c
@@ -187,6 +189,11 @@ module _ (once : OnceLaws) where
   writes_one : (text script : List ℕ) (s t : Status) (x y : List ℕ) → WritesChanges text script s x → WritesChanges text script t y → SameAnswer s t x y
   writes_one text script s t x y a b =
       let same = change_one text script a.verdict b.verdict x y a.changes b.changes in
+      (a.status ∙ ap status_applied same.0 ∙ sym b.status, same.1)
+
+  plays_one : (text log : List ℕ) (s t : Status) (x y : List ℕ) → PlaysLog text log s x → PlaysLog text log t y → SameAnswer s t x y
+  plays_one text log s t x y a b =
+      let same = once.plays image_refusal text log a.verdict b.verdict x y a.plays b.plays in
       (a.status ∙ ap status_applied same.0 ∙ sym b.status, same.1)
 
   searches_one : (i : ImageOf (List ℕ)) (pattern : List ℕ) (s t : Status) (x y : List ℕ) → SearchesIn i pattern s x → SearchesIn i pattern t y → SameAnswer s t x y
@@ -253,6 +260,9 @@ module _ (once : OnceLaws) where
   form_one w (Changes image script) s t x y honest p q =
       loads_one w image image_limit s t x y _ _ honest.told.0 honest.fine
       (λ i p' q'. loads_one w script script_limit s t x y _ _ honest.told.1.0 honest.fine (λ c. writes_one i c s t x y) p' q') p q
+  form_one w (Team image log) s t x y honest p q =
+      loads_one w image image_limit s t x y _ _ honest.told.0 honest.fine
+      (λ i p' q'. loads_one w log script_limit s t x y _ _ honest.told.1.0 honest.fine (λ l. plays_one i l s t x y) p' q') p q
   form_one w (Format image) s t x y honest p q =
       loads_one w image image_limit s t x y _ _ honest.told.0 honest.fine (λ i. formats_one i s t x y) p q
   form_one w (Run image expression budget) s t x y honest p q =
@@ -268,7 +278,6 @@ module _ (once : OnceLaws) where
   form_one w (Demo number) s t x y honest p q = of_image_one (image_text number) s t x y _ _ (λ j. demos_one number j s t x y) p q
   form_one w Help s t x y honest p q = (p.0 ∙ sym q.0, p.1 ∙ sym q.1)
   form_one w Version s t x y honest p q = (p.0 ∙ sym q.0, p.1 ∙ sym q.1)
-  form_one w (Team image log) s t x y honest p q = (p.0 ∙ sym q.0, p.1 ∙ sym q.1)
   form_one w NoForm s t x y honest p q = (p.0 ∙ sym q.0, p.1 ∙ sym q.1)
 
   pub answers_one : (w : World) (words : List (List ℕ)) (s t : Status) (x y : List ℕ) → IsHonest w (files_of (form_of words)) → Answers w words s x → Answers w words t y → (s ≡ t) × (x ≡ y)

@@ -5,7 +5,7 @@ mod apply;
 mod changes;
 mod demo;
 mod run;
-mod send;
+mod team;
 mod top;
 
 pub use image_forms::Status;

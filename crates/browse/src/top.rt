@@ -1,6 +1,7 @@
 // The one call of the program.
 ghost use Rattle.std.specs.Prelude.{◌≡◌, ◌≢◌, ◌⊎◌, [], IfOk, List, ℕ, map, string_bytes};
 ghost use Rattle.rb_base.specs.Outside.{Rose, Sends, SendsPart};
+ghost use Rattle.pieces.specs.Puts.{PutsAll, PutsUntilFailed, PutsUntilWanted};
 ghost use Rattle.image_forms.specs.declared.status.Status.{Status};
 ghost use Rattle.command_words.specs.Forms.{form_of, files_of};
 ghost use Rattle.image_forms.specs.Loads.{World, world, IsHonest};
@@ -10,12 +11,13 @@ use crate::apply::apply;
 use crate::changes::changes;
 use crate::demo::demo;
 use crate::run::run;
-use crate::send::send;
+use crate::team::team;
 use apply_model::has_one_answer_in_image;
 use changes_model::has_one_change_in_image;
 use command_words::{Words, words_of};
-use image_forms::{Status, find, format, help, rewrite, search, strip, unbuilt, usage, version};
-use rb_base::{Memory, Shelf, Sink, SinkError, Text};
+use image_forms::{Status, find, format, help, rewrite, search, strip, usage, version};
+use pieces::{PutSink, send};
+use rb_base::{Memory, Shelf, SinkError, Text};
 use rewrite_model::{has_one_list_of_lines, has_one_pattern, has_one_rule};
 use script_model::has_one_reading;
 use std::alloc::Global;
@@ -34,6 +36,7 @@ fn answer<F: Shelf>(
     match words_of(words) {
         Words::Apply { image, script } => apply(alloc, shelf, image, script, out),
         Words::Changes { image, script } => changes(alloc, shelf, image, script, out),
+        Words::Team { image, log } => team(alloc, shelf, image, log, out),
         Words::Format { image } => format(alloc, shelf, image, out),
         Words::Run {
             image,
@@ -55,14 +58,13 @@ fn answer<F: Shelf>(
         Words::Help => help(out),
         Words::Version => version(out),
         Words::Demo { number } => demo(alloc, number, out),
-        Words::Team { .. } => unbuilt(out),
         Words::NoForm => usage(out),
     }
 }
 
 /// Does what the words say, with the files of `shelf`, and sends the answer to `out`: the whole of it is built before the first
 /// piece is sent, and no piece follows one that failed.
-pub fn browse<F: Shelf, K: Sink>(
+pub fn browse<F: Shelf, K: PutSink>(
     alloc: Global,
     words: &[String],
     shelf: &mut F,
@@ -71,21 +73,21 @@ pub fn browse<F: Shelf, K: Sink>(
     // Unless memory is wanting or the output fails, the status and what is sent answer the words.
     ensures answered { result ≢ Status.Memory → result ≢ Status.Write → (bytes : List ℕ) ×
         Answers (world F.told F.faults F.taken shelf.old shelf.new) (map string_bytes words.now) result bytes
-        × Sends bytes (K.sent out.old) (K.sent out.new) }
+        × Sends bytes (K.sent out.old) (K.sent out.new) × PutsAll bytes (K.puts out.old) (K.puts out.new) }
     // Where the outside tells of the files and no read fails, there is one answer, and it is that one.
     ensures exact { IsHonest (world F.told F.faults F.taken shelf.old shelf.new) (files_of (form_of (map string_bytes words.now))) →
         (status : Status) (bytes : List ℕ) →
         Answers (world F.told F.faults F.taken shelf.old shelf.new) (map string_bytes words.now) status bytes →
         result ≢ Status.Memory → result ≢ Status.Write → (result ≡ status) × Sends bytes (K.sent out.old) (K.sent out.new) }
-    // Where the output fails, a prefix of an answer was sent.
+    // Where the output fails, a prefix of an answer was sent, and the last put is the one that failed.
     ensures write { result ≡ Status.Write → (status : Status) × (bytes : List ℕ) ×
         Answers (world F.told F.faults F.taken shelf.old shelf.new) (map string_bytes words.now) status bytes
-        × SendsPart bytes (K.sent out.old) (K.sent out.new) }
+        × SendsPart bytes (K.sent out.old) (K.sent out.new) × PutsUntilFailed bytes (K.puts out.old) (K.puts out.new) }
     ensures write_cause { result ≡ Status.Write → Rose (K.faults out.old) (K.faults out.new) }
-    // Where memory is wanting, nothing was sent, or a prefix of an answer.
-    ensures memory { result ≡ Status.Memory → (K.sent out.new ≡ K.sent out.old) ⊎ ((status : Status) × (bytes : List ℕ) ×
+    // Where memory is wanting, no put was called and nothing sent, or a prefix of an answer was sent and no put failed but for memory.
+    ensures memory { result ≡ Status.Memory → ((K.sent out.new ≡ K.sent out.old) × (K.puts out.new ≡ K.puts out.old)) ⊎ ((status : Status) × (bytes : List ℕ) ×
         Answers (world F.told F.faults F.taken shelf.old shelf.new) (map string_bytes words.now) status bytes
-        × SendsPart bytes (K.sent out.old) (K.sent out.new)) }
+        × SendsPart bytes (K.sent out.old) (K.sent out.new) × PutsUntilWanted bytes (K.puts out.old) (K.puts out.new)) }
     ensures same { F.told shelf.new ≡ F.told shelf.old }
 {
     has_one_answer();
@@ -108,6 +110,7 @@ pub fn has_one_answer()
     apply_model::has_one_answer();
     has_one_answer_in_image();
     has_one_change_in_image();
+    play_model::has_one_answer();
     has_one_reading();
     has_one_pattern();
     has_one_rule();

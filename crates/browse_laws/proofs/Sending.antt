@@ -11,10 +11,12 @@ use Rattle.image_forms.specs.declared.status.Status.{Status}
 use Rattle.image_forms.specs.declared.status.Status.TheVariants as status
 use Rattle.image_forms.specs.Loads.{World, Loads, Given, Refused, Refuses}
 use Rattle.image_forms.specs.ImageLines.{image_refusal}
-use Rattle.image_forms.specs.Answers.{Applies, WritesChanges, status_applied, Answers, image_limit, script_limit}
+use Rattle.image_forms.specs.Answers.{Applies, WritesChanges, PlaysLog, status_applied, Answers, image_limit, script_limit}
 use Rattle.changes_model.specs.Changes as change
 use Rattle.changes_laws.specs.ChangeFiles.{IsChangeFile}
-use Rattle.browse_laws.specs.Given.{apply_words, changes_words, AreGiven}
+use Rattle.play_model.specs.Played as play
+use Rattle.play_laws.specs.Promised.{IsPlayedFile}
+use Rattle.browse_laws.specs.Given.{apply_words, changes_words, team_words, AreGiven}
 
 -- the status is that of both files loaded
 abbrev IsOfApply : Status → Type 0
@@ -70,3 +72,10 @@ pub changes-refused : ((line : ImageRefusal → List ℕ) (text script : List �
 changes-refused law w image script sent answers =
     given-of w image script sent status.Condition ((λ e. cc), (λ e. cc)) (λ text commands. WritesChanges text commands status.Condition sent) (λ text commands. IsRefusalOf text commands sent)
     (λ text commands short a. law image_refusal text commands a.verdict sent a.changes (condition-is a.verdict a.status)) answers
+
+-- and with `team`
+pub played : ((line : ImageRefusal → List ℕ) (text log : List ℕ) (v : applied.Status) (sent : List ℕ) → play.Plays line text log v sent → v ≡ verdict.Done → IsPlayedFile text log sent)
+    → (w : World) (image log sent : List ℕ) → Answers w (team_words image log) status.Done sent → AreGiven w image log (λ text events. IsPlayedFile text events sent)
+played law w image log sent answers =
+    given-of w image log sent status.Done ((λ e. cc), (λ e. cc)) (λ text events. PlaysLog text events status.Done sent) (λ text events. IsPlayedFile text events sent)
+    (λ text events short a. law image_refusal text events a.verdict sent a.plays (done-is a.verdict a.status)) answers

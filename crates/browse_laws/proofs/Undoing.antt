@@ -1,5 +1,6 @@
--- Texts of scripts that end with a command and an undo, or with an undo and a redo.
-use Rattle.std.proofs.Common.{◌≡◌, ℕ, List, [], ◌∷◌, ◌++◌, Ok, refl, sym, ap, ◌∙◌}
+-- Texts of scripts that end with commands and as many undos, or with undos and as many redos.
+use Rattle.std.proofs.Common.{◌≡◌, ℕ, List, ◌++◌, map, length, Ok, refl, sym, ap, ◌∙◌}
+use Rattle.std.specs.Prelude.{replicate}
 use Rattle.image_model.specs.Image.{ImageOf}
 use Rattle.file_model.specs.Written.{file_of}
 use Rattle.history_model.specs.Rules.{Perform, Undo, Redo}
@@ -50,10 +51,12 @@ module _ (says_once : SaysOnce) (text script longer sent : List ℕ) (requests m
   pub without-end : Applies text longer status.Done sent → Applies text script status.Done sent
   without-end a = record { verdict = verdict.Done; applies = in-texts a.verdict a.status a.applies; status = refl }
 
-pub without-undo : SaysOnce → (text script longer sent : List ℕ) (requests : List Request) (action : ActionOf (List ℕ)) → Says script requests → Says longer (requests ++ Perform action ∷ Undo ∷ []) →
-    Applies text longer status.Done sent → Applies text script status.Done sent
-without-undo once text script longer sent requests action says says_more = without-end once text script longer sent requests (Perform action ∷ Undo ∷ []) says says_more (λ i g. undo-end rules i requests action g)
+pub without-undos : SaysOnce → (text script longer sent : List ℕ) (requests : List Request) (actions : List (ActionOf (List ℕ))) → Says script requests →
+    Says longer (requests ++ (map (λ a. Perform a) actions ++ replicate (length actions) Undo)) → Applies text longer status.Done sent → Applies text script status.Done sent
+without-undos once text script longer sent requests actions says says_more =
+    without-end once text script longer sent requests (map (λ a. Perform a) actions ++ replicate (length actions) Undo) says says_more (λ i g. undo-end rules i requests actions g)
 
-pub without-redo : SaysOnce → (text script longer sent : List ℕ) (requests : List Request) → Says script requests → Says longer (requests ++ Undo ∷ Redo ∷ []) →
-    Applies text longer status.Done sent → Applies text script status.Done sent
-without-redo once text script longer sent requests says says_more = without-end once text script longer sent requests (Undo ∷ Redo ∷ []) says says_more (λ i g. redo-end rules i requests g)
+pub without-redos : SaysOnce → (text script longer sent : List ℕ) (requests : List Request) (n : ℕ) → Says script requests →
+    Says longer (requests ++ (replicate n Undo ++ replicate n Redo)) → Applies text longer status.Done sent → Applies text script status.Done sent
+without-redos once text script longer sent requests n says says_more =
+    without-end once text script longer sent requests (replicate n Undo ++ replicate n Redo) says says_more (λ i g. redo-end rules i requests n g)

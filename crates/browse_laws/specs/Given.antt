@@ -12,6 +12,10 @@ apply_words image script = codes "apply" ∷ image ∷ script ∷ []
 abbrev pub changes_words : List ℕ → List ℕ → List (List ℕ)
 changes_words image script = codes "changes" ∷ image ∷ script ∷ []
 
+-- `team IMAGE LOG`
+abbrev pub team_words : List ℕ → List ℕ → List (List ℕ)
+team_words image log = codes "team" ∷ image ∷ log ∷ []
+
 -- `strip IMAGE EXPRESSION`
 abbrev pub strip_words : List ℕ → List ℕ → List (List ℕ)
 strip_words image expression = codes "strip" ∷ image ∷ expression ∷ []

@@ -1,5 +1,5 @@
 // Laws of the program. Each function does nothing; its contract is the law.
-ghost use Rattle.std.specs.Prelude.{ℕ, List, [], ◌∷◌, ◌++◌};
+ghost use Rattle.std.specs.Prelude.{ℕ, List, ◌++◌, map, length, replicate};
 ghost use Rattle.history_model.specs.Rules.{Perform, Undo, Redo};
 ghost use Rattle.session_model.specs.Actions.{ActionOf};
 ghost use Rattle.session_model.specs.Scripts.{Request};
@@ -25,14 +25,14 @@ pub fn law_applied()
     apply_laws::law_applied();
 }
 
-/// A script that ends with a command and an `undo` sends what it sends without these two, byte for byte: the image is the one
-/// from before the command. So does a script that ends with an `undo` and a `redo`.
+/// A script that ends with commands and as many `undo` sends what it sends without these, byte for byte: the image is the one from
+/// before the commands. So does a script that ends with some `undo` and as many `redo`.
 pub fn law_undone()
-    ensures undo { (text script longer sent : List ℕ) (requests : List Request) (action : ActionOf (List ℕ)) →
-        Says script requests → Says longer (requests ++ Perform action ∷ Undo ∷ []) →
+    ensures undo { (text script longer sent : List ℕ) (requests : List Request) (actions : List (ActionOf (List ℕ))) →
+        Says script requests → Says longer (requests ++ (map (λ a. Perform a) actions ++ replicate (length actions) Undo)) →
         Applies text longer status.Done sent → Applies text script status.Done sent }
-    ensures redo { (text script longer sent : List ℕ) (requests : List Request) →
-        Says script requests → Says longer (requests ++ Undo ∷ Redo ∷ []) →
+    ensures redo { (text script longer sent : List ℕ) (requests : List Request) (n : ℕ) →
+        Says script requests → Says longer (requests ++ (replicate n Undo ++ replicate n Redo)) →
         Applies text longer status.Done sent → Applies text script status.Done sent }
 {
     script_model::has_one_reading();

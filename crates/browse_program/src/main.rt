@@ -1,7 +1,7 @@
 //! The program `browse`: its words, the files and the output of the system, and the status with which it ends.
 #![tactic(auto)]
 
-use browse::browse;
+use browse_promises::perform;
 use std::io::ErrorKind;
 use std::process::ExitCode;
 use std::{env, io};
@@ -40,7 +40,7 @@ fn main(rt: HostRuntime) -> ExitCode {
         Ok(words) => {
             let mut shelf = FileShelf::new(&rt, rt.alloc());
             let mut out = OutSink::new(io::writer(&rt));
-            let status = browse(rt.alloc(), words.as_slice(), &mut shelf, &mut out);
+            let status = perform(rt.alloc(), words.as_slice(), &mut shelf, &mut out);
             ExitCode::from(status.number())
         }
     }

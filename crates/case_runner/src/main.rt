@@ -1,26 +1,30 @@
-//! Runs the cases of a table, which is the standard input, and tells which of them are answered otherwise than they say.
-//! `case_tables` says what form a table has.
-//!
-//! Each case is run as soon as it is read, and a line is printed where its answer differs. The last line tells how many cases
-//! agree. A table that is out of form is not read on: its last line tells the line that is wrong, and the cases before it were run.
+//! Runs the cases of a table, which is the standard input, and tells which of them the program answers otherwise than they say.
+//! `case_tables` says what form a table has, and what is printed.
 #![tactic(auto)]
 
-mod run;
-
-use case_tables::Table;
-use run::run_cases;
+use browse::browse;
+use case_tables::{Program, run_table};
+use rb_base::{MemoryShelf, MemorySink};
+use std::alloc::Global;
 use std::io;
-use std::io::Read;
 use std::process::ExitCode;
 
-/// Ends with 0 where the table is in form and all its cases agree, and with 1 elsewhere.
-fn main(rt: HostRuntime) -> io::Result<ExitCode> {
-    let mut bytes = Vec::new(rt.alloc());
-    rt.reader().read_to_end(&mut bytes)?;
-    let mut table = Table::new(bytes.as_slice());
-    if run_cases(&rt, &mut table)? {
-        Ok(ExitCode::SUCCESS)
-    } else {
-        Ok(ExitCode::FAILURE)
+/// The program.
+#[derive(Drop)]
+struct Browse;
+
+impl Program for Browse {
+    fn call(
+        &mut self,
+        alloc: Global,
+        words: &[String],
+        shelf: &mut MemoryShelf,
+        sink: &mut MemorySink,
+    ) -> u8 {
+        browse(alloc, words, shelf, sink).number()
     }
+}
+
+fn main(rt: HostRuntime) -> io::Result<ExitCode> {
+    run_table(&rt, &mut Browse)
 }

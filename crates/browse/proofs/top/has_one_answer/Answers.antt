@@ -7,6 +7,7 @@ returns c =
       applies = c.has_one_answer.ensures;
       applies_in = c.has_one_answer_in_image.ensures;
       changes_in = c.has_one_change_in_image.ensures;
+      plays = c.has_one_answer-2.ensures;
       requests = c.has_one_reading.ensures.requests;
       pattern = c.has_one_pattern.ensures.one;
       no_pattern = c.has_one_pattern.ensures.refused;
