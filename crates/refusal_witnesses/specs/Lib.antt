@@ -1,0 +1,12 @@
+pub mod Witnesses
+pub mod NameWitnesses
+pub mod ClassWitnesses
+pub mod MethodWitnesses
+pub mod ParameterWitnesses
+pub mod PartWitnesses
+pub mod InlineWitnesses
+pub mod TemporaryWitnesses
+pub mod Refused
+pub mod Sentences
+pub mod Lines
+pub mod Spelled

@@ -1,0 +1,2 @@
+mod SpelledCode
+mod SomeAnswer

@@ -1,0 +1,5 @@
+pub mod Reasons
+pub mod Refusals
+pub mod Explained
+pub mod Why
+pub mod Spelled
