@@ -1,0 +1,4 @@
+pub mod FilledMapped
+pub mod TextSteps
+pub mod MarkTexts
+pub mod FreshTexts
