@@ -25,7 +25,3 @@ module _ (names also : List Text) (r : Rule) (has : Bool) (same : also ≡ names
       let there : Some b ≡ Some d.body = is ∙ ap (option_map (λ (x : DoIt). x.body)) e in
       let body : b ≡ d.body = cc in
       subst (λ (c : Sequence). HasNoMatch names r c) body (subst (λ (ns : List Text). HasNoMatch ns r b) same (none h))
-
--- the slot at a place of an order
-pub slot-at : (xs ys : List ℕ) (p k : ℕ) → ys ≡ xs → p < length xs → k ≡ get_or ys p k → slice_get xs p ≡ Some k
-slot-at xs ys p k same l is = slice_get-get_or xs p k l ∙ ap (λ (j : ℕ). Some j) (sym (is ∙ ap (λ (zs : List ℕ). get_or zs p k) same))

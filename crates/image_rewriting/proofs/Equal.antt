@@ -22,11 +22,7 @@ use Rattle.class_table.proofs.Live.{there}
 use Rattle.pattern_match.proofs.Told.{one_test}
 use Rattle.rewrite_model.specs.Notes.{statement_notes, block_notes, all_notes, same_notes, equal_sequence, equal_method}
 use Rattle.image_rewriting.specs.Equal.{AreEqual}
-
--- the first place of a text
-abbrev place_of : List Text → Text → ℕ
-place_of [] t = 0
-place_of (x ∷ xs) t = if text_eq t x then 0 else suc (place_of xs t)
+use Rattle.image_rewriting.specs.Planned.{place_of}
 
 once-behind : (x : Text) (xs : List Text) → HasNoTwice (x ∷ xs) → HasNoTwice xs
 once-behind x xs h i j l e = let same : suc i ≡ suc j = h (suc i) (suc j) (omega (arith, l)) e in omega (arith, same)
@@ -98,7 +94,7 @@ placed-notes [] = refl
 placed-notes (e ∷ es) = ap (λ (ns : List Notes). block_notes e.1 ++ ns) (placed-notes es)
 
 module _ (names : List Text) (once : HasNoTwice names) where
-  back : (b : SequenceOf ℕ) → SequenceNames (λ n. n < length names) b → map_sequence (place_of names) (map_sequence (name_at names) b) ≡ b
+  pub back : (b : SequenceOf ℕ) → SequenceNames (λ n. n < length names) b → map_sequence (place_of names) (map_sequence (name_at names) b) ≡ b
   back b known =
       map_sequence-map_sequence (place_of names) (name_at names) b
       ∙ map_sequence-same (λ n. place_of names (name_at names n)) (λ n. n) b (SequenceNames-implies (λ n. n < length names) (λ n. place_of names (name_at names n) ≡ n) (found names once) b known)

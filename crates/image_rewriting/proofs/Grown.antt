@@ -9,10 +9,7 @@ use Rattle.class_table.specs.Slots.{Slots}
 use Rattle.class_table.specs.View.{number_image, image_of}
 use Rattle.class_table.specs.Valid.{IsOrderly}
 use Rattle.class_table.proofs.Found.{image_of-grown}
-
--- the slots with other names
-abbrev pub renamed : Slots → List Text → Slots
-renamed s names = record s { names = names }
+use Rattle.image_rewriting.specs.Planned.{renamed}
 
 -- more names are known
 pub longer : (names later : List Text) → Grows names later → (n : ℕ) → n < length names → n < length later

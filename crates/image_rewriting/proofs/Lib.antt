@@ -4,6 +4,7 @@ pub mod SameRule
 pub mod Lists
 pub mod Entries
 pub mod Copies
-pub mod Images
-pub mod DoIts
-pub mod Walks
+pub mod Found
+pub mod Taken
+pub mod Places
+pub mod Effects

@@ -65,35 +65,3 @@ IsCopy names r o (Some c) = (m : MethodRec) × (o ≡ Some m) × (m.kernel ≡ f
 abbrev pub IsBodyCopy : List Text → Rule → Option DoIt → Option Sequence → Type 0
 IsBodyCopy names r o None = ForSome o (λ (d : DoIt). HasNoMatch names r d.body)
 IsBodyCopy names r o (Some b) = (d : DoIt) × (o ≡ Some d) × (b ≡ d.body)
-
--- the list with the first items changed
-abbrev pub first_changed : {X : Type 0} → (X → X) → ℕ → List X → List X
-first_changed f zero xs = xs
-first_changed f (suc n) [] = []
-first_changed f (suc n) (x ∷ xs) = f x ∷ first_changed f n xs
-
--- the image with the method at a place changed, with the first methods changed, and with all
-abbrev pub method_changed : (EntryOf Text → EntryOf Text) → ℕ → ImageOf Text → ImageOf Text
-method_changed f p i = record i { methods = changed_at f i.methods p }
-
-abbrev pub methods_changed : (EntryOf Text → EntryOf Text) → ℕ → ImageOf Text → ImageOf Text
-methods_changed f p i = record i { methods = first_changed f p i.methods }
-
-abbrev pub each_method : (EntryOf Text → EntryOf Text) → ImageOf Text → ImageOf Text
-each_method f i = record i { methods = map f i.methods }
-
--- the same for do-its
-abbrev pub doit_changed : (DoItOf Text → DoItOf Text) → ℕ → ImageOf Text → ImageOf Text
-doit_changed f n i = record i { doits = changed_at f i.doits n }
-
-abbrev pub doits_changed : (DoItOf Text → DoItOf Text) → ℕ → ImageOf Text → ImageOf Text
-doits_changed f n i = record i { doits = first_changed f n i.doits }
-
-abbrev pub each_doit : (DoItOf Text → DoItOf Text) → ImageOf Text → ImageOf Text
-each_doit f i = record i { doits = map f i.doits }
-
--- the slots are orderly still, with further names at most, and show this image
-pub record Shows (s t : Slots) (i : ImageOf Text) : Type 0 where
-  pub orderly : IsOrderly t
-  pub grows : Grows s.names t.names
-  pub image : image_of t ≡ i

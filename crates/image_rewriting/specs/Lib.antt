@@ -1,2 +1,3 @@
 pub mod Equal
 pub mod Changed
+pub mod Planned

@@ -1,5 +1,5 @@
 // Copies of code in which a pattern matches, and what a rule makes of them.
-ghost use Rattle.std.specs.Prelude.{◌≡◌, ◌<◌, length, slice_get, false, IfOk, OnOk};
+ghost use Rattle.std.specs.Prelude.{◌≡◌, ◌<◌, length, slice_get, false, IfOk};
 ghost use Rattle.rb_base.specs.Names.{HasNoTwice};
 ghost use Rattle.tree_model.specs.AllNames.{SequenceNames};
 ghost use Rattle.st_tree.specs.View.{sequence_of};
@@ -86,13 +86,14 @@ pub(crate) fn changed_body(
 ) -> Result<Option<Sequence>, Memory>
     requires rule { KnowsRule image.old.names rule.now }
     requires body { SequenceNames (λ n. n < length image.old.names) (sequence_of body.now) }
-    ensures rest { OnOk result (image.new ≡ record image.old { names = image.new.names }) }
-    ensures grows { OnOk result (Grows image.old.names image.new.names) }
-    ensures once { OnOk result (HasNoTwice image.new.names) }
+    ensures rest { image.new ≡ record image.old { names = image.new.names } }
+    ensures grows { Grows image.old.names image.new.names }
+    ensures once { HasNoTwice image.new.names }
     ensures made { IfOk result (λ changed. Becomes image.new.names rule.now body.now changed) }
 {
-    let changed = rewrite_body(alloc, image.names_mut(), rule, body)?;
+    let changed = rewrite_body(alloc, image.names_mut(), rule, body);
     let _count = image.names().len();
+    let changed = changed?;
     if equal_bodies(alloc, body, &changed)? {
         return Ok(None);
     }

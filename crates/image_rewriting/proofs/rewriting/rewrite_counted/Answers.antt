@@ -1,20 +1,17 @@
-use Rattle.std.proofs.lemmas.Result.{on_ok_weaker}
-use Rattle.image_rewriting.proofs.SameRule.{still-known}
-use Rattle.image_rewriting.proofs.Walks.{whole-image}
+use Rattle.std.proofs.Common.{sym, subst}
+use Rattle.class_table.specs.Valid.{IsOrderly}
+use Rattle.image_rewriting.specs.Changed.{rule_of}
+use Rattle.image_rewriting.proofs.Effects.{applied-image}
 use Rattle.image_rewriting.proofs.rewriting.rewrite_counted.Goals as goal
 
-pub rewrite_doits-requires-clause-orderly : goal.rewrite_doits-requires-clause-orderly
-rewrite_doits-requires-clause-orderly g c = c.in_ok-rewrite_methods.ensures.orderly
-
-pub rewrite_doits-requires-clause-rule : goal.rewrite_doits-requires-clause-rule
-rewrite_doits-requires-clause-rule g c =
-    still-known c.args.image.now.names c.rewrite_methods.new.image.names c.args.rule.now c.in_ok-rewrite_methods.ensures.grows c.requires.rule
+pub apply_all-requires : goal.apply_all-requires
+apply_all-requires g c = c.in_ok-plan.ensures.plan.can
 
 pub returns-clause-image : goal.returns-clause-image
 returns-clause-image g c =
-    on_ok_weaker c.rewrite_doits.result
-    (λ b. whole-image c.args.image.now c.rewrite_methods.new.image c.rewrite_doits.new.image c.args.rule.now c.requires.rule c.in_ok-rewrite_methods.ensures b)
-    c.rewrite_doits.ensures
+    let s = c.args.image.now in
+    applied-image s c.plan_rule.new.image c.apply_all.new.image (rule_of s.names c.args.rule.now) c.in_ok-plan.plan.changes c.in_ok-plan.plan.touched.items c.requires.orderly c.plan_rule.ensures.rest c.plan_rule.ensures.grows c.in_ok-plan.ensures.plan
+    c.apply_all.ensures.image
 
 pub returns-clause-orderly : goal.returns-clause-orderly
-returns-clause-orderly g c = on_ok_weaker c.rewrite_doits.result (λ b. b.orderly) c.rewrite_doits.ensures
+returns-clause-orderly g c = subst IsOrderly (sym c.apply_all.ensures.image) c.in_ok-plan.ensures.plan.orderly
