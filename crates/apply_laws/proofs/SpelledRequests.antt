@@ -13,18 +13,24 @@ use Rattle.grammar_model.specs.Spelling.{SpellsDoItAt}
 use Rattle.text_model.specs.Literals.{is_identifier}
 use Rattle.image_model.specs.ImageNames.{OptionNames}
 use Rattle.image_model.proofs.Lists.{find-all}
-use Rattle.history_model.specs.Rules.{Asks}
+use Rattle.history_model.specs.Rules.{Perform, Undo, Redo, Asks}
 use Rattle.file_model.specs.Fileable.{MayStand}
 use Rattle.kept_runs.specs.WellSpelled.{IsWellSpelledAction}
 use Rattle.command_model.specs.Commands.{AddMethod, AddParameter}
 use Rattle.session_model.specs.Scripts.{Request}
+use Rattle.rewrite_model.specs.Saying.{SaysRule}
+use Rattle.rule_model.specs.RuleCommands.{RuleCommand}
+use Rattle.rule_model.specs.RuleLines.{RuleLineSays, Asks as AsksRule, AsksNot}
+use Rattle.rule_laws.specs.KeptRules.{IsSpelledRule}
+use Rattle.ruled_model.specs.RuledScripts.{Line, Applies, as_line}
+use Rattle.ruled_laws.specs.SpelledRequests.{IsSpelledAsked}
 use Rattle.script_model.specs.Lines.{words_of, lines_of, spoken}
 use Rattle.script_model.specs.Arguments.{Argument, name, side, number, side_of, arguments_of}
 use Rattle.script_model.specs.Makers.{Text, Maker, single, of_none, of_one, of_two, of_three, names_in, of_classes, of_parameter, of_method, of_local, of_local_to, of_part, of_part_to}
-use Rattle.script_model.specs.Commands.{Row, Cause, BadArgument, table, no_command, said_by_row, said_by}
+use Rattle.script_model.specs.Commands.{Row, Cause, BadArgument, UnknownCommand, table, said_by_row, said_by}
 use Rattle.script_model.specs.Additions.{first_word, behind_word, Addition, addition, addition_of, Spelled, Incomplete, Faulty}
 use Rattle.script_model.specs.Parameters.{Parameter, literal_in, passing, Read, Wordless, Unreadable}
-use Rattle.script_model.specs.Scripts.{LineSays, InWords, InText, InLiteral, EachSays, Says}
+use Rattle.script_model.specs.Scripts.{CommandSays, InWords, InText, InLiteral, command_answer, rule_answer, LineSays, OfCommand, OfRule, EachSays, Says}
 use Rattle.apply_laws.proofs.SpelledLiterals.{literal-spelled}
 
 -- a request whose commands are well spelled
@@ -144,16 +150,16 @@ made-fit m h (Some arguments) r e = by (m arguments) refl e
     by (Some q) made said = let same : q ≡ r = cc in h arguments r (made ∙ ap Some same)
 
 -- what a row asks for
-found-fit : (w : Text) (ws : List Text) (o : Option Row) (r : Request) → OptionNames (λ (x : Row). MakesFit x.makes) o →
-    option_map_or (said_by_row ws) o (Err (no_command w)) ≡ Ok r → IsFit r
-found-fit w ws None r h e = absurd (cc)
-found-fit w ws (Some x) r h e = made-fit x.makes h (arguments_of x.form ws) r e
+found-fit : (ws : List Text) (o : Option Row) (r : Request) → OptionNames (λ (x : Row). MakesFit x.makes) o →
+    option_map_or (said_by_row ws) o (Err UnknownCommand) ≡ Ok r → IsFit r
+found-fit ws None r h e = absurd (cc)
+found-fit ws (Some x) r h e = made-fit x.makes h (arguments_of x.form ws) r e
 
 -- what words ask for
 words-fit : (words : List Text) (r : Request) → said_by words ≡ Ok r → IsFit r
 words-fit [] r e = absurd (cc)
 words-fit (w ∷ ws) r e =
-    found-fit w ws (find (λ (x : Row). text_eq w x.word) table) r
+    found-fit ws (find (λ (x : Row). text_eq w x.word) table) r
     (find-all (λ (x : Row). MakesFit x.makes) (λ (x : Row). text_eq w x.word) table all-fit) e
 
 -- the text of an addition is there, and begins with no blank
@@ -196,25 +202,47 @@ parameter-fit p tree r spells (Some l) is e =
     let same : single (AddParameter p.selector p.to p.name l) ≡ r = cc in
     subst IsFit same (literal-spelled p.passed tree l spells is, tt, tt)
 
--- what a line asks for
-line-fit : (line : Text) (r : Request) → LineSays line (Ok r) → IsFit r
-line-fit line r (InWords plain too answer) = words-fit (words_of line) r (sym answer)
-line-fit line r (InText adds (Spelled a tree is spells answer)) =
+-- what a line of a command asks for
+command-fit : (line : Text) (r : Request) → CommandSays line (Ok r) → IsFit r
+command-fit line r (InWords plain too answer) = words-fit (words_of line) r (sym answer)
+command-fit line r (InText adds (Spelled a tree is spells answer)) =
     let same : single (AddMethod a.class a.meta a.protocol a.text tree) ≡ r = cc in
     subst IsFit same (spells, may-stand (behind_word line) a is, tt)
-line-fit line r (InText adds (Incomplete none answer)) = absurd (cc)
-line-fit line r (InText adds (Faulty a fault is wrong answer)) = absurd (cc)
-line-fit line r (InLiteral adds (Read p tree is spells answer)) = parameter-fit p tree r spells (literal_in p.passed tree) refl (sym answer)
-line-fit line r (InLiteral adds (Wordless none answer)) = absurd (cc)
-line-fit line r (InLiteral adds (Unreadable p fault is wrong answer)) = absurd (cc)
+command-fit line r (InText adds (Incomplete none answer)) = absurd (cc)
+command-fit line r (InText adds (Faulty a fault is wrong answer)) = absurd (cc)
+command-fit line r (InLiteral adds (Read p tree is spells answer)) = parameter-fit p tree r spells (literal_in p.passed tree) refl (sym answer)
+command-fit line r (InLiteral adds (Wordless none answer)) = absurd (cc)
+command-fit line r (InLiteral adds (Unreadable p fault is wrong answer)) = absurd (cc)
 
--- what lines ask for
-lines-fit : (lines : List Text) (requests : List Request) → EachSays lines requests → AllByRecursion (Asks IsWellSpelledAction) requests
-lines-fit [] [] each = tt
-lines-fit [] (r ∷ rs) each = absurd each
-lines-fit (l ∷ ls) [] each = absurd each
-lines-fit (l ∷ ls) (r ∷ rs) each = (line-fit l r each.0, lines-fit ls rs each.1)
+-- what a line asks for, rules among it
+abbrev IsSpelled : Line → Type 0
+IsSpelled asked = Asks IsSpelledAsked asked
 
--- what a script asks for, whatever its commands are
-pub requests-spelled : (script : Text) (requests : List Request) → Says script requests → AllByRecursion (Asks IsWellSpelledAction) requests
-requests-spelled script requests says = lines-fit (spoken (lines_of script)) requests says.each
+as-line : (r : Request) → IsFit r → IsSpelled (as_line r)
+as-line (Perform x) fit = fit
+as-line Undo fit = tt
+as-line Redo fit = tt
+
+command-spelled : (line : Text) (said : Result Request Cause) (asked : Line) → CommandSays line said → command_answer said ≡ Ok asked → IsSpelled asked
+command-spelled line (Ok r) asked says e = let same : as_line r ≡ asked = cc in subst IsSpelled same (as-line r (command-fit line r says))
+command-spelled line (Err cause) asked says e = absurd (cc)
+
+module _ (said-rule : (first second : Text) (c : RuleCommand) → SaysRule first second c.rule → IsSpelledRule c) where
+  rule-spelled : (t : Text) (said : Result RuleCommand (Unit {0})) (asked : Line) → RuleLineSays t said → rule_answer said ≡ Ok asked → IsSpelled asked
+  rule-spelled t said asked (AsksRule c asks) e = let same : Perform (Applies c) ≡ asked = cc in subst IsSpelled same (said-rule asks.first asks.second c asks.rule)
+  rule-spelled t said asked (AsksNot none) e = absurd (cc)
+
+  line-spelled : (line : Text) (asked : Line) → LineSays line (Ok asked) → IsSpelled asked
+  line-spelled line asked (OfCommand said plain says answer) = command-spelled line said asked says (sym answer)
+  line-spelled line asked (OfRule said applies says answer) = rule-spelled (behind_word line) said asked says (sym answer)
+
+  -- what lines ask for
+  lines-spelled : (lines : List Text) (requests : List Line) → EachSays lines requests → AllByRecursion IsSpelled requests
+  lines-spelled [] [] each = tt
+  lines-spelled [] (r ∷ rs) each = absurd each
+  lines-spelled (l ∷ ls) [] each = absurd each
+  lines-spelled (l ∷ ls) (r ∷ rs) each = (line-spelled l r each.0, lines-spelled ls rs each.1)
+
+  -- what a script asks for, whatever its commands are
+  pub requests-spelled : (script : Text) (requests : List Line) → Says script requests → AllByRecursion (Asks IsSpelledAsked) requests
+  requests-spelled script requests says = lines-spelled (spoken (lines_of script)) requests says.each

@@ -8,10 +8,10 @@ ghost use Rattle.apply_model.specs.Applied.{Applies};
 ghost use Rattle.apply_laws.specs.Promised.{IsRefusalOf};
 ghost use Rattle.apply_laws.specs.FileOuts.{IsValidFileOut};
 
-use code_effect_laws::law_script_texts;
 use command_laws::law_script_files;
-use history_laws::law_nil_admitted;
 use kernel_image::every_text_is_read_or_refused;
+use rule_laws::law_said_rule;
+use ruled_laws::law_ruled_nil;
 use script_model::has_one_reading;
 
 /// Two texts have an answer of `apply`.
@@ -23,10 +23,10 @@ pub fn has_some_answer()
 }
 
 /// Where `apply` is done, what it sends is the file of the image that the script makes. That image is valid, whatever the
-/// commands of the script are, and within the limits of a file what is sent is read again as that image, with the do-its at its
-/// head counted anew. That image keeps the runs of the image before, with each start expression that the script admits, up to
-/// what is renamed, and so does the image that is read again. Where `apply` ends by a condition, what it sends names the first
-/// command that is refused, and its first condition that is false.
+/// commands of the script are, rules with certificates among them; and within the limits of a file what is sent is read again as
+/// that image, with the do-its at its head counted anew. That image keeps the runs of the image before, with each start
+/// expression that the script admits, up to what is renamed, and so does the image that is read again. Where `apply` ends by a
+/// condition, what it sends names the first command that is refused, and its first condition that is false.
 pub fn law_applied()
     ensures done { (image_line : Refusal → Text) (text script : Text) (s : Status) (sent : Text) →
         Applies image_line text script s sent → s ≡ status.Done → IsValidFileOut text script sent }
@@ -34,6 +34,6 @@ pub fn law_applied()
         Applies image_line text script s sent → s ≡ status.Condition → IsRefusalOf text script sent }
 {
     law_script_files();
-    law_script_texts();
-    law_nil_admitted();
+    law_said_rule();
+    law_ruled_nil();
 }

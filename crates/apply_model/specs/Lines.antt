@@ -3,9 +3,11 @@ use Rattle.std.specs.Prelude.{ℕ, List, [], ◌∷◌, ◌++◌, Bool, if◌the
 use Rattle.std.specs.Fmt.{decimal}
 use Rattle.text_model.specs.Pieces.{pieces_joined}
 use Rattle.script_model.specs.Makers.{Text}
-use Rattle.script_model.specs.Commands.{Cause, UnknownCommand, Unbuilt, BadArgument, TooMany}
+use Rattle.script_model.specs.Commands.{Cause, UnknownCommand, BadArgument, TooMany}
 use Rattle.command_model.specs.Conditions.{ConditionOf, NoReflection, IsUserClass, GoodName, NameUnused, SelectorFresh, NotKernelSelector, Arity, Implements, NotImplements, Removable, NoSubclasses, NotReferenced, HasVariable, VariableFree, VariableUnused, ParentIsUser, NoSuper, MeansSame, Unreached, IsClass, ChildOf, LacksVariable, KnownSelector, SpotOf, AtPart, AtName, ParameterUnused, PlainArguments, AtomLiteral, PartIs, NoReturn, AssignsNoOuter, TempsSteady, ValueUnused, SelfSend, OneTarget, Inlinable, PlainActuals, NoCapture, NoNewControl, Declared, NotIn, LetForm, FirstEvaluated, Shallow, UndoLeft, RedoLeft}
-use Rattle.session_model.specs.Scripts.{Refusal}
+use Rattle.certificate_model.specs.CertificateTexts.{certificate_text}
+use Rattle.rule_model.specs.RuleCommands.{Reason, Unmet, Derived}
+use Rattle.ruled_model.specs.RuledScripts.{Refusal}
 
 -- the text and a line feed
 abbrev pub line : Text → Text
@@ -78,13 +80,17 @@ condition_words UndoLeft = codes "C43" ∷ codes "UndoLeft" ∷ []
 condition_words RedoLeft = codes "C44" ∷ codes "RedoLeft" ∷ []
 condition_words condition = code_words condition
 
+-- the same of what refuses a line that may ask for a rule: a condition, or C45 with the text of the certificate that does not derive the rule
+abbrev pub reason_words : Reason → List Text
+reason_words (Unmet condition) = condition_words condition
+reason_words (Derived steps) = codes "C45" ∷ codes "Derived" ∷ certificate_text steps ∷ []
+
 -- the line of a command that is refused: its number and its first condition that is false
 abbrev pub refusal_line : Refusal → Text
-refusal_line r = line (pieces_joined (codes " ") (codes "refused" ∷ decimal r.number ∷ condition_words r.condition))
+refusal_line r = line (pieces_joined (codes " ") (codes "refused" ∷ decimal r.number ∷ reason_words r.condition))
 
 abbrev pub cause_text : Cause → Text
 cause_text UnknownCommand = codes "UnknownCommand"
-cause_text Unbuilt = codes "Unbuilt"
 cause_text BadArgument = codes "BadArgument"
 cause_text TooMany = codes "TooMany"
 

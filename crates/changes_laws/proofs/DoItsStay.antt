@@ -1,5 +1,5 @@
 -- A script keeps how many do-its there are, and which of them stand at the head.
-use Rattle.std.proofs.Common.{◌≡◌, Bool, List, [], ◌∷◌, length, map, Option, Some, None, Ok, refl, sym, ap, subst, ◌∙◌}
+use Rattle.std.proofs.Common.{◌≡◌, Bool, List, [], ◌∷◌, length, map, Option, Some, None, Ok, refl, sym, subst, ◌∙◌}
 use Rattle.std.specs.Prelude.{option_map, if◌then◌else◌, unwrap_or}
 use Rattle.std.specs.List.{AllByRecursion}
 use Rattle.std.specs.Option.{option_map_or}
@@ -19,11 +19,10 @@ use Rattle.command_model.specs.Hierarchy.{superclass_name}
 use Rattle.command_model.specs.MethodEffects.{of_class_named}
 use Rattle.command_model.specs.Sequences.{with_tree}
 use Rattle.command_model.specs.VariableEffects.{class_pushed_up, shared_moved}
-use Rattle.history_model.specs.Rules.{RequestOf, Perform, Undo, Redo, Asks}
+use Rattle.history_model.specs.Rules.{Perform, Undo, Redo, Asks}
 use Rattle.history_model.proofs.Keeping.{verdict-good}
-use Rattle.history_laws.proofs.JudgedBeside.{made}
-use Rattle.session_model.specs.Actions.{ActionOf}
-use Rattle.session_model.specs.Scripts.{Request, Version, History, rules, verdict_in}
+use Rattle.ruled_model.specs.RuledScripts.{Change, Plainly, ByRule, Line, Version, History, ruled, ruled_verdict}
+use Rattle.ruled_laws.proofs.RuledKept.{made, made_by_rule}
 
 -- as many do-its, and the same of them at the head
 pub record HasSameDoIts (i j : ImageOf Name) : Type 0 where
@@ -85,22 +84,24 @@ all-fit : {X : Type 0} (xs : List X) → AllByRecursion (λ x. Unit {0}) xs
 all-fit [] = tt
 all-fit (x ∷ xs) = (tt, all-fit xs)
 
-request-fits : (r : Request) → Asks (λ x. Unit {0}) r
-request-fits (Perform x) = tt
-request-fits Undo = tt
-request-fits Redo = tt
+line-fits : (r : Line) → Asks (λ x. Unit {0}) r
+line-fits (Perform x) = tt
+line-fits Undo = tt
+line-fits Redo = tt
 
-requests-fit : (rs : List Request) → AllByRecursion (Asks (λ x. Unit {0})) rs
-requests-fit [] = tt
-requests-fit (r ∷ rs) = (request-fits r, requests-fit rs)
+lines-fit : (rs : List Line) → AllByRecursion (Asks (λ x. Unit {0})) rs
+lines-fit [] = tt
+lines-fit (r ∷ rs) = (line-fits r, lines-fit rs)
 
 module _ (i : ImageOf Name) where
-  keeps : (v : Version) (c : CommandOf Name) (j : ImageOf Name) → HasSameDoIts i v.image → rules.judged v.image c ≡ Ok j → HasSameDoIts i j
-  keeps v c j good e =
-      let next = subst (HasSameDoIts v.image) (made v.image c j e).1 (command-keeps v.image c) in
-      record { doits = good.doits ∙ next.doits; heads = good.heads ∙ next.heads }
+  also-same : (j k : ImageOf Name) → HasSameDoIts i j → HasSameDoIts j k → HasSameDoIts i k
+  also-same j k good next = record { doits = good.doits ∙ next.doits; heads = good.heads ∙ next.heads }
 
-  pub script-keeps : (script : List Request) (h : History) → verdict_in i script ≡ Ok h → HasSameDoIts i h.now.image
+  keeps : (v : Version) (c : Change) (j : ImageOf Name) → HasSameDoIts i v.image → ruled.judged v.image c ≡ Ok j → HasSameDoIts i j
+  keeps v (Plainly c) j good e = also-same v.image j good (subst (HasSameDoIts v.image) (made v.image c j e).1 (command-keeps v.image c))
+  keeps v (ByRule c) j good e = also-same v.image j good (subst (HasSameDoIts v.image) (made_by_rule v.image c j e).1 (record { doits = all-changed v.image _; heads = refl }))
+
+  pub script-keeps : (script : List Line) (h : History) → ruled_verdict i script ≡ Ok h → HasSameDoIts i h.now.image
   script-keeps script h e =
-      verdict-good rules (λ (v : Version). HasSameDoIts i v.image) (λ c. Unit {0}) (λ x. Unit {0}) (λ v c j good fit accepted. keeps v c j good accepted)
-      (λ v x good meant none. all-fit (rules.steps_of v.image x)) i script h (record { doits = refl; heads = refl }) (requests-fit script) e
+      verdict-good ruled (λ (v : Version). HasSameDoIts i v.image) (λ c. Unit {0}) (λ x. Unit {0}) (λ v c j good fit accepted. keeps v c j good accepted)
+      (λ v x good meant none. all-fit (ruled.steps_of v.image x)) i script h (record { doits = refl; heads = refl }) (lines-fit script) e

@@ -1,6 +1,5 @@
 -- What is promised where `changes` is done, or a command is refused.
-use Rattle.std.proofs.Common.{◌≡◌, ◌<◌, ◌^◌, ◌++◌, ℕ, List, [], Option, None, Result, Ok, Err, length, refl, sym, ap, subst, ◌∙◌}
-use Rattle.std.specs.List.{AllByRecursion}
+use Rattle.std.proofs.Common.{◌≡◌, ◌++◌, List, [], Option, None, Result, Ok, refl, sym, ap, subst, ◌∙◌}
 use Rattle.token_model.specs.declared.kind.Dialect.TheVariants.{Second}
 use Rattle.chunk_format.specs.declared.chunk_iter.Unended.{Unended}
 use Rattle.chunk_format.specs.Left.{start_of}
@@ -12,7 +11,7 @@ use Rattle.file_model.specs.Reading.{IsImageOf}
 use Rattle.file_model.specs.Written.{file_of}
 use Rattle.file_rereading.specs.Rereading.{IsWithinLimits}
 use Rattle.history_model.proofs.Parts.{refused-at}
-use Rattle.session_model.specs.Scripts.{Request, History, Refusal, rules, verdict_in}
+use Rattle.ruled_model.specs.RuledScripts.{Line, History, Refusal, ruled, ruled_verdict}
 use Rattle.script_model.specs.Makers.{Text}
 use Rattle.script_model.specs.Scripts.{Says}
 use Rattle.apply_model.specs.declared.status.Status.{Status}
@@ -29,7 +28,7 @@ use Rattle.changes_laws.specs.ChangeFiles.{IsChangeFile}
 -- what the laws below say of one text and one script
 pub record Laws (text script : Text) : Type 0 where
   pub one_image : (j k : ImageOf Text) → IsImageOf Second prelude_text text j → IsImageOf Second prelude_text text k → j ≡ k
-  pub one_reading : (rs qs : List Request) → Says script rs → Says script qs → rs ≡ qs
+  pub one_reading : (rs qs : List Line) → Says script rs → Says script qs → rs ≡ qs
   pub applied : (image_line : ImageRefusal → Text) (s : Status) (sent : Text) → model.Applies image_line text script s sent → s ≡ status.Done → IsValidFileOut text script sent
   pub other : (printed : Text) → (o : IsValidFileOut text script printed) → IsWithinLimits o.changed.history.now.image → IsOtherOf o.changed.is_image.kernel o.changed.image o.changed.history.now.image
   pub made : (printed : Text) → (o : IsValidFileOut text script printed) → IsOtherOf o.changed.is_image.kernel o.changed.image o.changed.history.now.image
@@ -52,13 +51,13 @@ module _ (text script : Text) (laws : Laws text script) where
   }
 
   -- the image and the history are those of the changed file
-  in-history : (i : ImageOf Text) (rs : List Request) (h : History) (sent : Text) → IsImageOf Second prelude_text text i → Says script rs → verdict_in i rs ≡ Ok h → sent ≡ change_text i h.now.image → IsChangeFile text script sent
+  in-history : (i : ImageOf Text) (rs : List Line) (h : History) (sent : Text) → IsImageOf Second prelude_text text i → Says script rs → ruled_verdict i rs ≡ Ok h → sent ≡ change_text i h.now.image → IsChangeFile text script sent
   in-history i rs h sent is says v file =
       let applies : (image_line : ImageRefusal → Text) → model.Applies image_line text script status.Done (file_of h.now.image) = λ image_line. model.InImage i is (model.Accepted rs h says v refl refl) in
       let o = laws.applied (λ r. []) status.Done (file_of h.now.image) (applies (λ r. [])) refl in
       let same : i ≡ o.changed.image = laws.one_image i o.changed.image is o.changed.is_image in
       let histories : ◌≡◌ {A = Result History Refusal} (Ok h) (Ok o.changed.history) =
-      sym v ∙ ap (λ (j : ImageOf Text). verdict_in j rs) same ∙ ap (verdict_in o.changed.image) (laws.one_reading rs o.changed.requests says o.changed.says) ∙ o.changed.accepted in
+      sym v ∙ ap (λ (j : ImageOf Text). ruled_verdict j rs) same ∙ ap (ruled_verdict o.changed.image) (laws.one_reading rs o.changed.requests says o.changed.says) ∙ o.changed.accepted in
       let one : h ≡ o.changed.history = cc in
       from-printed (file_of h.now.image) sent applies o
       (file ∙ ap (λ (j : ImageOf Text). change_text j h.now.image) same ∙ ap (λ (g : History). change_text o.changed.image g.now.image) one)
@@ -77,7 +76,7 @@ condition-in : (text script : Text) (i : ImageOf Text) (s : Status) (sent : Text
 condition-in text script i s sent is (NoScript n cause refused a b) e = absurd (cc)
 condition-in text script i s sent is (Accepted rs h says v a b) e = absurd (cc)
 condition-in text script i s sent is (Refused rs r says v a b) e =
-    record { image = i; is_image = is; requests = rs; says = says; refusal = r; at = refused-at rules i rs r v; file = b }
+    record { image = i; is_image = is; requests = rs; says = says; refusal = r; at = refused-at ruled i rs r v; file = b }
 
 pub condition : (image_line : ImageRefusal → Text) (text script : Text) (s : Status) (sent : Text) → Changes image_line text script s sent → s ≡ status.Condition → IsRefusalOf text script sent
 condition image_line text script s sent (NoImage r refused a b) e = absurd (cc)

@@ -10,9 +10,10 @@ ghost use Rattle.changes_laws.specs.ChangeFiles.{IsChangeFile};
 
 use apply_laws::law_applied;
 use change_file_laws::law_changed_texts;
-use code_effect_laws::law_script_images;
+use command_laws::law_scripts;
 use file_model::has_one_image;
 use kernel_image::every_image_is_valid;
+use rule_laws::law_said_rule;
 use script_model::has_one_reading;
 
 /// Where `changes` is done, what it sends is the change file from the image of the text to the image that the script makes of it,
@@ -27,7 +28,8 @@ pub fn law_changes()
 {
     law_applied();
     law_changed_texts();
-    law_script_images();
+    law_scripts();
+    law_said_rule();
     has_one_image();
     every_image_is_valid();
     has_one_reading();

@@ -4,19 +4,19 @@ use Rattle.image_model.specs.Image.{ImageOf}
 use Rattle.script_model.specs.Makers.{Text}
 use Rattle.script_model.specs.Commands.{Cause}
 use Rattle.script_model.specs.Scripts.{Says, IsRefused}
-use Rattle.session_model.specs.Scripts.{Request, History, Refusal, verdict_in}
+use Rattle.ruled_model.specs.RuledScripts.{Line, History, Refusal, ruled_verdict}
 use Rattle.apply_model.specs.declared.status.Status.{Status}
 use Rattle.apply_model.specs.Lines.{script_line, refusal_line}
 use Rattle.change_model.specs.Text.{change_text}
 use Rattle.changes_model.specs.Changes.{ChangesIn, NoScript, Refused, Accepted}
 
-module _ (says_once : (text : Text) (rs qs : List Request) → Says text rs → Says text qs → rs ≡ qs)
-    (not_both : (text : Text) (rs : List Request) (n : ℕ) (cause : Cause) → Says text rs → ¬ IsRefused text n cause)
+module _ (says_once : (text : Text) (rs qs : List Line) → Says text rs → Says text qs → rs ≡ qs)
+    (not_both : (text : Text) (rs : List Line) (n : ℕ) (cause : Cause) → Says text rs → ¬ IsRefused text n cause)
     (refused_once : (text : Text) (n m : ℕ) (cause other : Cause) → IsRefused text n cause → IsRefused text m other → (n ≡ m) × (cause ≡ other)) where
   -- one verdict
-  verdicts : (i : ImageOf Text) (script : Text) (rs qs : List Request) (v w : Result History Refusal) → Says script rs → Says script qs →
-      verdict_in i rs ≡ v → verdict_in i qs ≡ w → v ≡ w
-  verdicts i script rs qs v w a b d e = sym d ∙ ap (verdict_in i) (says_once script rs qs a b) ∙ e
+  verdicts : (i : ImageOf Text) (script : Text) (rs qs : List Line) (v w : Result History Refusal) → Says script rs → Says script qs →
+      ruled_verdict i rs ≡ v → ruled_verdict i qs ≡ w → v ≡ w
+  verdicts i script rs qs v w a b d e = sym d ∙ ap (ruled_verdict i) (says_once script rs qs a b) ∙ e
 
   pub one-in : (i : ImageOf Text) (script : Text) (s t : Status) (x y : Text) → ChangesIn i script s x → ChangesIn i script t y → (s ≡ t) × (x ≡ y)
   one-in i script s t x y (NoScript n cause refused a b) (NoScript m other wrong c d) =

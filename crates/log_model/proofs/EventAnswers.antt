@@ -2,7 +2,7 @@
 use Rattle.std.proofs.Common.{◌≡◌, ℕ, ◌⊎◌, inl, inr, Bool, true, false, if◌then◌else◌, List, [], ◌∷◌, map, Option, Some, None, Result, Ok, Err, refl, sym, ap, subst, ◌∙◌, true≢false, codes}
 use Rattle.rb_base.specs.Names.{text_eq}
 use Rattle.command_words.specs.Spelling.{number_of}
-use Rattle.session_model.specs.Scripts.{Request}
+use Rattle.ruled_model.specs.RuledScripts.{Line}
 use Rattle.script_model.specs.Makers.{Text}
 use Rattle.script_model.specs.Commands.{Cause, UnknownCommand, BadArgument}
 use Rattle.script_model.specs.Additions.{first_word, behind_word}
@@ -18,16 +18,16 @@ ActAnswer = Result Act Cause
 
 -- a script has one reading
 abbrev pub OneScript : Type 0
-OneScript = (text : Text) (requests others : List Request) → Says text requests → Says text others → requests ≡ others
+OneScript = (text : Text) (requests others : List Line) → Says text requests → Says text others → requests ≡ others
 
 abbrev pub NotBoth : Type 0
-NotBoth = (text : Text) (requests : List Request) (number : ℕ) (cause : Cause) → Says text requests → ¬ IsRefused text number cause
+NotBoth = (text : Text) (requests : List Line) (number : ℕ) (cause : Cause) → Says text requests → ¬ IsRefused text number cause
 
 abbrev pub OneRefusal : Type 0
 OneRefusal = (text : Text) (number other : ℕ) (cause another : Cause) → IsRefused text number cause → IsRefused text other another → (number ≡ other) × (cause ≡ another)
 
 abbrev pub SomeScript : Type 0
-SomeScript = (text : Text) → ((requests : List Request) × Says text requests) ⊎ ((number : ℕ) × (cause : Cause) × IsRefused text number cause)
+SomeScript = (text : Text) → ((requests : List Line) × Says text requests) ⊎ ((number : ℕ) × (cause : Cause) × IsRefused text number cause)
 
 -- one value, which is there or not
 same-value : {X : Type 0} {o : Option X} {a b : X} → o ≡ Some a → o ≡ Some b → a ≡ b
@@ -78,7 +78,7 @@ module _ (some_script : SomeScript) where
   act-some : (w behind : Text) → (r : ActAnswer) × ActSays w behind r
   act-some w behind = by (text_eq w (codes "propose")) (lone_act w) refl refl
     where
-      read : text_eq w (codes "propose") ≡ true → ((requests : List Request) × Says behind requests) ⊎ ((number : ℕ) × (cause : Cause) × IsRefused behind number cause) → (r : ActAnswer) × ActSays w behind r
+      read : text_eq w (codes "propose") ≡ true → ((requests : List Line) × Says behind requests) ⊎ ((number : ℕ) × (cause : Cause) × IsRefused behind number cause) → (r : ActAnswer) × ActSays w behind r
       read is_word (inl found) = (proposing found.0, Proposes found.0 is_word found.1 refl)
       read is_word (inr wrong) = (Err wrong.1, ProposesWrong wrong.0 wrong.1 is_word wrong.2 refl)
 

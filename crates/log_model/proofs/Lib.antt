@@ -1,3 +1,4 @@
 mod EventAnswers
 mod OneLog
+mod Proposing
 mod SomeLog

@@ -5,8 +5,7 @@ use Rattle.rb_base.specs.Names.{text_eq}
 use Rattle.token_model.specs.Bytes.{is_blank}
 use Rattle.command_words.specs.Spelling.{number_of}
 use Rattle.history_model.specs.Rules.{Perform}
-use Rattle.session_model.specs.Actions.{ActionOf}
-use Rattle.session_model.specs.Scripts.{Request}
+use Rattle.ruled_model.specs.RuledScripts.{Asked, Line}
 use Rattle.team_core.specs.Events.{ActOf, Begin, Propose, Commit, Undo, Redo}
 use Rattle.team_laws.specs.Logs.{EventOf}
 use Rattle.script_model.specs.Makers.{Text}
@@ -17,10 +16,10 @@ use Rattle.script_model.specs.Scripts.{Says, IsRefused}
 
 -- what a session does, and an event: which session does what
 abbrev pub Act : Type 0
-Act = ActOf (ActionOf Text)
+Act = ActOf Asked
 
 abbrev pub Event : Type 0
-Event = EventOf (ActionOf Text)
+Event = EventOf Asked
 
 -- the most events of a log, and the highest number of a session
 abbrev pub event_limit : ℕ
@@ -46,15 +45,15 @@ is_blank_text t = list_all is_blank t
 abbrev pub IsPropose : Text → Type 0
 IsPropose w = text_eq w (codes "propose") ≡ true
 
--- what is proposed by a script: its action, if that is all; undo and redo are not proposed
-abbrev pub proposing : List Request → Result Act Cause
-proposing (Perform action ∷ []) = Ok (Propose action)
+-- what is proposed by a script: what its line asks for, a rule with its certificate too, if that is all; undo and redo are not proposed
+abbrev pub proposing : List Line → Result Act Cause
+proposing (Perform asked ∷ []) = Ok (Propose asked)
 proposing requests = Err BadArgument
 
 -- What a session does by a word and the text after it: a word that stands alone; or `propose`, with a script of one command after it; or nothing.
 pub data ActSays (w behind : Text) (answer : Result Act Cause) : Type 0 where
   Alone : (act : Act) → text_eq w (codes "propose") ≡ false → lone_act w ≡ Some act → answer ≡ (if is_blank_text behind then Ok act else Err BadArgument) → ActSays w behind answer
-  Proposes : (requests : List Request) → IsPropose w → Says behind requests → answer ≡ proposing requests → ActSays w behind answer
+  Proposes : (requests : List Line) → IsPropose w → Says behind requests → answer ≡ proposing requests → ActSays w behind answer
   ProposesWrong : (number : ℕ) (cause : Cause) → IsPropose w → IsRefused behind number cause → answer ≡ Err cause → ActSays w behind answer
   NoAct : text_eq w (codes "propose") ≡ false → lone_act w ≡ None → answer ≡ Err UnknownCommand → ActSays w behind answer
 

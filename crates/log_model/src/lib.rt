@@ -5,4 +5,4 @@
 
 mod laws;
 
-pub use laws::has_one_log;
+pub use laws::{has_one_log, law_proposed};

@@ -1,5 +1,5 @@
 -- What the answers of `team` promise.
-use Rattle.std.proofs.Common.{◌≡◌, List, map, Ok, sym, subst}
+use Rattle.std.proofs.Common.{◌≡◌, List, map, Ok, subst}
 use Rattle.std.specs.List.{AllByRecursion}
 use Rattle.token_model.specs.declared.kind.Dialect.TheVariants.{Second}
 use Rattle.st_kernel.specs.KernelText.{prelude_text}
@@ -7,14 +7,17 @@ use Rattle.image_model.specs.Image.{ImageOf}
 use Rattle.image_model.specs.Valid.{IsValid}
 use Rattle.image_model.specs.Words.{text_words}
 use Rattle.run_model.specs.Matched.{AreMatched}
-use Rattle.kept_runs.specs.WellSpelled.{IsWellSpelledAction}
 use Rattle.file_model.specs.Causes.{Refusal as ImageRefusal}
 use Rattle.file_model.specs.Fileable.{reading_of}
 use Rattle.file_model.specs.Reading.{IsImageOf}
 use Rattle.file_model.specs.Written.{file_of}
 use Rattle.file_rereading.specs.Rereading.{IsWithinLimits, with_heads}
 use Rattle.history_model.specs.Rules.{Asks, Perform}
-use Rattle.session_model.specs.Scripts.{Request, Version, History, verdict_in}
+use Rattle.rewrite_model.specs.Saying.{SaysRule}
+use Rattle.rule_model.specs.RuleCommands.{RuleCommand}
+use Rattle.rule_laws.specs.KeptRules.{IsSpelledRule}
+use Rattle.ruled_model.specs.RuledScripts.{Line, Version, History, ruled_verdict}
+use Rattle.ruled_laws.specs.SpelledRequests.{IsSpelledAsked}
 use Rattle.team_laws.proofs.Moving.{led-movers}
 use Rattle.script_model.specs.Makers.{Text}
 use Rattle.log_model.specs.Events.{Event, LogSays}
@@ -26,21 +29,22 @@ use Rattle.play_laws.specs.Promised.{IsScripted, version_at_end, IsPlayedFile}
 use Rattle.play_laws.proofs.Scripted.{end-made, asks-all, script-made}
 use Rattle.play_laws.proofs.Spelled.{log-spelled}
 
-scripted : (i : ImageOf Text) (log : Text) (es : List Event) → LogSays log es → IsScripted i (version_at_end i es)
-scripted i log es says =
-    let made = end-made IsWellSpelledAction i es (log-spelled log es says) in
-    let script = script-made IsWellSpelledAction i (version_at_end i es) made in
-    record { script = map Perform made.0; spelled = asks-all IsWellSpelledAction made.0 made.1; history = script.0; accepted = script.1; same = script.2 }
+module _ (text : Text) (said-rule : (first second : Text) (c : RuleCommand) → SaysRule first second c.rule → IsSpelledRule c)
+    (matched : (i : ImageOf Text) (requests : List Line) (h : History) → IsImageOf Second prelude_text text i → AllByRecursion (Asks IsSpelledAsked) requests →
+    ruled_verdict i requests ≡ Ok h → AreMatched i h.now.image h.now.renaming)
+    (valid : (i : ImageOf Text) (requests : List Line) (h : History) → (is : IsImageOf Second prelude_text text i) → AllByRecursion (Asks IsSpelledAsked) requests →
+    ruled_verdict i requests ≡ Ok h → IsValid text_words (reading_of Second is.kernel) h.now.image)
+    (again : (i : ImageOf Text) (requests : List Line) (h : History) → IsImageOf Second prelude_text text i → AllByRecursion (Asks IsSpelledAsked) requests →
+    ruled_verdict i requests ≡ Ok h → IsWithinLimits h.now.image → IsImageOf Second prelude_text (file_of h.now.image) (with_heads h.now.image))
+    (matched_again : (i : ImageOf Text) (requests : List Line) (h : History) → IsImageOf Second prelude_text text i → AllByRecursion (Asks IsSpelledAsked) requests →
+    ruled_verdict i requests ≡ Ok h → AreMatched i (with_heads h.now.image) h.now.renaming) where
+  -- the script that makes the version at the end of a log
+  scripted : (i : ImageOf Text) (log : Text) (es : List Event) → LogSays log es → IsScripted i (version_at_end i es)
+  scripted i log es says =
+      let made = end-made IsSpelledAsked i es (log-spelled said-rule log es says) in
+      let script = script-made IsSpelledAsked i (version_at_end i es) made in
+      record { script = map Perform made.0; spelled = asks-all IsSpelledAsked made.0 made.1; history = script.0; accepted = script.1; same = script.2 }
 
-module _ (text : Text)
-    (matched : (i : ImageOf Text) (requests : List Request) (h : History) → IsImageOf Second prelude_text text i → AllByRecursion (Asks IsWellSpelledAction) requests →
-    verdict_in i requests ≡ Ok h → AreMatched i h.now.image h.now.renaming)
-    (valid : (i : ImageOf Text) (requests : List Request) (h : History) → (is : IsImageOf Second prelude_text text i) → AllByRecursion (Asks IsWellSpelledAction) requests →
-    verdict_in i requests ≡ Ok h → IsValid text_words (reading_of Second is.kernel) h.now.image)
-    (again : (i : ImageOf Text) (requests : List Request) (h : History) → IsImageOf Second prelude_text text i → AllByRecursion (Asks IsWellSpelledAction) requests →
-    verdict_in i requests ≡ Ok h → IsWithinLimits h.now.image → IsImageOf Second prelude_text (file_of h.now.image) (with_heads h.now.image))
-    (matched_again : (i : ImageOf Text) (requests : List Request) (h : History) → IsImageOf Second prelude_text text i → AllByRecursion (Asks IsWellSpelledAction) requests →
-    verdict_in i requests ≡ Ok h → AreMatched i (with_heads h.now.image) h.now.renaming) where
   played-in : (log : Text) (i : ImageOf Text) (s : Status) (sent : Text) → IsImageOf Second prelude_text text i → PlaysIn i log s sent → s ≡ status.Done → IsPlayedFile text log sent
   played-in log i s sent is (NoLog n cause refused a b) e = absurd (cc)
   played-in log i s sent is (Played es says a b) e =

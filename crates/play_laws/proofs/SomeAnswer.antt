@@ -1,5 +1,5 @@
 -- Two texts have an answer.
-use Rattle.std.proofs.Common.{◌≡◌, ℕ, ◌⊎◌, inl, inr, List, refl}
+use Rattle.std.proofs.Common.{ℕ, ◌⊎◌, inl, inr, List, refl}
 use Rattle.token_model.specs.declared.kind.Dialect.TheVariants.{Second}
 use Rattle.st_kernel.specs.KernelText.{prelude_text}
 use Rattle.image_model.specs.Image.{ImageOf}

@@ -12,20 +12,20 @@ use Rattle.file_model.specs.Reading.{IsImageOf}
 use Rattle.file_model.specs.Written.{file_of}
 use Rattle.file_rereading.specs.Rereading.{IsWithinLimits, with_heads}
 use Rattle.history_model.specs.Rules.{Asks}
-use Rattle.session_model.specs.Scripts.{Request, History, Version, verdict_in}
-use Rattle.kept_runs.specs.WellSpelled.{IsWellSpelledAction}
+use Rattle.ruled_model.specs.RuledScripts.{Line, History, Version, ruled_verdict}
+use Rattle.ruled_laws.specs.SpelledRequests.{IsSpelledAsked}
 use Rattle.team_laws.specs.Logs.{movers, led}
 use Rattle.script_model.specs.Makers.{Text}
 use Rattle.log_model.specs.Events.{Event, LogSays}
 use Rattle.play_model.specs.Replies.{team_rules, opening, led_to}
 use Rattle.play_model.specs.Played.{played}
 
--- A script makes this version of an image. Its commands are well spelled, and there is no undo and no redo among them that the script needs.
+-- A script makes this version of an image. What its lines ask for is well spelled, and there is no undo and no redo among them that the script needs.
 pub record IsScripted (i : ImageOf Text) (v : Version) : Type 0 where
-  pub script : List Request
-  pub spelled : AllByRecursion (Asks IsWellSpelledAction) script
+  pub script : List Line
+  pub spelled : AllByRecursion (Asks IsSpelledAsked) script
   pub history : History
-  pub accepted : verdict_in i script ≡ Ok history
+  pub accepted : ruled_verdict i script ≡ Ok history
   pub same : history.now ≡ v
 
 -- the version of an image at the end of a log

@@ -7,10 +7,10 @@ ghost use Rattle.apply_model.specs.declared.status.Status.TheVariants as status;
 ghost use Rattle.play_model.specs.Played.{Plays};
 ghost use Rattle.play_laws.specs.Promised.{IsPlayedFile};
 
-use code_effect_laws::law_script_texts;
 use command_laws::law_script_files;
 use kernel_image::every_text_is_read_or_refused;
 use log_model::has_one_log;
+use rule_laws::law_said_rule;
 
 /// Two texts have an answer of `team`.
 pub fn has_some_answer()
@@ -21,13 +21,13 @@ pub fn has_some_answer()
 }
 
 /// If `team` is done, what it sends are the lines of the events and the file of the image at the end. The versions are those to
-/// which the accepted commits, undos and redos lead, and the last one is a version that a script makes, in whatever order the
-/// sessions did their steps. So its image is valid and keeps the runs of the image before, up to what is renamed; and within the
+/// which the accepted commits, undos and redos lead, and the last one is a version that a script makes, rules with certificates
+/// among its lines, in whatever order the sessions did their steps. So its image is valid and keeps the runs of the image before, up to what is renamed; and within the
 /// limits of a file its text is read again.
 pub fn law_played()
     ensures { (image_line : Refusal → Text) (text log : Text) (s : Status) (sent : Text) →
         Plays image_line text log s sent → s ≡ status.Done → IsPlayedFile text log sent }
 {
     law_script_files();
-    law_script_texts();
+    law_said_rule();
 }

@@ -1,4 +1,4 @@
-mod RuledKept
+pub mod RuledKept
 mod RuledBeside
 mod SameVerdicts
 mod RuledNil

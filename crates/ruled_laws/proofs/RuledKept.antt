@@ -21,8 +21,8 @@ use Rattle.command_model.specs.Effects.{effect}
 use Rattle.command_model.specs.Judged.{first_false}
 use Rattle.command_model.specs.Renamings.{renaming_of}
 use Rattle.history_model.specs.Rules.{Asks}
-use Rattle.history_model.specs.History.{by_result, version_after}
-use Rattle.history_model.proofs.Keeping.{verdict-good}
+use Rattle.history_model.specs.History.{by_result, version_after, after_action}
+use Rattle.history_model.proofs.Keeping.{action-good, verdict-good}
 use Rattle.session_model.specs.OwnConditions.{first_own_false}
 use Rattle.session_model.specs.Steps.{steps_of}
 use Rattle.kept_runs.specs.WellSpelled.{IsWellSpelled}
@@ -58,7 +58,7 @@ none_of : (o : Option (ConditionOf Name)) (r : Option Reason) → r ≡ option_m
 none_of None r p e = refl
 none_of (Some q) r p e = let bad : ⊥ = cc in absurd bad
 
-changes_spelled : (kernel i : ImageOf Name) (x : Asked) → IsSound kernel i → IsSpelledAsked x → own_false i x ≡ None → AllByRecursion IsSpelledChange (changes_of i x)
+pub changes_spelled : (kernel i : ImageOf Name) (x : Asked) → IsSound kernel i → IsSpelledAsked x → own_false i x ≡ None → AllByRecursion IsSpelledChange (changes_of i x)
 changes_spelled kernel i (Acts x) v s e = plainly_spelled (steps_of text_eq i canonical x) (steps-spelled kernel i x v s (none_of (first_own_false text_asked i x) (own_false i (Acts x)) refl e))
 changes_spelled kernel i (Applies c) v s e = (s, tt)
 
@@ -86,6 +86,11 @@ module _ (kernel i : ImageOf Name) (keeps : AllKeepRuns kernel) (rule_keeps : (c
             matched-trans v.renaming no_renaming (composed v.renaming no_renaming) (is-composite v.renaming no_renaming) i v.image j kept.matched
             (subst (λ k. AreMatched v.image k no_renaming) done.1 (law.matched v.image done.0));
       }
+
+  pub action_kept : (v w : Version) (x : Asked) → IsKept kernel i v → IsSpelledAsked x → after_action ruled v x ≡ Ok w → IsKept kernel i w
+  action_kept v w x kept spelled e =
+      action-good ruled (IsKept kernel i) IsSpelledChange IsSpelledAsked change_kept (λ v x kept s none. changes_spelled kernel v.image x kept.valid s none)
+      v x w kept spelled e
 
   pub ruled_kept : (script : List Line) (h : History) → IsSound kernel i → AllByRecursion (Asks IsSpelledAsked) script → ruled_verdict i script ≡ Ok h → IsKept kernel i h.now
   ruled_kept script h sound spelled e =

@@ -16,8 +16,7 @@ use Rattle.session_model.specs.OwnConditions.{first_own_false}
 use Rattle.session_model.specs.Steps.{steps_of}
 use Rattle.session_model.specs.Scripts.{Request, Version, History, rules, verdict_in}
 use Rattle.rule_model.specs.RuleCommands.{Reason, Unmet}
-use Rattle.ruled_model.specs.RuledScripts.{Plainly, Acts, ruled, ruled_verdict}
-use Rattle.ruled_laws.specs.SpelledRequests.{as_line, as_refusal}
+use Rattle.ruled_model.specs.RuledScripts.{Plainly, Acts, ruled, ruled_verdict, as_line, as_refusal}
 
 -- a result with its condition as a reason
 abbrev as_reason : {A : Type 0} → Result A (ConditionOf Name) → Result A Reason
@@ -40,7 +39,7 @@ action_same v x = by (first_own_false text_asked v.image x) (commands_same v (st
     by None e = e
     by (Some q) e = refl
 
-line_same : (h : History) (x : Request) → stepped ruled h (as_line x) ≡ as_reason (stepped rules h x)
+pub line_same : (h : History) (x : Request) → stepped ruled h (as_line x) ≡ as_reason (stepped rules h x)
 line_same h (Perform x) = ap (by_result (λ v. Ok (appended ruled h v)) (λ q. Err q)) (action_same h.now x) ∙ by (after_action rules h.now x)
   where
     by : (r : Result Version (ConditionOf Name)) → by_result (λ v. Ok (appended ruled h v)) (λ q. Err q) (as_reason r) ≡ as_reason (by_result (λ v. Ok (appended rules h v)) (λ q. Err q) r)

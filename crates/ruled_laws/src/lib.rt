@@ -5,4 +5,6 @@
 
 mod laws;
 
-pub use laws::{law_ruled_admitted, law_ruled_history, law_ruled_nil, law_without_rules};
+pub use laws::{
+    law_ruled_action, law_ruled_admitted, law_ruled_history, law_ruled_nil, law_without_rules,
+};

@@ -9,15 +9,16 @@ use Rattle.run_model.specs.Renamings.{Renaming, no_renaming, composed}
 use Rattle.rename_model.specs.ClassRenamed.{canonical}
 use Rattle.command_model.specs.Asked.{text_asked}
 use Rattle.command_model.specs.Commands.{CommandOf}
-use Rattle.command_model.specs.Conditions.{UndoLeft, RedoLeft}
+use Rattle.command_model.specs.Conditions.{ConditionOf, UndoLeft, RedoLeft}
 use Rattle.command_model.specs.Judged.{judged}
 use Rattle.command_model.specs.Renamings.{renaming_of}
-use Rattle.history_model.specs.Rules.{RulesOf, RequestOf}
+use Rattle.history_model.specs.Rules.{RulesOf, RequestOf, Perform, Undo, Redo}
 use Rattle.history_model.specs.History.{HistoryOf, VersionOf, by_result}
 use Rattle.history_model.specs.Verdicts.{RefusalOf, verdict}
 use Rattle.session_model.specs.Actions.{ActionOf}
 use Rattle.session_model.specs.Steps.{steps_of}
 use Rattle.session_model.specs.OwnConditions.{first_own_false}
+use Rattle.session_model.specs.Scripts.{Request}
 use Rattle.rule_model.specs.RuleCommands.{RuleCommand, Reason, Unmet, rule_result}
 
 -- a single change: one of the commands, or a rule with a certificate
@@ -53,6 +54,12 @@ changes_of i (Applies c) = ByRule c ∷ []
 abbrev pub Line : Type 0
 Line = RequestOf Asked
 
+-- a line that asks for no rule
+abbrev pub as_line : Request → Line
+as_line (Perform x) = Perform (Acts x)
+as_line Undo = Undo
+as_line Redo = Redo
+
 abbrev pub Version : Type 0
 Version = VersionOf (ImageOf Name) Renaming
 
@@ -61,6 +68,10 @@ History = HistoryOf (ImageOf Name) Renaming
 
 abbrev pub Refusal : Type 0
 Refusal = RefusalOf Reason
+
+-- the refusal of a line that asks for no rule
+abbrev pub as_refusal : RefusalOf (ConditionOf Name) → Refusal
+as_refusal r = record { number = r.number; condition = Unmet r.condition }
 
 abbrev pub ruled : RulesOf (ImageOf Name) Change Asked Reason Renaming
 ruled = record {

@@ -1,5 +1,5 @@
--- Each line says one thing.
-use Rattle.std.proofs.Common.{◌≡◌, ℕ, ◌⊎◌, inl, inr, Bool, true, false, List, [], ◌∷◌, map, Option, Some, None, Result, Ok, Err, refl, sym, ap, subst, ◌∙◌, true≢false}
+-- Each line of a command says one thing.
+use Rattle.std.proofs.Common.{◌≡◌, ◌⊎◌, inl, inr, Bool, true, false, Option, Some, None, Result, Ok, Err, refl, sym, subst, ◌∙◌, true≢false}
 use Rattle.std.proofs.lemmas.Bool.Decides.{Decides-eqb}
 use Rattle.std.proofs.lemmas.Slice.Eq.{slice_eq-Decides}
 use Rattle.rb_base.specs.Names.{text_eq}
@@ -15,11 +15,11 @@ use Rattle.script_model.specs.Commands.{Cause, BadArgument}
 use Rattle.script_model.specs.Additions.{Addition, addition_of, behind_word, AddsMethod, Spelled, Incomplete, Faulty}
 use Rattle.script_model.specs.Words.{add_method, add_parameter}
 use Rattle.script_model.specs.Additions.{first_word}
-use Rattle.script_model.specs.Scripts.{said, adds_method, adds_parameter, LineSays, InWords, InText, InLiteral, EachSays, cause_of, IsWrong}
+use Rattle.script_model.specs.Scripts.{said, adds_method, adds_parameter, CommandSays, InWords, InText, InLiteral}
 use Rattle.script_model.proofs.ParameterAnswers.{one-parameter, some-parameter}
 
--- what a line says
-abbrev pub Answer : Type 0
+-- what a line of a command says
+abbrev Answer : Type 0
 Answer = Result Request Cause
 
 -- a line has one first word
@@ -75,16 +75,16 @@ module _ (one_tree : OneTree) (not_both : NotBoth) where
   adds-one t r s (Faulty a fault is faulty answer) (Faulty b other be wrong says) = answer ∙ sym says
 
   -- and to a line
-  pub says-one : (line : Text) (r s : Answer) → LineSays line r → LineSays line s → r ≡ s
-  says-one line r s (InWords plain too answer) (InWords plainly also says) = answer ∙ sym says
-  says-one line r s (InWords plain too answer) (InText adds says) = absurd (true≢false (sym adds ∙ plain))
-  says-one line r s (InWords plain too answer) (InLiteral adds says) = absurd (true≢false (sym adds ∙ too))
-  says-one line r s (InText adds answer) (InWords plain too says) = absurd (true≢false (sym adds ∙ plain))
-  says-one line r s (InText adds answer) (InText also says) = adds-one (behind_word line) r s answer says
-  says-one line r s (InText adds answer) (InLiteral also says) = absurd (either-word line adds also)
-  says-one line r s (InLiteral adds answer) (InWords plain too says) = absurd (true≢false (sym adds ∙ too))
-  says-one line r s (InLiteral adds answer) (InText also says) = absurd (either-word line also adds)
-  says-one line r s (InLiteral adds answer) (InLiteral also says) = one-parameter (behind_word line) r s answer says
+  pub command-one : (line : Text) (r s : Answer) → CommandSays line r → CommandSays line s → r ≡ s
+  command-one line r s (InWords plain too answer) (InWords plainly also says) = answer ∙ sym says
+  command-one line r s (InWords plain too answer) (InText adds says) = absurd (true≢false (sym adds ∙ plain))
+  command-one line r s (InWords plain too answer) (InLiteral adds says) = absurd (true≢false (sym adds ∙ too))
+  command-one line r s (InText adds answer) (InWords plain too says) = absurd (true≢false (sym adds ∙ plain))
+  command-one line r s (InText adds answer) (InText also says) = adds-one (behind_word line) r s answer says
+  command-one line r s (InText adds answer) (InLiteral also says) = absurd (either-word line adds also)
+  command-one line r s (InLiteral adds answer) (InWords plain too says) = absurd (true≢false (sym adds ∙ too))
+  command-one line r s (InLiteral adds answer) (InText also says) = absurd (either-word line also adds)
+  command-one line r s (InLiteral adds answer) (InLiteral also says) = one-parameter (behind_word line) r s answer says
 
 module _ (tree_or_fault : TreeOrFault) where
   -- some answer to what is added
@@ -100,30 +100,10 @@ module _ (tree_or_fault : TreeOrFault) where
       by (Some a) is = spelled a is (tree_or_fault a.text)
 
   -- and to a line
-  pub says-some : (line : Text) → (r : Answer) × LineSays line r
-  says-some line = by (adds_method line) (adds_parameter line) refl refl
+  pub command-some : (line : Text) → (r : Answer) × CommandSays line r
+  command-some line = by (adds_method line) (adds_parameter line) refl refl
     where
-      by : (b c : Bool) → adds_method line ≡ b → adds_parameter line ≡ c → (r : Answer) × LineSays line r
+      by : (b c : Bool) → adds_method line ≡ b → adds_parameter line ≡ c → (r : Answer) × CommandSays line r
       by true c adds too = let some = adds-some (behind_word line) in (some.0, InText adds some.1)
       by false true plain adds = let some = some-parameter (behind_word line) in (some.0, InLiteral adds some.1)
       by false false plain too = (said line, InWords plain too refl)
-
--- where each line says one thing, so do lines
-module _ (answer : Text → Answer) (says : (line : Text) → LineSays line (answer line)) (one : (line : Text) (r s : Answer) → LineSays line r → LineSays line s → r ≡ s) where
-  pub each-said : (ls : List Text) (rs : List Request) → EachSays ls rs → map answer ls ≡ map {B = Answer} Ok rs
-  each-said [] [] each = refl
-  each-said [] (r ∷ rs) each = absurd each
-  each-said (l ∷ ls) [] each = absurd each
-  each-said (l ∷ ls) (r ∷ rs) each = λ i. one l (answer l) (Ok r) (says l) each.0 i ∷ each-said ls rs each.1 i
-
-  pub each-says : (ls : List Text) (rs : List Request) → map answer ls ≡ map {B = Answer} Ok rs → EachSays ls rs
-  each-says [] [] e = tt
-  each-says [] (r ∷ rs) e = absurd (cc)
-  each-says (l ∷ ls) [] e = absurd (cc)
-  each-says (l ∷ ls) (r ∷ rs) e =
-      let first : answer l ≡ Ok r = cc in
-      let rest : map answer ls ≡ map {B = Answer} Ok rs = cc in
-      (subst (LineSays l) first (says l), each-says ls rs rest)
-
-  pub wrong-as : (line : Text) (count : ℕ) (cause : Cause) → IsWrong line count cause → cause_of count (answer line) ≡ Some cause
-  wrong-as line count cause w = ap (cause_of count) (one line (answer line) w.answer (says line) w.says) ∙ w.wrong

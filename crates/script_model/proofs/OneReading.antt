@@ -4,27 +4,27 @@ use Rattle.std.specs.Prelude.{cond, nat_lt, if◌then◌else◌}
 use Rattle.std.proofs.lemmas.List.{map-append}
 use Rattle.std.proofs.lemmas.List.Elements.{filter-append}
 use Rattle.std.proofs.lemmas.Bool.{lt-ltb}
-use Rattle.session_model.specs.Scripts.{Request}
+use Rattle.ruled_model.specs.RuledScripts.{Line}
 use Rattle.script_model.specs.Lines.{lines_of, is_skipped, spoken}
 use Rattle.script_model.specs.Commands.{Cause, TooMany}
 use Rattle.script_model.specs.Scripts.{LineSays, Say, Says, cause_of, IsRefused}
-use Rattle.script_model.proofs.LineAnswers.{Answer, each-said, wrong-as}
+use Rattle.script_model.proofs.RuledAnswers.{Answer, each-said, wrong-as}
 
 abbrev Text : Type 0
 Text = List ℕ
 
 -- the same results are those of the same requests
-same_requests : (cs ds : List Request) → map {B = Result Request Cause} Ok cs ≡ map Ok ds → cs ≡ ds
+same_requests : (cs ds : List Line) → map {B = Result Line Cause} Ok cs ≡ map Ok ds → cs ≡ ds
 same_requests [] [] e = refl
 same_requests [] (d ∷ ds) e = absurd (cc)
 same_requests (c ∷ cs) [] e = absurd (cc)
 same_requests (c ∷ cs) (d ∷ ds) e =
     let first : c ≡ d = cc in
-    let rest : map {B = Result Request Cause} Ok cs ≡ map Ok ds = cc in
+    let rest : map {B = Result Line Cause} Ok cs ≡ map Ok ds = cc in
     λ i. first i ∷ same_requests cs ds rest i
 
 -- a result among those of requests is that of one, and there are more of them than stand before it
-among : (bs cs : List Request) (r : Result Request Cause) (rs : List (Result Request Cause)) → map Ok bs ++ r ∷ rs ≡ map Ok cs → (c : Request) × (r ≡ Ok c) × (length bs < length cs)
+among : (bs cs : List Line) (r : Result Line Cause) (rs : List (Result Line Cause)) → map Ok bs ++ r ∷ rs ≡ map Ok cs → (c : Line) × (r ≡ Ok c) × (length bs < length cs)
 among [] [] r rs e = absurd (cc)
 among [] (c ∷ cs) r rs e = let first : r ≡ Ok c = cc in (c, first, omega arith)
 among (b ∷ bs) [] r rs e = absurd (cc)
@@ -55,11 +55,11 @@ parted (a ∷ xs) x bs (c ∷ cs) y ds e =
 
 module _ (answer : Text → Answer) (says : (line : Text) → LineSays line (answer line)) (one : (line : Text) (r s : Answer) → LineSays line r → LineSays line s → r ≡ s) where
   -- what lines say
-  said-each : (ls : List Text) (rs : List Request) → Say ls rs → map answer (spoken ls) ≡ map Ok rs
+  said-each : (ls : List Text) (rs : List Line) → Say ls rs → map answer (spoken ls) ≡ map Ok rs
   said-each ls rs p = each-said answer says one (spoken ls) rs p.each
 
   -- a script asks for one list of commands
-  pub says_once : (text : Text) (cs ds : List Request) → Says text cs → Says text ds → cs ≡ ds
+  pub says_once : (text : Text) (cs ds : List Line) → Says text cs → Says text ds → cs ≡ ds
   says_once text cs ds p q = same_requests cs ds (sym (said-each (lines_of text) cs p) ∙ said-each (lines_of text) ds q)
 
   -- what the lines say of which one says something
@@ -70,10 +70,10 @@ module _ (answer : Text → Answer) (says : (line : Text) → LineSays line (ans
       ∙ ap (λ (b : Bool). map answer (spoken before) ++ map answer (cond (not b) (line ∷ spoken after) (spoken after))) h
 
   -- a line among lines that ask for something is not wrong
-  not_wrong : (lines before after : List Text) (line : Text) (bs cs : List Request) (cause : Cause) → lines ≡ before ++ line ∷ after → is_skipped line ≡ false → Say before bs → Say lines cs → cause_of (length bs) (answer line) ≡ Some cause → ⊥
+  not_wrong : (lines before after : List Text) (line : Text) (bs cs : List Line) (cause : Cause) → lines ≡ before ++ line ∷ after → is_skipped line ≡ false → Say before bs → Say lines cs → cause_of (length bs) (answer line) ≡ Some cause → ⊥
   not_wrong lines before after line bs cs cause parts h p q wrong =
       let all : map Ok bs ++ answer line ∷ map answer (spoken after) ≡ map Ok cs =
-      ap (λ (rs : List (Result Request Cause)). rs ++ answer line ∷ map answer (spoken after)) (sym (said-each before bs p)) ∙ sym (said_parts before after line h) ∙ ap (λ (ls : List Text). map answer (spoken ls)) (sym parts) ∙ said-each lines cs q in
+      ap (λ (rs : List (Result Line Cause)). rs ++ answer line ∷ map answer (spoken after)) (sym (said-each before bs p)) ∙ sym (said_parts before after line h) ∙ ap (λ (ls : List Text). map answer (spoken ls)) (sym parts) ∙ said-each lines cs q in
       let found = among bs cs (answer line) (map answer (spoken after)) all in
       let room : nat_lt (length bs) 10000 ≡ true = lt-ltb (length bs) 10000 (omega (arith, found.2, q.few)) in
       no_cause (sym wrong ∙ ap (cause_of (length bs)) found.1 ∙ ap (λ (b : Bool). let r : Option Cause = if b then None else Some TooMany in r) room)
@@ -82,7 +82,7 @@ module _ (answer : Text → Answer) (says : (line : Text) → LineSays line (ans
       no_cause e = absurd (cc)
 
   -- a script that asks for something is not refused
-  pub not_refused : (text : Text) (cs : List Request) (n : ℕ) (cause : Cause) → Says text cs → IsRefused text n cause → ⊥
+  pub not_refused : (text : Text) (cs : List Line) (n : ℕ) (cause : Cause) → Says text cs → IsRefused text n cause → ⊥
   not_refused text cs n cause p r = not_wrong (lines_of text) r.before r.after r.line r.requests cs cause r.parts r.says_something r.said_before p (wrong-as answer says one r.line (length r.requests) cause r.wrong)
 
   -- a script is refused at one line with one cause

@@ -1,6 +1,5 @@
 -- The commands of scripts (Roberts 1999): by which word each begins, what stands behind it, and what they ask for together.
-use Rattle.std.specs.Prelude.{if◌then◌else◌, List, [], ◌∷◌, Result, Ok, Err, find}
-use Rattle.std.specs.List.{list_any}
+use Rattle.std.specs.Prelude.{List, [], ◌∷◌, Result, Ok, Err, find}
 use Rattle.std.specs.Option.{option_map_or, option_and_then}
 use Rattle.rb_base.specs.Names.{text_eq}
 use Rattle.command_model.specs.Commands.{RenameClass, AddClass, RemoveClass, AddInstVar, RenameInstVar, RemoveInstVar, PushUpInstVar, PushDownInstVar, AddClassVar, RenameClassVar, RemoveClassVar, PushUpClassVar, PushDownClassVar, AddClassSideVar, RenameClassSideVar, RemoveClassSideVar, RenameSelector, RemoveMethod, PushUpMethod, PushDownMethod, RemoveParameter, AbstractInstVar, ExtractMethod, InlineMethod, ExtractTemp, InlineTemp, RenameTemp}
@@ -8,7 +7,7 @@ use Rattle.command_model.specs.Accessors.{setter_selector, setter_argument}
 use Rattle.history_model.specs.Rules.{Perform, Undo, Redo}
 use Rattle.session_model.specs.Actions.{CreateAccessors, ExtractSuperclass, PushUpWithMethods}
 use Rattle.session_model.specs.Scripts.{Request}
-use Rattle.script_model.specs.Words.{rename_class, add_class, remove_class, add_inst_var, rename_inst_var, remove_inst_var, push_up_inst_var, push_down_inst_var, add_class_var, rename_class_var, remove_class_var, push_up_class_var, push_down_class_var, add_class_side_var, rename_class_side_var, remove_class_side_var, rename_selector, remove_method, push_up_method, push_down_method, remove_parameter, abstract_inst_var, extract_method, inline_method, extract_temp, inline_temp, rename_temp, undo, redo, create_accessors, extract_superclass, push_up_with_methods, apply_rule}
+use Rattle.script_model.specs.Words.{rename_class, add_class, remove_class, add_inst_var, rename_inst_var, remove_inst_var, push_up_inst_var, push_down_inst_var, add_class_var, rename_class_var, remove_class_var, push_up_class_var, push_down_class_var, add_class_side_var, rename_class_side_var, remove_class_side_var, rename_selector, remove_method, push_up_method, push_down_method, remove_parameter, abstract_inst_var, extract_method, inline_method, extract_temp, inline_temp, rename_temp, undo, redo, create_accessors, extract_superclass, push_up_with_methods}
 use Rattle.script_model.specs.Arguments.{a_class, a_variable, a_selector, a_number, Form, takes, takes_classes_behind, method_and, part_and, arguments_of}
 use Rattle.script_model.specs.Makers.{Text, Maker, single, of_none, of_one, of_two, of_three, of_classes, of_parameter, of_method, of_local, of_local_to, of_part, of_part_to}
 
@@ -58,19 +57,11 @@ table =
     ∷ row redo (takes []) (of_none Redo)
     ∷ []
 
--- the words of commands that are still to come
-abbrev pub words_to_come : List Text
-words_to_come = apply_rule ∷ []
-
--- Why a line is wrong: its first word is no command's; it is that of a command which is still to come; the command takes other words; or there are as many commands before it as there may be.
+-- Why a line is wrong: its first word is no command's; the command takes other words; or there are as many commands before it as there may be.
 pub data Cause : Type 0 where
   UnknownCommand : Cause
-  Unbuilt : Cause
   BadArgument : Cause
   TooMany : Cause
-
-abbrev pub no_command : Text → Cause
-no_command w = if list_any (text_eq w) words_to_come then Unbuilt else UnknownCommand
 
 -- what the words behind that of a command ask for
 abbrev pub said_by_row : List Text → Row → Result Request Cause
@@ -79,7 +70,7 @@ said_by_row ws r = option_map_or (λ request. Ok request) (option_and_then r.mak
 -- what words ask for by one of these rows, or why they ask for nothing
 abbrev pub said_among : List Row → List Text → Result Request Cause
 said_among rows [] = Err UnknownCommand
-said_among rows (w ∷ ws) = option_map_or (said_by_row ws) (find (λ (r : Row). text_eq w r.word) rows) (Err (no_command w))
+said_among rows (w ∷ ws) = option_map_or (said_by_row ws) (find (λ (r : Row). text_eq w r.word) rows) (Err UnknownCommand)
 
 -- what words ask for
 abbrev pub said_by : List Text → Result Request Cause

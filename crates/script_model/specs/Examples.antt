@@ -1,5 +1,5 @@
 -- Some lines, and what they ask for or why they ask for nothing.
-use Rattle.std.specs.Prelude.{◌≡◌, ℕ, true, false, List, [], ◌∷◌, ◌++◌, codes, Some, None, Result, Ok, Err}
+use Rattle.std.specs.Prelude.{◌≡◌, ℕ, true, false, List, [], ◌∷◌, ◌++◌, codes, Option, Some, None, Result, Ok, Err}
 use Rattle.token_model.specs.declared.kind.Dialect.TheVariants.{Second}
 use Rattle.tree_model.specs.Tree.{Notes, LiteralOf, number, char, array, word, no_literals, more_literals, MethodOf}
 use Rattle.grammar_model.specs.Spanned.{SpannedTree, Var, Literal, Send, NoTrees, NoStatements, MoreStatements, SpannedSequence}
@@ -8,11 +8,14 @@ use Rattle.command_model.specs.Commands.{CommandOf, RenameClass, AddClass, Remov
 use Rattle.history_model.specs.Rules.{Perform, Undo, Redo}
 use Rattle.session_model.specs.Actions.{ActionOf, CreateAccessors, ExtractSuperclass, PushUpWithMethods}
 use Rattle.session_model.specs.Scripts.{Request}
+use Rattle.pattern_model.specs.Rewritten.{RuleOf}
+use Rattle.rewrite_model.specs.Saying.{SaysRule}
+use Rattle.ruled_model.specs.RuledScripts.{Applies, as_line}
 use Rattle.script_model.specs.Makers.{Text, single}
-use Rattle.script_model.specs.Commands.{Cause, UnknownCommand, Unbuilt, BadArgument, TooMany}
-use Rattle.script_model.specs.Scripts.{said, LineSays, Says, cause_of, IsRefused}
+use Rattle.script_model.specs.Commands.{Cause, UnknownCommand, BadArgument, TooMany}
+use Rattle.script_model.specs.Scripts.{said, command_answer, LineSays, Says, cause_of, IsRefused}
 
--- a line, and what it asks for
+-- a line that asks for no rule, and what it asks for
 pub record Row : Type 0 where
   pub line : Text
   pub says : Result Request Cause
@@ -20,7 +23,7 @@ pub record Row : Type 0 where
 -- each row is as the definition has it
 abbrev pub AllSaid : List Row → Type 0
 AllSaid [] = Unit {0}
-AllSaid (r ∷ rs) = LineSays r.line r.says × AllSaid rs
+AllSaid (r ∷ rs) = LineSays r.line (command_answer r.says) × AllSaid rs
 
 -- a line that asks for something, for a command, and for a composite; and one that asks for nothing
 abbrev pub asks : Text → Request → Row
@@ -97,7 +100,7 @@ wrong_lines =
     wrong (codes "rename C D") UnknownCommand
     ∷ wrong (codes "RenameClass C D") UnknownCommand
     ∷ wrong (codes " -- C") UnknownCommand
-    ∷ wrong (codes "applyRule") Unbuilt
+    ∷ wrong (codes "applyRules +1@") UnknownCommand
     ∷ wrong (codes "inlineTemp A") BadArgument
     ∷ wrong (codes "extractMethod C instance x 0 12") BadArgument
     ∷ wrong (codes "inlineMethod C instance x 08 12") BadArgument
@@ -136,7 +139,7 @@ abbrev pub an_addition : Text
 an_addition = codes " addMethod C  class accessing   x ^x  "
 
 abbrev pub IsAddition : Type 0
-IsAddition = (tree : MethodOf Text) → SpellsMethod Second false (codes "x ^x  ") tree → LineSays an_addition (Ok (single (AddMethod c true (codes "accessing") (codes "x ^x  ") tree)))
+IsAddition = (tree : MethodOf Text) → SpellsMethod Second false (codes "x ^x  ") tree → LineSays an_addition (Ok (as_line (single (AddMethod c true (codes "accessing") (codes "x ^x  ") tree))))
 
 -- lines of `addParameter` whose words are wrong
 abbrev pub wrong_parameters : List Row
@@ -159,7 +162,7 @@ pub record ParameterRow : Type 0 where
 abbrev pub AllPassed : List ParameterRow → Type 0
 AllPassed [] = Unit {0}
 AllPassed (r ∷ rs) =
-    ((tree : SpannedSequence) (comments : Notes) (from : ℕ) → SpellsDoItAt Second r.passed tree → tree.statements ≡ MoreStatements comments from r.node NoStatements → LineSays r.line r.says) × AllPassed rs
+    ((tree : SpannedSequence) (comments : Notes) (from : ℕ) → SpellsDoItAt Second r.passed tree → tree.statements ≡ MoreStatements comments from r.node NoStatements → LineSays r.line (command_answer r.says)) × AllPassed rs
 
 abbrev pub passes : Text → SpannedTree → LiteralOf Text → ParameterRow
 passes text node l =
@@ -184,6 +187,23 @@ parameters =
     ∷ passes_not (codes " self") (Var 1 5 (codes "self"))
     ∷ []
 
+-- Lines of `applyRule` that are wrong: no certificate stands behind the word, or no arrow behind the certificate.
+abbrev pub wrong_rules : List Text
+wrong_rules = codes "applyRule" ∷ codes "applyRule +1@ x" ∷ []
+
+abbrev pub AllWrongRules : List Text → Type 0
+AllWrongRules [] = Unit {0}
+AllWrongRules (l ∷ ls) = LineSays l (Err BadArgument) × AllWrongRules ls
+
+-- a line that asks for the rule that the texts on both sides of the first arrow say; blanks beside the arrow are part of these texts
+abbrev pub a_rule_line : Text
+a_rule_line = codes " applyRule  +8@ `x ==> `x ==> "
+
+abbrev pub IsRuleLine : Type 0
+IsRuleLine =
+    (rule : RuleOf Text) → SaysRule (codes " `x") (codes "`x ==> ") rule →
+    LineSays a_rule_line (Ok (Perform (Applies (record { certificate = record { law = 8; forward = true; path = [] } ∷ []; rule = rule }))))
+
 -- a script: lines that say nothing, one that ends with a carriage return, and a last one without a line feed
 abbrev pub example : Text
 example = codes "-- first" ++ 10 ∷ 13 ∷ 10 ∷ codes "undo" ++ 13 ∷ 10 ∷ 9 ∷ 32 ∷ 10 ∷ codes "redo"
@@ -207,15 +227,19 @@ refused text at cause = record { text = text; number = at; cause = cause }
 -- of several wrong lines the first is told, whatever its cause
 abbrev pub refused_scripts : List RefusedRow
 refused_scripts =
-    refused (codes "renameClass C 1" ++ 10 ∷ codes "applyRule C") 1 BadArgument
-    ∷ refused (codes "applyRule C" ++ 10 ∷ codes "renameClass C 1") 1 Unbuilt
-    ∷ refused (codes "undo" ++ 10 ∷ codes "--" ++ 10 ∷ codes "applyRule C" ++ 10 ∷ codes "rename") 3 Unbuilt
+    refused (codes "renameClass C 1" ++ 10 ∷ codes "rename C") 1 BadArgument
+    ∷ refused (codes "rename C" ++ 10 ∷ codes "renameClass C 1") 1 UnknownCommand
+    ∷ refused (codes "undo" ++ 10 ∷ codes "--" ++ 10 ∷ codes "rename C" ++ 10 ∷ codes "renameClass") 3 UnknownCommand
     ∷ []
+
+-- why a line that asks for no rule is wrong behind so many commands
+abbrev pub cause_behind : ℕ → Text → Option Cause
+cause_behind count line = cause_of count (command_answer (said line))
 
 -- behind 9,999 commands there is room for one; behind 10,000 a line that asks for something is one too many, and one that is wrong in another way is told so
 abbrev pub HasLimit : Type 0
 HasLimit =
-    (cause_of 9999 (said (codes "undo")) ≡ None)
-    × (cause_of 10000 (said (codes "undo")) ≡ Some TooMany)
-    × (cause_of 10000 (said (codes "undo x")) ≡ Some BadArgument)
-    × (cause_of 10000 (said (codes "applyRule C")) ≡ Some Unbuilt)
+    (cause_behind 9999 (codes "undo") ≡ None)
+    × (cause_behind 10000 (codes "undo") ≡ Some TooMany)
+    × (cause_behind 10000 (codes "undo x") ≡ Some BadArgument)
+    × (cause_behind 10000 (codes "rename C") ≡ Some UnknownCommand)

@@ -1,5 +1,5 @@
 -- Versions of a history with a way back.
-use Rattle.std.proofs.Common.{◌≡◌, None, Ok, subst}
+use Rattle.std.proofs.Common.{◌≡◌, None, Ok, refl, subst}
 use Rattle.std.specs.Prelude.{List}
 use Rattle.std.specs.List.{AllByRecursion}
 use Rattle.image_model.specs.Image.{ImageOf}
@@ -15,15 +15,20 @@ use Rattle.command_model.specs.Renamings.{renaming_of}
 use Rattle.history_model.specs.Rules.{Asks}
 use Rattle.history_model.specs.History.{version_after}
 use Rattle.history_model.proofs.Keeping.{verdict-good}
-use Rattle.session_model.specs.Scripts.{Request, Version, History, rules, verdict_in}
-use Rattle.kept_runs.specs.WellSpelled.{IsWellSpelled, IsWellSpelledAction}
 use Rattle.kept_runs.specs.KeepsRuns.{IsSound, AllKeepRuns}
-use Rattle.history_laws.proofs.JudgedBeside.{made}
-use Rattle.history_laws.proofs.ScriptsKeep.{steps-spelled}
+use Rattle.rule_model.specs.RuleCommands.{RuleCommand}
+use Rattle.rule_laws.specs.KeptRules.{IsSpelledRule, RuleKeepsRuns}
+use Rattle.ruled_model.specs.RuledScripts.{Change, Plainly, ByRule, Line, Version, History, ruled, ruled_verdict}
+use Rattle.ruled_laws.specs.SpelledRequests.{IsSpelledChange, IsSpelledAsked}
+use Rattle.ruled_laws.proofs.RuledKept.{made, made_by_rule, changes_spelled}
 use Rattle.inverse_laws.specs.Inverse.{inverse, TakesBack}
 use Rattle.way_back_laws.specs.WayBack.{HasWayBack}
 
-module _ (kernel i : ImageOf Name) (keeps : AllKeepRuns kernel)
+-- where nothing is renamed, nothing is to be renamed back
+none-back : (v : ImageOf Name) → TakesBack (names_in v) no_renaming no_renaming
+none-back v = record { classes = λ c among. refl; selectors = λ s among. refl }
+
+module _ (kernel i : ImageOf Name) (keeps : AllKeepRuns kernel) (rule_keeps : (c : RuleCommand) → IsSpelledRule c → RuleKeepsRuns kernel c)
     (takes_back : (v : ImageOf Name) (c : CommandOf Name) → IsSound kernel v → first_false text_asked v c ≡ None → TakesBack (names_in v) (renaming_of v c) (inverse (renaming_of v c)))
     (turns : (v j : ImageOf Name) (r q : Renaming) → TakesBack (names_in v) r q → AreMatched v j r → AreMatched j v q)
     (joins : (a b c : ImageOf Name) (r q : Renaming) → AreMatched b a r → AreMatched c b q → AreMatched c a (composed q r)) where
@@ -32,8 +37,8 @@ module _ (kernel i : ImageOf Name) (keeps : AllKeepRuns kernel)
     valid : IsSound kernel v.image
     way : HasWayBack i v.image
 
-  command-back : (v : Version) (c : CommandOf Name) (j : ImageOf Name) → IsBack v → IsWellSpelled c → rules.judged v.image c ≡ Ok j → IsBack (version_after rules v c j)
-  command-back v c j kept spelled e =
+  change-back : (v : Version) (c : Change) (j : ImageOf Name) → IsBack v → IsSpelledChange c → ruled.judged v.image c ≡ Ok j → IsBack (version_after ruled v c j)
+  change-back v (Plainly c) j kept spelled e =
       let done = made v.image c j e in
       let law = keeps c spelled in
       let step : AreMatched v.image j (renaming_of v.image c) = subst (λ k. AreMatched v.image k (renaming_of v.image c)) done.1 (law.matched v.image kept.valid done.0) in
@@ -46,11 +51,22 @@ module _ (kernel i : ImageOf Name) (keeps : AllKeepRuns kernel)
               (turns v.image j (renaming_of v.image c) (inverse (renaming_of v.image c)) (takes_back v.image c kept.valid done.0) step);
         };
       }
+  change-back v (ByRule c) j kept spelled e =
+      let done = made_by_rule v.image c j e in
+      let law = rule_keeps c spelled in
+      let step : AreMatched v.image j no_renaming = subst (λ k. AreMatched v.image k no_renaming) done.1 (law.matched v.image done.0) in
+      record {
+        valid = subst (IsSound kernel) done.1 (law.valid v.image kept.valid done.0);
+        way = record {
+          back = composed no_renaming kept.way.back;
+          matched = joins i v.image j kept.way.back no_renaming kept.way.matched (turns v.image j no_renaming no_renaming (none-back v.image) step);
+        };
+      }
 
-  script-good : (script : List Request) (h : History) → IsSound kernel i → AllByRecursion (Asks IsWellSpelledAction) script → verdict_in i script ≡ Ok h → IsBack h.now
+  script-good : (script : List Line) (h : History) → IsSound kernel i → AllByRecursion (Asks IsSpelledAsked) script → ruled_verdict i script ≡ Ok h → IsBack h.now
   script-good script h sound spelled e =
-      verdict-good rules IsBack IsWellSpelled IsWellSpelledAction command-back (λ v x kept s none. steps-spelled kernel v.image x kept.valid s none)
+      verdict-good ruled IsBack IsSpelledChange IsSpelledAsked change-back (λ v x kept s none. changes_spelled kernel v.image x kept.valid s none)
       i script h (record { valid = sound; way = record { back = no_renaming; matched = matched-same i } }) spelled e
 
-  pub script-back : (script : List Request) (h : History) → IsSound kernel i → AllByRecursion (Asks IsWellSpelledAction) script → verdict_in i script ≡ Ok h → HasWayBack i h.now.image
+  pub script-back : (script : List Line) (h : History) → IsSound kernel i → AllByRecursion (Asks IsSpelledAsked) script → ruled_verdict i script ≡ Ok h → HasWayBack i h.now.image
   script-back script h sound spelled e = (script-good script h sound spelled e).way

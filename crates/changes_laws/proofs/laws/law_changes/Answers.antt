@@ -15,14 +15,14 @@ returns-clause-done c = λ image_line text script s sent changes e short.
       other = λ printed o within. (let f = o.changed in
           let kernel = f.is_image.kernel in
           let v = c.every_image_is_valid.ensures in
-          let l = c.law_script_images.ensures in
           let valid = v.valid Second text kernel f.image f.is_image.is_kernel f.is_image in
-          let spelled = requests-spelled script f.requests f.says in
+          let spelled = requests-spelled (λ first second rule says. c.law_said_rule.ensures first second rule says) script f.requests f.says in
+          let kept = c.law_scripts.ensures.kept kernel f.image f.requests f.history f.is_image.is_kernel valid spelled f.accepted in
           let same = script-keeps f.image f.requests f.history f.accepted in
           record {
             valid = o.valid;
-            fileable = l.fileable kernel f.image f.requests f.history f.is_image.is_kernel valid spelled f.accepted (v.fileable Second text kernel f.image f.is_image.is_kernel f.is_image);
-            first = l.first kernel f.image f.requests f.history f.is_image.is_kernel valid spelled f.accepted (v.first Second text kernel f.image f.is_image.is_kernel f.is_image);
+            fileable = kept.fileable (v.fileable Second text kernel f.image f.is_image.is_kernel f.is_image);
+            first = kept.first (v.first Second text kernel f.image f.is_image.is_kernel f.is_image);
             few = within;
             doits = same.doits;
             heads = same.heads;

@@ -1,4 +1,5 @@
 use Rattle.script_model.proofs.ExamplesJudged.{says_commands, finds_wrong_lines, finds_wrong_additions, adds, finds_wrong_parameters, passes_parameters, says_script, refuses_scripts, has_limit}
+use Rattle.script_model.proofs.RulesJudged.{finds_wrong_rules, says_rule}
 use Rattle.script_model.proofs.laws.judges_examples.Goals as goal
 
 pub returns-clause-commands : goal.returns-clause-commands
@@ -18,6 +19,12 @@ returns-clause-wrong_parameters c = finds_wrong_parameters
 
 pub returns-clause-parameters : goal.returns-clause-parameters
 returns-clause-parameters c = passes_parameters
+
+pub returns-clause-wrong_rules : goal.returns-clause-wrong_rules
+returns-clause-wrong_rules c = finds_wrong_rules
+
+pub returns-clause-rule : goal.returns-clause-rule
+returns-clause-rule c = says_rule
 
 pub returns-clause-script : goal.returns-clause-script
 returns-clause-script c = says_script
