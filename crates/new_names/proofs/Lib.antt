@@ -1,0 +1,2 @@
+mod AsTexts
+mod ShownRuns
