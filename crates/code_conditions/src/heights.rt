@@ -1,6 +1,6 @@
 // How high the code of an image is after a command that moves code.
 ghost use Rattle.std.specs.Prelude.{◌≡◌, ℕ, false, option_map, IfOk};
-ghost use Rattle.std.specs.Option.{option_map_or};
+ghost use Rattle.std.specs.Option.{option_map_or, ForSome};
 ghost use Rattle.tree_model.specs.Tree.{MethodOf};
 ghost use Rattle.st_tree.specs.View.{method_of};
 ghost use Rattle.class_table.specs.Valid.{IsOrderly};
@@ -9,6 +9,7 @@ ghost use Rattle.command_model.specs.CodeHolds.{code_holds};
 ghost use Rattle.command_model.specs.Conditions.{Shallow};
 ghost use Rattle.command_model.specs.ParameterConditions.{is_low};
 ghost use Rattle.commands.specs.Views.{asked_by, code_command};
+ghost use Rattle.part_lookup.specs.Kept.{IsKept};
 ghost use Rattle.reference_index.specs.Mentioned.{IsIndexOf};
 ghost use Rattle.code_conditions.specs.Trees.{is_shallow_extracted};
 
@@ -20,7 +21,7 @@ use class_table::Image;
 use commands::{CodeMove, MethodPart};
 use extracted_code::extract;
 use parameter_questions::is_high;
-use part_lookup::users_part;
+use part_lookup::{KeptPart, kept_part};
 use rb_base::{Memory, NameId, Steps};
 use reference_index::Index;
 use st_tree::Method;
@@ -43,12 +44,14 @@ fn is_shallow_extracted<L: Ledger>(
     image: &Image,
     part: &MethodPart,
     to: NameId,
+    kept: &Option<KeptPart>,
     steps: &mut Steps<L>,
 ) -> Result<bool, Memory>
-    requires { IsOrderly image.now }
+    requires orderly { IsOrderly image.now }
+    requires kept { ForSome kept.now (IsKept image.now) }
     ensures { IfOk result (λ is. is ≡ is_shallow_extracted image.now part.now to) }
 {
-    let Some(found) = users_part(alloc, image, part, steps)? else {
+    let Some(found) = kept_part(alloc, image, part, kept, steps)? else {
         return Ok(false);
     };
     let names = image.names();
@@ -73,10 +76,12 @@ pub fn is_shallow_after<L: Ledger>(
     image: &Image,
     index: &Index,
     change: &CodeMove,
+    kept: &Option<KeptPart>,
     steps: &mut Steps<L>,
 ) -> Result<bool, Memory>
     requires orderly { IsOrderly image.now }
     requires index { IsIndexOf image.now index.now }
+    requires kept { ForSome kept.now (IsKept image.now) }
     ensures { IfOk result (λ is. is ≡ code_holds (asked_by image.now.names) (number_image image.now) (code_command change.now) Shallow) }
 {
     match change {
@@ -96,14 +101,14 @@ pub fn is_shallow_after<L: Ledger>(
             is_shallow_abstracted(alloc, image, index, &abstraction, steps)
         }
         CodeMove::ExtractMethod { part, to } => {
-            is_shallow_extracted(alloc, image, part, *to, steps)
+            is_shallow_extracted(alloc, image, part, *to, kept, steps)
         }
         CodeMove::InlineMethod(part) => {
-            let tree = with_body(alloc, image, part, steps)?;
+            let tree = with_body(alloc, image, part, kept, steps)?;
             Ok(is_low(&tree))
         }
         CodeMove::ExtractTemporary { part, variable } => {
-            let tree = with_temporary(alloc, image, part, *variable, steps)?;
+            let tree = with_temporary(alloc, image, part, *variable, kept, steps)?;
             Ok(is_low(&tree))
         }
         CodeMove::InlineTemporary { method, variable } => {

@@ -1,10 +1,11 @@
 // Which conditions of a part hold that is taken out of a method.
 ghost use Rattle.std.specs.Prelude.{◌≡◌, false, IfOk};
-ghost use Rattle.std.specs.Option.{option_map_or};
+ghost use Rattle.std.specs.Option.{option_map_or, ForSome};
 ghost use Rattle.class_table.specs.Valid.{IsLive, IsOrderly};
 ghost use Rattle.class_table.specs.View.{number_image};
 ghost use Rattle.command_model.specs.CodeEffects.{part_at};
 ghost use Rattle.commands.specs.Views.{asked_by};
+ghost use Rattle.part_lookup.specs.Kept.{IsKept};
 ghost use Rattle.part_questions.specs.Parts.{part_of};
 ghost use Rattle.users_methods.specs.Users.{entry_in};
 ghost use Rattle.code_conditions.specs.Passes.{part_passes};
@@ -12,7 +13,7 @@ ghost use Rattle.code_conditions.specs.Passes.{part_passes};
 use crate::words::self_name;
 use class_table::Image;
 use commands::{Condition, MethodPart};
-use part_lookup::{UsersPart, users_part};
+use part_lookup::{KeptPart, UsersPart, kept_part};
 use part_questions::{
     MethodCode, are_temporaries_steady, assigns_no_outer, has_no_return, is_first_evaluated,
     is_part, is_value_unused,
@@ -60,12 +61,14 @@ pub fn part_holds<L: Ledger>(
     image: &Image,
     part: &MethodPart,
     condition: &Condition,
+    kept: &Option<KeptPart>,
     steps: &mut Steps<L>,
 ) -> Result<bool, Memory>
-    requires { IsOrderly image.now }
+    requires orderly { IsOrderly image.now }
+    requires kept { ForSome kept.now (IsKept image.now) }
     ensures { IfOk result (λ is. is ≡ option_map_or (λ e. part_passes image.now condition.now e.0 e.1) (part_at (asked_by image.now.names) (number_image image.now) part.now.method.class part.now.method.meta part.now.method.selector part.now.from part.now.to) false) }
 {
-    match users_part(alloc, image, part, steps)? {
+    match kept_part(alloc, image, part, kept, steps)? {
         None => Ok(false),
         Some(found) => part_passes(alloc, image, condition, &found),
     }

@@ -1,12 +1,13 @@
 // Which conditions of a message hold that becomes the body of the method that it finds.
 ghost use Rattle.std.specs.Prelude.{◌≡◌, true, false, nat_eq, IfOk};
-ghost use Rattle.std.specs.Option.{option_map_or};
+ghost use Rattle.std.specs.Option.{option_map_or, ForSome};
 ghost use Rattle.class_table.specs.Valid.{IsOrderly};
 ghost use Rattle.class_table.specs.View.{number_image};
 ghost use Rattle.command_model.specs.CodeEffects.{send_at, target_of};
 ghost use Rattle.command_model.specs.Hierarchy.{is_class};
 ghost use Rattle.command_model.specs.InlineConditions as model;
 ghost use Rattle.commands.specs.Views.{asked_by};
+ghost use Rattle.part_lookup.specs.Kept.{IsKept};
 ghost use Rattle.part_questions.specs.Codes.{entry_of};
 ghost use Rattle.inlined_code.specs.Sending.{send_of};
 ghost use Rattle.inline_questions.specs.Codes.{entry_in, IsCall};
@@ -19,7 +20,7 @@ use commands::{Condition, MethodName, MethodPart};
 use inline_questions::{
     Call, are_actuals_plain, captures_nothing, is_inlinable, makes_no_control, target_of,
 };
-use part_lookup::users_part;
+use part_lookup::{KeptPart, kept_part};
 use rb_base::{Memory, NameId, Steps};
 use std::alloc::Global;
 use std::sync::ledger::Ledger;
@@ -30,12 +31,14 @@ pub fn is_self_send<L: Ledger>(
     alloc: Global,
     image: &Image,
     part: &MethodPart,
+    kept: &Option<KeptPart>,
     steps: &mut Steps<L>,
 ) -> Result<bool, Memory>
-    requires { IsOrderly image.now }
+    requires orderly { IsOrderly image.now }
+    requires kept { ForSome kept.now (IsKept image.now) }
     ensures { IfOk result (λ is. is ≡ option_map_or (λ e. model.is_self_send (asked_by image.now.names) (number_image image.now) e.1) (send_at (asked_by image.now.names) (number_image image.now) part.now.method.class part.now.method.meta part.now.method.selector part.now.from part.now.to) false) }
 {
-    let Some(found) = users_part(alloc, image, part, steps)? else {
+    let Some(found) = kept_part(alloc, image, part, kept, steps)? else {
         return Ok(false);
     };
     let Some(sent) = sent_of(&found) else {
@@ -90,12 +93,14 @@ pub fn target_holds<L: Ledger>(
     image: &Image,
     part: &MethodPart,
     condition: &Condition,
+    kept: &Option<KeptPart>,
     steps: &mut Steps<L>,
 ) -> Result<bool, Memory>
-    requires { IsOrderly image.now }
+    requires orderly { IsOrderly image.now }
+    requires kept { ForSome kept.now (IsKept image.now) }
     ensures { IfOk result (λ is. is ≡ option_map_or (λ e. option_map_or (target_passes image.now part.now.method.class condition.now e.0 e.1) (target_of (asked_by image.now.names) (number_image image.now) part.now.method.class part.now.method.meta e.1) false) (send_at (asked_by image.now.names) (number_image image.now) part.now.method.class part.now.method.meta part.now.method.selector part.now.from part.now.to) false) }
 {
-    let Some(found) = users_part(alloc, image, part, steps)? else {
+    let Some(found) = kept_part(alloc, image, part, kept, steps)? else {
         return Ok(false);
     };
     let method = code_of(&found.method);

@@ -1,9 +1,11 @@
 // The trees that methods get.
 ghost use Rattle.std.specs.Prelude.{◌≡◌, ℕ, Some, option_map, IfOk};
+ghost use Rattle.std.specs.Option.{ForSome};
 ghost use Rattle.tree_model.specs.Normal.{normal};
 ghost use Rattle.class_table.specs.Valid.{IsLive, IsOrderly};
 ghost use Rattle.class_table.specs.View.{class_name};
 ghost use Rattle.st_tree.specs.View.{method_of};
+ghost use Rattle.part_lookup.specs.Kept.{IsKept};
 ghost use Rattle.part_questions.specs.Parts.{part_of};
 ghost use Rattle.code_conditions.specs.Trees.{inlined_at, with_temporary, with_body, with_value};
 
@@ -12,7 +14,7 @@ use commands::{MethodName, MethodPart};
 use inline_questions::target_of;
 use inlined_code::{sent_by, tree_inlined};
 use let_code::{let_of, temporary_extracted, temporary_inlined};
-use part_lookup::users_part;
+use part_lookup::{KeptPart, kept_part};
 use part_questions::MethodCode;
 use rb_base::{Memory, NameId, Steps};
 use st_tree::{Method, Part};
@@ -27,12 +29,14 @@ pub(crate) fn with_temporary<L: Ledger>(
     image: &Image,
     part: &MethodPart,
     variable: NameId,
+    kept: &Option<KeptPart>,
     steps: &mut Steps<L>,
 ) -> Result<Option<Method>, Memory>
-    requires { IsOrderly image.now }
+    requires orderly { IsOrderly image.now }
+    requires kept { ForSome kept.now (IsKept image.now) }
     ensures { IfOk result (λ tree. option_map method_of tree ≡ option_map normal (with_temporary image.now part.now variable)) }
 {
-    let Some(found) = users_part(alloc, image, part, steps)? else {
+    let Some(found) = kept_part(alloc, image, part, kept, steps)? else {
         return Ok(None);
     };
     match &found.part {
@@ -77,12 +81,14 @@ pub(crate) fn with_body<L: Ledger>(
     alloc: Global,
     image: &Image,
     part: &MethodPart,
+    kept: &Option<KeptPart>,
     steps: &mut Steps<L>,
 ) -> Result<Option<Method>, Memory>
-    requires { IsOrderly image.now }
+    requires orderly { IsOrderly image.now }
+    requires kept { ForSome kept.now (IsKept image.now) }
     ensures { IfOk result (λ tree. option_map method_of tree ≡ option_map normal (with_body image.now part.now)) }
 {
-    let Some(found) = users_part(alloc, image, part, steps)? else {
+    let Some(found) = kept_part(alloc, image, part, kept, steps)? else {
         return Ok(None);
     };
     let code = MethodCode {

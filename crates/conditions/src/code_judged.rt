@@ -1,5 +1,6 @@
 // Which conditions on parameters, on the names in a method and on heights hold.
 ghost use Rattle.std.specs.Prelude.{◌≡◌, ◌<◌, ℕ, length, IfOk};
+ghost use Rattle.std.specs.Option.{ForSome};
 ghost use Rattle.image_model.specs.Image.{ImageOf};
 ghost use Rattle.class_table.specs.Valid.{IsOrderly};
 ghost use Rattle.class_table.specs.View.{number_image};
@@ -9,6 +10,7 @@ ghost use Rattle.command_numbers.specs.CommandNames.{ConditionNames};
 ghost use Rattle.commands.specs.Views.{asked_by, command_of, condition_of};
 ghost use Rattle.commands.specs.declared.command.MethodName.{MethodName};
 ghost use Rattle.commands.specs.declared.condition.Condition.TheVariants as kinds;
+ghost use Rattle.part_lookup.specs.Kept.{IsKept};
 ghost use Rattle.reference_index.specs.Mentioned.{IsIndexOf};
 ghost use Rattle.conditions.specs.Concerns.{Concerns};
 ghost use Rattle.conditions.specs.Spots.{spot_passes};
@@ -22,6 +24,7 @@ use parameter_questions::{
     are_arguments_plain, is_declared_once, is_not_in, is_parameter_unused, is_passed_atom,
     is_shallow_speaking,
 };
+use part_lookup::KeptPart;
 use rb_base::{Memory, Names, Steps};
 use reference_index::Index;
 use std::alloc::Global;
@@ -43,10 +46,12 @@ fn is_shallow<L: Ledger>(
     image: &Image,
     index: &Index,
     command: &Command,
+    kept: &Option<KeptPart>,
     steps: &mut Steps<L>,
 ) -> Result<bool, Memory>
     requires orderly { IsOrderly image.now }
     requires index { IsIndexOf image.now index.now }
+    requires kept { ForSome kept.now (IsKept image.now) }
     requires concerns { Concerns (number_image image.now) (command_of command.now) asked.Shallow }
     ensures { IfOk result (λ is. is ≡ code_holds (asked_by image.now.names) (number_image image.now) (command_of command.now) asked.Shallow) }
 {
@@ -54,7 +59,7 @@ fn is_shallow<L: Ledger>(
         Command::AddParameter(new) => {
             is_shallow_speaking(alloc, image, index, new.selector, steps)
         }
-        Command::MoveCode(change) => is_shallow_after(alloc, image, index, change, steps),
+        Command::MoveCode(change) => is_shallow_after(alloc, image, index, change, kept, steps),
         _ => Ok(false),
     }
 }
@@ -65,14 +70,16 @@ fn is_target_inlinable<L: Ledger>(
     image: &Image,
     command: &Command,
     condition: &Condition,
+    kept: &Option<KeptPart>,
     steps: &mut Steps<L>,
 ) -> Result<bool, Memory>
-    requires { IsOrderly image.now }
+    requires orderly { IsOrderly image.now }
+    requires kept { ForSome kept.now (IsKept image.now) }
     ensures { (m : MethodName) → condition.now ≡ kinds.Inlinable m → IfOk result (λ is. is ≡ code_holds (asked_by image.now.names) (number_image image.now) (command_of command.now) (asked.Inlinable m.class m.meta m.selector)) }
 {
     match command {
         Command::MoveCode(CodeMove::InlineMethod(part)) => {
-            target_holds(alloc, image, part, condition, steps)
+            target_holds(alloc, image, part, condition, kept, steps)
         }
         _ => Ok(false),
     }
@@ -85,9 +92,11 @@ fn spot_holds<L: Ledger>(
     method: &MethodName,
     spot: &Spot,
     condition: &Condition,
+    kept: &Option<KeptPart>,
     steps: &mut Steps<L>,
 ) -> Result<bool, Memory>
-    requires { IsOrderly image.now }
+    requires orderly { IsOrderly image.now }
+    requires kept { ForSome kept.now (IsKept image.now) }
     ensures { IfOk result (λ is. is ≡ spot_passes image.now method.now spot.now condition.now) }
 {
     match spot {
@@ -97,7 +106,7 @@ fn spot_holds<L: Ledger>(
                 from: *from,
                 to: *to,
             };
-            target_holds(alloc, image, &part, condition, steps)
+            target_holds(alloc, image, &part, condition, kept, steps)
         }
         Spot::Name(variable) => let_holds(alloc, image, method, *variable, condition, steps),
     }
@@ -110,10 +119,12 @@ pub(crate) fn code_holds<L: Ledger>(
     index: &Index,
     command: &Command,
     condition: &Condition,
+    kept: &Option<KeptPart>,
     steps: &mut Steps<L>,
 ) -> Result<bool, Memory>
     requires orderly { IsOrderly image.now }
     requires index { IsIndexOf image.now index.now }
+    requires kept { ForSome kept.now (IsKept image.now) }
     requires condition { ConditionNames (λ n. n < length image.now.names) (condition_of condition.now) }
     requires concerns { Concerns (number_image image.now) (command_of command.now) (condition_of condition.now) }
     ensures { IfOk result (λ is. is ≡ code_holds (asked_by image.now.names) (number_image image.now) (command_of command.now) (condition_of condition.now)) }
@@ -130,22 +141,24 @@ pub(crate) fn code_holds<L: Ledger>(
             is_declared_once(alloc, image, *method, *variable, steps)
         }
         Condition::NotIn { method, variable } => is_not_in(alloc, image, *method, *variable, steps),
-        Condition::Shallow => is_shallow(alloc, image, index, command, steps),
-        Condition::PartIs(part) => part_holds(alloc, image, part, condition, steps),
-        Condition::NoReturn(part) => part_holds(alloc, image, part, condition, steps),
-        Condition::AssignsNoOuter(part) => part_holds(alloc, image, part, condition, steps),
-        Condition::TempsSteady(part) => part_holds(alloc, image, part, condition, steps),
-        Condition::ValueUnused(part) => part_holds(alloc, image, part, condition, steps),
-        Condition::FirstEvaluated(part) => part_holds(alloc, image, part, condition, steps),
-        Condition::SelfSend(part) => is_self_send(alloc, image, part, steps),
+        Condition::Shallow => is_shallow(alloc, image, index, command, kept, steps),
+        Condition::PartIs(part) => part_holds(alloc, image, part, condition, kept, steps),
+        Condition::NoReturn(part) => part_holds(alloc, image, part, condition, kept, steps),
+        Condition::AssignsNoOuter(part) => part_holds(alloc, image, part, condition, kept, steps),
+        Condition::TempsSteady(part) => part_holds(alloc, image, part, condition, kept, steps),
+        Condition::ValueUnused(part) => part_holds(alloc, image, part, condition, kept, steps),
+        Condition::FirstEvaluated(part) => part_holds(alloc, image, part, condition, kept, steps),
+        Condition::SelfSend(part) => is_self_send(alloc, image, part, kept, steps),
         Condition::OneTarget(method) => Ok(is_one_target(image, method)),
-        Condition::Inlinable(_) => is_target_inlinable(alloc, image, command, condition, steps),
-        Condition::PlainActuals(part) => target_holds(alloc, image, part, condition, steps),
+        Condition::Inlinable(_) => is_target_inlinable(
+            alloc, image, command, condition, kept, steps,
+        ),
+        Condition::PlainActuals(part) => target_holds(alloc, image, part, condition, kept, steps),
         Condition::NoCapture { method, spot } => {
-            spot_holds(alloc, image, method, spot, condition, steps)
+            spot_holds(alloc, image, method, spot, condition, kept, steps)
         }
         Condition::NoNewControl { method, spot } => {
-            spot_holds(alloc, image, method, spot, condition, steps)
+            spot_holds(alloc, image, method, spot, condition, kept, steps)
         }
         Condition::LetForm { method, variable } => {
             let_holds(alloc, image, method, *variable, condition, steps)

@@ -1,6 +1,7 @@
 // Which conditions of a command hold.
 ghost use Rattle.std.specs.Prelude.{◌≡◌, ◌<◌, ℕ, length, map, nat_eq, not, find, option_map, IfOk};
 ghost use Rattle.std.specs.List.{AllByRecursion};
+ghost use Rattle.std.specs.Option.{ForSome};
 ghost use Rattle.image_model.specs.Image.{ImageOf};
 ghost use Rattle.image_model.specs.ImageNames.{OptionNames};
 ghost use Rattle.image_model.specs.Words.{WordsOf, number_words};
@@ -16,6 +17,7 @@ ghost use Rattle.command_model.specs.VariableConditions.{is_unused_for, may_come
 ghost use Rattle.command_numbers.specs.CommandNames.{CommandNames, ConditionNames};
 ghost use Rattle.name_meanings.specs.Meanings as meanings;
 ghost use Rattle.commands.specs.Views.{asked_by, command_of, condition_of, move_command};
+ghost use Rattle.part_lookup.specs.Kept.{IsKept};
 ghost use Rattle.reference_index.specs.Mentioned.{IsIndexOf};
 ghost use Rattle.conditions.specs.Concerns.{Concerns};
 
@@ -24,6 +26,7 @@ use crate::code::{
     is_known_selector, is_name_unused, is_no_kernel_selector, is_selector_fresh, is_variable_free,
 };
 use crate::code_judged::code_holds;
+use crate::moves::kept_of;
 use crate::needed::{arity_of, is_good_name, needs};
 use crate::reflection::has_no_reflection;
 use class_questions::{has_variable, is_class, is_user_class};
@@ -38,6 +41,7 @@ use method_questions::{
     means_same_in_class,
 };
 use name_meanings::VariableKind;
+use part_lookup::KeptPart;
 use rb_base::{Memory, NameId, Steps};
 use reference_index::Index;
 use std::alloc::Global;
@@ -177,17 +181,19 @@ fn is_without_reflection<L: Ledger>(
 
 /// Whether the condition holds in the image, as one of the command's. Whether there is something to undo or to do again, an
 /// image alone does not tell: these are false.
-pub fn holds<L: Ledger>(
+pub(crate) fn holds<L: Ledger>(
     alloc: Global,
     image: &Image,
     index: &Index,
     command: &Command,
     condition: &Condition,
+    kept: &Option<KeptPart>,
     steps: &mut Steps<L>,
 ) -> Result<bool, Memory>
     requires orderly { IsOrderly image.now }
     requires index { IsIndexOf image.now index.now }
     requires command { CommandNames (λ n. n < length image.now.names) (command_of command.now) }
+    requires kept { ForSome kept.now (IsKept image.now) }
     requires condition { ConditionNames (λ n. n < length image.now.names) (condition_of condition.now) }
     requires concerns { Concerns (number_image image.now) (command_of command.now) (condition_of condition.now) }
     ensures { IfOk result (λ is. is ≡ model.holds (asked_by image.now.names) (number_image image.now) (command_of command.now) (condition_of condition.now)) }
@@ -236,28 +242,28 @@ pub fn holds<L: Ledger>(
         }
         Condition::UndoLeft | Condition::RedoLeft => Ok(false),
         Condition::ParameterUnused { .. } | Condition::PlainArguments { .. } => {
-            code_holds(alloc, image, index, command, condition, steps)
+            code_holds(alloc, image, index, command, condition, kept, steps)
         }
         Condition::AtomLiteral | Condition::Shallow => {
-            code_holds(alloc, image, index, command, condition, steps)
+            code_holds(alloc, image, index, command, condition, kept, steps)
         }
         Condition::Declared { .. } | Condition::NotIn { .. } => {
-            code_holds(alloc, image, index, command, condition, steps)
+            code_holds(alloc, image, index, command, condition, kept, steps)
         }
         Condition::PartIs(_) | Condition::NoReturn(_) | Condition::AssignsNoOuter(_) => {
-            code_holds(alloc, image, index, command, condition, steps)
+            code_holds(alloc, image, index, command, condition, kept, steps)
         }
         Condition::TempsSteady(_) | Condition::ValueUnused(_) | Condition::FirstEvaluated(_) => {
-            code_holds(alloc, image, index, command, condition, steps)
+            code_holds(alloc, image, index, command, condition, kept, steps)
         }
         Condition::SelfSend(_) | Condition::OneTarget(_) | Condition::Inlinable(_) => {
-            code_holds(alloc, image, index, command, condition, steps)
+            code_holds(alloc, image, index, command, condition, kept, steps)
         }
         Condition::PlainActuals(_) | Condition::LetForm { .. } => {
-            code_holds(alloc, image, index, command, condition, steps)
+            code_holds(alloc, image, index, command, condition, kept, steps)
         }
         Condition::NoCapture { .. } | Condition::NoNewControl { .. } => {
-            code_holds(alloc, image, index, command, condition, steps)
+            code_holds(alloc, image, index, command, condition, kept, steps)
         }
     }
 }
@@ -269,25 +275,28 @@ fn first_false_of<L: Ledger>(
     index: &Index,
     command: &Command,
     conditions: &[Condition],
+    kept: &Option<KeptPart>,
     steps: &mut Steps<L>,
 ) -> Result<Option<Condition>, Memory>
     requires orderly { IsOrderly image.now }
     requires index { IsIndexOf image.now index.now }
     requires command { CommandNames (λ n. n < length image.now.names) (command_of command.now) }
+    requires kept { ForSome kept.now (IsKept image.now) }
     requires conditions { AllByRecursion (λ c. ConditionNames (λ n. n < length image.now.names) (condition_of c)) conditions.now }
     requires concern { AllByRecursion (λ c. Concerns (number_image image.now) (command_of command.now) (condition_of c)) conditions.now }
     ensures first { IfOk result (λ found. option_map condition_of found ≡ find (λ c. not (model.holds (asked_by image.now.names) (number_image image.now) (command_of command.now) c)) (map condition_of conditions.now)) }
     ensures known { IfOk result (λ found. OptionNames (λ c. ConditionNames (λ n. n < length image.now.names) (condition_of c)) found) }
 {
     for condition in conditions {
-        if !holds(alloc, image, index, command, condition, steps)? {
+        if !holds(alloc, image, index, command, condition, kept, steps)? {
             return Ok(Some(*condition));
         }
     }
     Ok(None)
 }
 
-/// The first condition of the command that is false in the image.
+/// The first condition of the command that is false in the image. Reads the source of a method at most once, to find the part
+/// that the command names.
 pub fn first_false<L: Ledger>(
     alloc: Global,
     image: &Image,
@@ -301,6 +310,8 @@ pub fn first_false<L: Ledger>(
     ensures first { IfOk result (λ found. option_map condition_of found ≡ judged.first_false (asked_by image.now.names) (number_image image.now) (command_of command.now)) }
     ensures known { IfOk result (λ found. OptionNames (λ c. ConditionNames (λ n. n < length image.now.names) (condition_of c)) found) }
 {
-    let conditions = needs(alloc, image, command, steps)?;
-    first_false_of(alloc, image, index, command, conditions.as_slice(), steps)
+    let kept = kept_of(alloc, image, command, steps)?;
+    let conditions = needs(alloc, image, command, &kept, steps)?;
+    let conditions = conditions.as_slice();
+    first_false_of(alloc, image, index, command, conditions, &kept, steps)
 }

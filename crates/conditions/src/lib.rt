@@ -10,6 +10,5 @@ mod needed;
 mod parameters;
 mod reflection;
 
-pub use judged::{first_false, holds};
-pub use needed::needs;
+pub use judged::first_false;
 pub use reflection::has_no_reflection;

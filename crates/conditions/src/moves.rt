@@ -1,6 +1,6 @@
 // The conditions of commands that move code.
 ghost use Rattle.std.specs.Prelude.{◌≡◌, ◌∷◌, ◌++◌, [], length, map, Some, option_map, IfOk, OnOk};
-ghost use Rattle.std.specs.Option.{option_map_or};
+ghost use Rattle.std.specs.Option.{option_map_or, ForSome};
 ghost use Rattle.st_tree.specs.View.{method_of};
 ghost use Rattle.class_table.specs.Valid.{IsLive, IsOrderly};
 ghost use Rattle.class_table.specs.View.{class_name, number_image};
@@ -12,20 +12,40 @@ ghost use Rattle.command_model.specs.Extracted.{free_temporaries};
 ghost use Rattle.command_model.specs.Needs as model;
 ghost use Rattle.command_model.specs.Places.{sent_by};
 ghost use Rattle.commands.specs.Views.{asked_by, code_command, condition_of};
+ghost use Rattle.part_lookup.specs.Kept.{IsKept};
 ghost use Rattle.part_questions.specs.Parts.{part_of};
 ghost use Rattle.inline_questions.specs.Codes.{entry_in};
 ghost use Rattle.conditions.specs.Messages.{found_needs};
 
 use class_table::{ClassId, Image};
 use code_conditions::sent_of;
-use commands::{CodeMove, Condition, MethodName, MethodPart, NameKind, Spot};
+use commands::{CodeMove, Command, Condition, MethodName, MethodPart, NameKind, Spot};
 use extracted_code::free_temporaries;
 use inline_questions::{Target, target_of};
-use part_lookup::{UsersPart, users_part};
+use part_lookup::{KeptPart, UsersPart, keep_part, kept_part};
 use part_questions::MethodCode;
 use rb_base::{Memory, NameId, Steps};
 use std::alloc::Global;
 use std::sync::ledger::Ledger;
+
+/// The part that the command names, looked for once; nothing, if it names none.
+pub(crate) fn kept_of<L: Ledger>(
+    alloc: Global,
+    image: &Image,
+    command: &Command,
+    steps: &mut Steps<L>,
+) -> Result<Option<KeptPart>, Memory>
+    requires { IsOrderly image.now }
+    ensures { IfOk result (λ kept. ForSome kept (IsKept image.now)) }
+{
+    let part = match command {
+        Command::MoveCode(CodeMove::ExtractMethod { part, .. }) => part,
+        Command::MoveCode(CodeMove::InlineMethod(part)) => part,
+        Command::MoveCode(CodeMove::ExtractTemporary { part, .. }) => part,
+        _ => return Ok(None),
+    };
+    Ok(Some(keep_part(alloc, image, part, steps)?))
+}
 
 /// The conditions of an instance variable that messages come to read and assign.
 fn needs_of_abstraction(
@@ -58,12 +78,14 @@ fn argument_count<L: Ledger>(
     alloc: Global,
     image: &Image,
     part: &MethodPart,
+    kept: &Option<KeptPart>,
     steps: &mut Steps<L>,
 ) -> Result<Option<usize>, Memory>
-    requires { IsOrderly image.now }
+    requires orderly { IsOrderly image.now }
+    requires kept { ForSome kept.now (IsKept image.now) }
     ensures { IfOk result (λ count. count ≡ option_map (λ e. length (free_temporaries (asked_by image.now.names) e.0.tree e.1)) (part_at (asked_by image.now.names) (number_image image.now) part.now.method.class part.now.method.meta part.now.method.selector part.now.from part.now.to)) }
 {
-    let Some(found) = users_part(alloc, image, part, steps)? else {
+    let Some(found) = kept_part(alloc, image, part, kept, steps)? else {
         return Ok(None);
     };
     let free = free_temporaries(alloc, image.names(), found.method.tree, &found.part)?;
@@ -123,12 +145,14 @@ fn needs_of_method_extraction<L: Ledger>(
     image: &Image,
     part: &MethodPart,
     to: NameId,
+    kept: &Option<KeptPart>,
     steps: &mut Steps<L>,
 ) -> Result<Vec<Condition>, Memory>
-    requires { IsOrderly image.now }
+    requires orderly { IsOrderly image.now }
+    requires kept { ForSome kept.now (IsKept image.now) }
     ensures { IfOk result (λ found. map condition_of found.items ≡ model.needs (asked_by image.now.names) (number_image image.now) (commands.ExtractMethod part.now.method.class part.now.method.meta part.now.method.selector part.now.from part.now.to to)) }
 {
-    let count = argument_count(alloc, image, part, steps)?;
+    let count = argument_count(alloc, image, part, kept, steps)?;
     needs_of_new_method_of(alloc, part, to, count)
 }
 
@@ -247,9 +271,11 @@ fn needs_of_message<L: Ledger>(
     alloc: Global,
     image: &Image,
     part: &MethodPart,
+    kept: &Option<KeptPart>,
     steps: &mut Steps<L>,
 ) -> Result<Vec<Condition>, Memory>
-    requires { IsOrderly image.now }
+    requires orderly { IsOrderly image.now }
+    requires kept { ForSome kept.now (IsKept image.now) }
     ensures { IfOk result (λ found. map condition_of found.items ≡ model.needs (asked_by image.now.names) (number_image image.now) (commands.InlineMethod part.now.method.class part.now.method.meta part.now.method.selector part.now.from part.now.to)) }
 {
     let mut conditions = Vec::from_array(
@@ -263,7 +289,7 @@ fn needs_of_message<L: Ledger>(
             Condition::SelfSend(*part),
         ],
     )?;
-    let Some(found) = users_part(alloc, image, part, steps)? else {
+    let Some(found) = kept_part(alloc, image, part, kept, steps)? else {
         return Ok(conditions);
     };
     put_message_needs(image, part, &found, &mut conditions, steps)?;
@@ -351,9 +377,11 @@ pub(crate) fn needs_of_code<L: Ledger>(
     alloc: Global,
     image: &Image,
     change: &CodeMove,
+    kept: &Option<KeptPart>,
     steps: &mut Steps<L>,
 ) -> Result<Vec<Condition>, Memory>
-    requires { IsOrderly image.now }
+    requires orderly { IsOrderly image.now }
+    requires kept { ForSome kept.now (IsKept image.now) }
     ensures { IfOk result (λ found. map condition_of found.items ≡ model.needs (asked_by image.now.names) (number_image image.now) (code_command change.now)) }
 {
     match change {
@@ -364,9 +392,9 @@ pub(crate) fn needs_of_code<L: Ledger>(
             ..
         } => needs_of_abstraction(alloc, *class, *variable, *setter),
         CodeMove::ExtractMethod { part, to } => {
-            needs_of_method_extraction(alloc, image, part, *to, steps)
+            needs_of_method_extraction(alloc, image, part, *to, kept, steps)
         }
-        CodeMove::InlineMethod(part) => needs_of_message(alloc, image, part, steps),
+        CodeMove::InlineMethod(part) => needs_of_message(alloc, image, part, kept, steps),
         CodeMove::ExtractTemporary { part, variable } => {
             needs_of_extraction(alloc, part, *variable)
         }

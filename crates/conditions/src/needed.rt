@@ -1,7 +1,7 @@
 // Which conditions a command has, and those that the texts of names tell.
 ghost use Rattle.std.specs.Prelude.{◌≡◌, ◌<◌, ℕ, [], ◌∷◌, ◌++◌, List, length, map, nat_eq, IfOk, OnOk};
 ghost use Rattle.std.specs.List.{AllByRecursion};
-ghost use Rattle.std.specs.Option.{option_map_or};
+ghost use Rattle.std.specs.Option.{option_map_or, ForSome};
 ghost use Rattle.image_model.specs.Image.{ImageOf};
 ghost use Rattle.image_model.specs.Means as means;
 ghost use Rattle.class_table.specs.Valid.{IsOrderly};
@@ -15,6 +15,7 @@ ghost use Rattle.command_model.specs.Numbers.{number_command_words};
 ghost use Rattle.command_numbers.specs.CommandNames.{CommandNames, ConditionNames};
 ghost use Rattle.name_meanings.specs.Meanings.{kind_of};
 ghost use Rattle.commands.specs.Views.{asked_by, adds_variable, command_of, condition_of, move_command, name_kind_of, removes_variable, renames_variable, renaming_command};
+ghost use Rattle.part_lookup.specs.Kept.{IsKept};
 ghost use Rattle.conditions.specs.Concerns.{Concerns};
 
 use crate::moves::needs_of_code;
@@ -27,6 +28,7 @@ use commands::{
 use hierarchy_questions::{receivers, superclass_of};
 use name_meanings::VariableKind;
 use name_questions::{arity, is_good_class_name, is_good_selector, is_good_variable_name};
+use part_lookup::KeptPart;
 use rb_base::{Memory, NameId, Names, Steps};
 use std::alloc::Global;
 use std::sync::ledger::Ledger;
@@ -509,9 +511,11 @@ fn listed<L: Ledger>(
     alloc: Global,
     image: &Image,
     command: &Command,
+    kept: &Option<KeptPart>,
     steps: &mut Steps<L>,
 ) -> Result<Vec<Condition>, Memory>
     requires orderly { IsOrderly image.now }
+    requires kept { ForSome kept.now (IsKept image.now) }
     requires known { CommandNames (λ n. n < length image.now.names) (command_of command.now) }
     ensures { IfOk result (λ found. map condition_of found.items ≡ model.needs (asked_by image.now.names) (number_image image.now) (command_of command.now)) }
 {
@@ -535,23 +539,25 @@ fn listed<L: Ledger>(
             variable,
             to,
         } => needs_of_temporary(alloc, image, method, *variable, *to),
-        Command::MoveCode(change) => needs_of_code(alloc, image, change, steps),
+        Command::MoveCode(change) => needs_of_code(alloc, image, change, kept, steps),
     }
 }
 
 /// The conditions of the command, in their order. Opens at most two methods.
-pub fn needs<L: Ledger>(
+pub(crate) fn needs<L: Ledger>(
     alloc: Global,
     image: &Image,
     command: &Command,
+    kept: &Option<KeptPart>,
     steps: &mut Steps<L>,
 ) -> Result<Vec<Condition>, Memory>
     requires orderly { IsOrderly image.now }
+    requires kept { ForSome kept.now (IsKept image.now) }
     requires known { CommandNames (λ n. n < length image.now.names) (command_of command.now) }
     ensures needed { IfOk result (λ found. map condition_of found.items ≡ model.needs (asked_by image.now.names) (number_image image.now) (command_of command.now)) }
     ensures known { IfOk result (λ found. AllByRecursion (λ c. ConditionNames (λ n. n < length image.now.names) (condition_of c)) found.items) }
     ensures concern { IfOk result (λ found. AllByRecursion (λ c. Concerns (number_image image.now) (command_of command.now) (condition_of c)) found.items) }
 {
     numbers_of_all_commands();
-    listed(alloc, image, command, steps)
+    listed(alloc, image, command, kept, steps)
 }
