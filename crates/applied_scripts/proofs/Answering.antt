@@ -2,59 +2,61 @@
 use Rattle.std.proofs.Common.{◌≡◌, ℕ, List, [], ◌++◌, length, Option, Some, None, Ok, Err, refl, sym, ap, subst, ◌∙◌}
 use Rattle.std.specs.Prelude.{◌≢◌, MatchOption, map}
 use Rattle.std.proofs.lemmas.List.{length-map}
-use Rattle.rb_base.specs.Names.{name_at}
 use Rattle.image_model.specs.Image.{ImageOf}
 use Rattle.class_table.specs.Slots.{Slots}
 use Rattle.class_table.specs.View.{image_of}
 use Rattle.file_model.specs.Written.{file_of}
-use Rattle.command_numbers.specs.MappedCommands.{map_condition}
 use Rattle.history_model.specs.History.{opened}
 use Rattle.history_model.specs.Verdicts.{judged_from}
-use Rattle.session_model.specs.Scripts.{History, rules}
+use Rattle.session_model.specs.Scripts.{rules}
+use Rattle.ruled_model.specs.RuledScripts.{History, Refusal, ruled, ruled_verdict}
 use Rattle.script_model.specs.Commands.{Cause}
 use Rattle.script_model.specs.Scripts.{Says, IsRefused}
 use Rattle.script_lang.specs.declared.fault.ScriptFault.{ScriptFault}
-use Rattle.script_lang.specs.Shown.{requests_in, fault_shown}
-use Rattle.commands.specs.declared.command.Request.{Request}
-use Rattle.commands.specs.declared.condition.Condition.{Condition}
-use Rattle.commands.specs.Views.{condition_of}
+use Rattle.script_lang.specs.declared.asked.ScriptLine.{ScriptLine}
+use Rattle.script_lang.specs.Shown.{lines_in, fault_shown}
 use Rattle.session.specs.Log.{Log}
 use Rattle.session.specs.History.{history_of}
 use Rattle.apply_model.specs.declared.status.Status.{Status}
 use Rattle.apply_model.specs.declared.status.Status.TheVariants as status
 use Rattle.apply_model.specs.Lines.{script_line, refusal_line}
 use Rattle.apply_model.specs.Applied.{AppliesIn, NoScript, Refused, Accepted}
+use Rattle.applied_scripts.specs.declared.lines.Stop.{Stop}
+use Rattle.applied_scripts.specs.Refused.{refusal_shown}
 use Rattle.applied_scripts.specs.declared.apply.Changed.{Changed}
 use Rattle.applied_scripts.specs.declared.apply.Changed.TheVariants as changed
 use Rattle.applied_scripts.specs.Changed.{IsChanged, is_done, is_told}
 
--- what becomes of each text of a script that asks for these requests
-abbrev Answered : Slots → List Request → ImageOf (List ℕ) → Changed → List ℕ → Type 0
-Answered s requests later v sent = (script : List ℕ) → Says script (requests_in s.names requests) → IsChanged (image_of s) script later sent v
+-- what becomes of each text of a script that asks for these lines
+abbrev Answered : Slots → List ScriptLine → ImageOf (List ℕ) → Changed → List ℕ → Type 0
+Answered s lines later v sent = (script : List ℕ) → Says script (lines_in s.names lines) → IsChanged (image_of s) script later sent v
 
--- as many requests over texts as over numbers
-requests_length : (names : List (List ℕ)) (rs : List Request) → length (requests_in names rs) ≡ length rs
-requests_length names rs = length-map rs _
+-- as many lines over texts as over numbers
+lines_length : (names : List (List ℕ)) (ls : List ScriptLine) → length (lines_in names ls) ≡ length ls
+lines_length names ls = length-map ls _
 
-module _ (first before : Slots) (log : Log) (requests : List Request) (sent : List ℕ) (same : before ≡ first) (fresh : history_of before log ≡ opened rules (image_of before)) where
-  pub performed : (after : Slots) (done : Log) (count : ℕ) → count ≡ length requests → judged_from rules 1 (history_of before log) (requests_in before.names requests) ≡ Ok (history_of after done) →
-      sent ≡ [] → Answered first requests (image_of after) (changed.Done count) sent
+module _ (first before : Slots) (log : Log) (lines : List ScriptLine) (sent : List ℕ) (same : before ≡ first) (fresh : history_of before log ≡ opened rules (image_of before)) where
+  -- the verdict on them
+  verdict_here : ruled_verdict (image_of before) (lines_in before.names lines) ≡ judged_from ruled 1 (history_of before log) (lines_in before.names lines)
+  verdict_here = sym (ap (λ (h : History). judged_from ruled 1 h (lines_in before.names lines)) fresh)
+
+  pub performed : (after : Slots) (done : Log) (count : ℕ) → count ≡ length lines → judged_from ruled 1 (history_of before log) (lines_in before.names lines) ≡ Ok (history_of after done) →
+      sent ≡ [] → Answered first lines (image_of after) (changed.Done count) sent
   performed after done count many e empty =
-      subst (λ (s : Slots). Answered s requests (image_of after) (changed.Done count) sent) same
+      subst (λ (s : Slots). Answered s lines (image_of after) (changed.Done count) sent) same
       (λ script says.
-      subst (λ (n : ℕ). IsChanged (image_of before) script (image_of after) sent (changed.Done n)) (requests_length before.names requests ∙ sym many)
-      (is_done (requests_in before.names requests) (history_of after done) says (sym (ap (λ (h : History). judged_from rules 1 h (requests_in before.names requests)) fresh) ∙ e) refl empty))
+      subst (λ (n : ℕ). IsChanged (image_of before) script (image_of after) sent (changed.Done n)) (lines_length before.names lines ∙ sym many)
+      (is_done (lines_in before.names lines) (history_of after done) says (verdict_here ∙ e) refl empty))
 
-  pub refused : (later : ImageOf (List ℕ)) (names : List (List ℕ)) (n : ℕ) (c : Condition) → names ≡ before.names →
-      judged_from rules 1 (history_of before log) (requests_in before.names requests) ≡ Err (record { number = n; condition = map_condition (name_at before.names) (condition_of c) }) →
-      sent ≡ refusal_line (record { number = n; condition = map_condition (name_at names) (condition_of c) }) → Answered first requests later (changed.Told status.Condition) sent
-  refused later names n c same_names e line =
-      subst (λ (s : Slots). Answered s requests later (changed.Told status.Condition) sent) same
-      (λ script says.
-      is_told status.Condition (λ bad. cc)
-      (Refused (requests_in before.names requests) (record { number = n; condition = map_condition (name_at before.names) (condition_of c) }) says
-      (sym (ap (λ (h : History). judged_from rules 1 h (requests_in before.names requests)) fresh) ∙ e) refl
-      (line ∙ ap (λ (ns : List (List ℕ)). refusal_line (record { number = n; condition = map_condition (name_at ns) (condition_of c) })) same_names)))
+  pub stopped : (later : ImageOf (List ℕ)) (names : List (List ℕ)) (stop : Stop) → ((r : Refusal) → refusal_shown names stop ≡ Some r → judged_from ruled 1 (history_of before log) (lines_in before.names lines) ≡ Err r) →
+      MatchOption (refusal_shown names stop) ⊥ (λ r. sent ≡ refusal_line r) → Answered first lines later (changed.Told status.Condition) sent
+  stopped later names stop refused line = by (refusal_shown names stop) refl line
+    where
+      by : (o : Option Refusal) → refusal_shown names stop ≡ o → MatchOption o ⊥ (λ r. sent ≡ refusal_line r) → Answered first lines later (changed.Told status.Condition) sent
+      by None e l = absurd l
+      by (Some r) e l =
+          subst (λ (s : Slots). Answered s lines later (changed.Told status.Condition) sent) same
+          (λ script says. is_told status.Condition (λ bad. cc) (Refused (lines_in before.names lines) r says (verdict_here ∙ refused r e) refl l))
 
 -- a script that is wrong
 pub wrong : (i later : ImageOf (List ℕ)) (script sent : List ℕ) (fault : ScriptFault) → ((n : ℕ) (cause : Cause) → fault_shown fault ≡ Some (n, cause) → IsRefused script n cause)

@@ -1,3 +1,4 @@
 pub mod NewNames
 pub mod Answering
+mod Performed
 pub mod SelfKnown

@@ -6,17 +6,17 @@ ghost use Rattle.live_slots.specs.Live.{AllLive};
 ghost use Rattle.wider_slots.specs.Closed.{IsClosed};
 ghost use Rattle.commands.specs.Views.{HasSelf};
 ghost use Rattle.script_model.specs.Scripts.{Says};
-ghost use Rattle.script_lang.specs.Shown.{requests_in, AreKnown};
+ghost use Rattle.script_lang.specs.Shown.{lines_in, AreKnown};
 ghost use Rattle.apply_model.specs.Applied.{AppliesIn};
 ghost use Rattle.applied_scripts.specs.Changed.{IsChanged};
 
-use crate::requests::{Stop, perform_all, requests_of};
+use crate::lines::{perform_all, push_stop, script_lines};
 use apply_model::Status;
 use class_table::Image;
-use commands::Request;
 use image_file::write_image;
 use rb_base::{Memory, Steps, Text};
-use refusal_lines::{push_refusal, push_script_line};
+use refusal_lines::push_script_line;
+use script_lang::ScriptLine;
 use session::Session;
 use std::alloc::Global;
 use std::marker::Brand;
@@ -35,36 +35,35 @@ pub enum Changed {
     Told(Status),
 }
 
-/// Performs requests in the image, for which the session is opened, or tells the first one that is refused.
+/// Performs what lines ask for in the image, for which the session is opened, or tells the first one that is refused.
 fn perform_counted<L: Ledger>(
     session: &mut Session,
     image: &mut Image,
-    requests: Vec<Request>,
+    lines: Vec<ScriptLine>,
     blank: Blank,
     out: &mut Text,
 ) -> Result<Changed, Memory>
     requires orderly { IsOrderly image.old }
     requires closed { IsClosed image.old }
     requires self_known { HasSelf image.old.names }
-    requires known { AreKnown image.old.names requests.items }
+    requires known { AreKnown image.old.names lines.items }
     requires empty { out.old ≡ [] }
     requires name { blank.name ≡ L.name }
     requires parts { blank.parts ≡ L.parts }
     requires some { 0 < L.parts }
-    ensures changed { IfOk result (λ changed. (script : List ℕ) → Says script (requests_in image.old.names requests.items) → IsChanged (image_of image.old) script (image_of image.new) out.new changed) }
+    ensures changed { IfOk result (λ changed. (script : List ℕ) → Says script (lines_in image.old.names lines.items) → IsChanged (image_of image.old) script (image_of image.new) out.new changed) }
     ensures orderly { OnOk result (IsOrderly image.new) }
 {
-    let commands = requests.as_slice().len();
+    let commands = lines.as_slice().len();
     let mut steps = Steps::<L>::new(blank);
     image.reindex()?;
     session.open(image, &mut steps)?;
-    match perform_all(session, image, requests, &mut steps) {
+    match perform_all(session, image, lines, &mut steps) {
         Ok(()) => Ok(Changed::Done { commands }),
-        Err(Stop::Refused { number, condition }) => {
-            push_refusal(number, &condition, image.names(), out)?;
+        Err(stop) => {
+            push_stop(&stop, image.names(), out)?;
             Ok(Changed::Told(Status::Condition))
         }
-        Err(Stop::Memory) => Err(Memory),
     }
 }
 
@@ -85,16 +84,10 @@ pub fn change_image(
     ensures changed { IfOk result (λ changed. IsChanged (image_of image.old) script.now (image_of image.new) out.new changed) }
     ensures orderly { OnOk result (IsOrderly image.new) }
 {
-    match requests_of(alloc, script, image) {
-        Ok(requests) => {
+    match script_lines(alloc, script, image) {
+        Ok(lines) => {
             let mut session = Session::new(alloc);
-            let changed = perform_counted::<Brand>(
-                &mut session,
-                image,
-                requests,
-                Blank::new(1),
-                out,
-            );
+            let changed = perform_counted::<Brand>(&mut session, image, lines, Blank::new(1), out);
             // The program ends soon, so the session is not taken apart piece by piece.
             forget(session);
             changed

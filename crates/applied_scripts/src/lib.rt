@@ -3,6 +3,6 @@
 #![tactic(auto)]
 
 mod apply;
-mod requests;
+mod lines;
 
 pub use apply::{Changed, apply_script, change_image};

@@ -6,7 +6,7 @@ use Rattle.image_model.specs.Image.{ImageOf}
 use Rattle.file_model.specs.Reading.{IsImageOf}
 use Rattle.script_model.specs.Makers.{Text}
 use Rattle.script_model.specs.Scripts.{Says}
-use Rattle.session_model.specs.Scripts.{Request, History, verdict_in}
+use Rattle.ruled_model.specs.RuledScripts.{Line, History, ruled_verdict}
 use Rattle.change_file.specs.Shown.{IsToldApart}
 
 -- there is a text that is read as each of the two
@@ -15,4 +15,4 @@ AreOfOneText i j = (text : Text) × IsImageOf Second prelude_text text i × IsIm
 
 -- in the image after this script, where it is accepted, no two classes have one name and no two methods of the user one class, side and selector
 abbrev pub StaysApart : ImageOf Text → Text → Type 0
-StaysApart i script = (requests : List Request) (h : History) → Says script requests → verdict_in i requests ≡ Ok h → IsToldApart h.now.image
+StaysApart i script = (requests : List Line) (h : History) → Says script requests → ruled_verdict i requests ≡ Ok h → IsToldApart h.now.image

@@ -1,19 +1,17 @@
 -- Faults that are told of a line.
-use Rattle.std.proofs.Common.{◌≡◌, ℕ, ◌≤◌, Bool, true, false, if◌then◌else◌, List, [], ◌∷◌, ◌++◌, Option, Some, None, Err, Ok, Result, refl, sym, ap, subst, ◌∙◌, arith}
+use Rattle.std.proofs.Common.{◌≡◌, ℕ, ◌≤◌, Bool, true, false, if◌then◌else◌, List, [], ◌∷◌, ◌++◌, length, Option, Some, None, Err, Ok, Result, refl, sym, ap, subst, ◌∙◌, arith}
 use Rattle.std.specs.Prelude.{◌≢◌, nat_lt}
 use Rattle.std.specs.Option.{option_map}
 use Rattle.std.proofs.lemmas.Bool.{ltb-true}
 use Rattle.script_model.specs.Makers.{Text}
 use Rattle.history_model.specs.Rules.{Perform, Undo, Redo}
-use Rattle.session_model.specs.Scripts.{Request as Asked}
-use Rattle.commands.specs.declared.command.Action.{Action}
-use Rattle.commands.specs.declared.command.Request.{Request}
-use Rattle.commands.specs.declared.command.Request.TheVariants as request
-use Rattle.commands.specs.Views.{request_in}
+use Rattle.ruled_model.specs.RuledScripts.{Line, Acts, Applies}
+use Rattle.proposals.specs.declared.proposal.Asked.{Asked}
 use Rattle.script_model.specs.Commands.{Cause, BadArgument, TooMany}
-use Rattle.script_lang.specs.Shown.{requests_in, AreKnown}
+use Rattle.script_lang.specs.declared.asked.ScriptLine.{ScriptLine}
+use Rattle.script_lang.specs.Shown.{line_in, lines_in, IsKnownLine, AreKnown}
 use Rattle.log_model.specs.Events.{Act, Event, proposing, EventSays, IsWrong}
-use Rattle.log_lang.specs.Shown.{IsKnownAction, answer_of}
+use Rattle.log_lang.specs.Shown.{answer_of}
 
 -- a line and a cause
 abbrev pub Fault : Type 0
@@ -49,23 +47,26 @@ no-room line count event says full = record { answer = Ok event; says = says; wr
 pub wrong-line : (line : Text) (count : ℕ) (cause : Cause) → EventSays line (Err cause) → IsWrong line count cause
 wrong-line line count cause says = record { answer = Err cause; says = says; wrong = refl }
 
--- several requests propose nothing
+-- several lines propose nothing
 abbrev pub Answer : Type 0
 Answer = Result Act Cause
 
-several : (q r : Asked) (rs : List Asked) → (let o : Answer = Err BadArgument in proposing (q ∷ r ∷ rs) ≡ o)
-several (Perform a) r rs = refl
+several : (q r : Line) (rs : List Line) → (let o : Answer = Err BadArgument in proposing (q ∷ r ∷ rs) ≡ o)
+several (Perform (Acts a)) r rs = refl
+several (Perform (Applies c)) r rs = refl
 several Undo r rs = refl
 several Redo r rs = refl
 
-pub several-propose : (names : List Text) (front : List Request) (last : Request) → front ≢ [] → proposing (requests_in names (front ++ last ∷ [])) ≡ answer_of names None
+pub several-propose : (names : List Text) (front : List ScriptLine) (last : ScriptLine) → front ≢ [] → proposing (lines_in names (front ++ last ∷ [])) ≡ answer_of names None
 several-propose names [] last some = absurd (some refl)
-several-propose names (q ∷ []) last some = several (request_in names q) (request_in names last) []
-several-propose names (q ∷ r ∷ rs) last some = several (request_in names q) (request_in names r) (requests_in names (rs ++ last ∷ []))
+several-propose names (q ∷ []) last some = several (line_in names q) (line_in names last) []
+several-propose names (q ∷ r ∷ rs) last some = several (line_in names q) (line_in names r) (lines_in names (rs ++ last ∷ []))
 
--- one of them does, if it is no undo and no redo
-pub one-proposes : (names : List Text) (all front : List Request) (a : Action) → all ≡ front ++ request.Perform a ∷ [] → front ≡ [] → proposing (requests_in names all) ≡ answer_of names (Some a)
-one-proposes names all front a e none = ap (λ (rs : List Request). proposing (requests_in names rs)) (e ∙ ap (λ (rs : List Request). rs ++ request.Perform a ∷ []) none)
+-- one of them proposes what it does alone
+pub one-proposes : (names : List Text) (all front : List ScriptLine) (last : ScriptLine) (found : Option Asked) → all ≡ front ++ last ∷ [] → front ≡ [] → proposing (line_in names last ∷ []) ≡ answer_of names found
+    → proposing (lines_in names all) ≡ answer_of names found
+one-proposes names all front last found e none is = ap (λ (ls : List ScriptLine). proposing (lines_in names ls)) (e ∙ ap (λ (ls : List ScriptLine). ls ++ last ∷ []) none) ∙ is
 
-pub one-known : (names : List Text) (all front : List Request) (a : Action) → all ≡ front ++ request.Perform a ∷ [] → front ≡ [] → AreKnown names all → IsKnownAction names a
-one-known names all front a e none known = (subst (AreKnown names) (e ∙ ap (λ (rs : List Request). rs ++ request.Perform a ∷ []) none) known).0
+pub one-known : (names : List Text) (all front : List ScriptLine) (last : ScriptLine) → all ≡ front ++ last ∷ [] → length front ≡ 0 → AreKnown names all → IsKnownLine names last
+one-known names all [] last e none known = (subst (AreKnown names) e known).0
+one-known names all (l ∷ ls) last e none known = absurd (omega (arith, none))

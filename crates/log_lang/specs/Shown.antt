@@ -2,39 +2,26 @@
 use Rattle.std.specs.Prelude.{◌≡◌, ℕ, ◌≤◌, ◌<◌, ◌++◌, ◌∷◌, [], List, length, map, Option, Result, Ok, Err}
 use Rattle.std.specs.List.{AllByRecursion}
 use Rattle.std.specs.Option.{option_map_or}
-use Rattle.rb_base.specs.Names.{name_at}
-use Rattle.history_model.specs.Rules.{Perform}
-use Rattle.session_model.specs.Actions.{ActionOf}
 use Rattle.team_core.specs.Events as model
-use Rattle.commands.specs.Actions.{map_action}
-use Rattle.commands.specs.Views.{action_of, IsKnownRequest}
-use Rattle.commands.specs.declared.command.Action.{Action}
-use Rattle.commands.specs.declared.command.Request.TheVariants as request
-use Rattle.proposals.specs.Proposed.{Proposed, IsNamed}
+use Rattle.proposals.specs.declared.proposal.Asked.{Asked}
+use Rattle.proposals.specs.Proposed.{Proposed, IsNamed, asked_over, asked_in}
 use Rattle.script_model.specs.Commands.{Cause, BadArgument}
 use Rattle.log_model.specs.Events as log
 use Rattle.log_lang.specs.declared.event.Act.{Act}
 use Rattle.log_lang.specs.declared.event.Act.TheVariants as act
 use Rattle.log_lang.specs.declared.event.Event.{Event}
 
--- an action over the texts of its names, and that the numbers of its names have texts
-abbrev pub action_in : List (List ℕ) → Action → ActionOf (List ℕ)
-action_in names a = map_action (name_at names) (action_of a)
-
-abbrev pub IsKnownAction : List (List ℕ) → Action → Type 0
-IsKnownAction names a = IsKnownRequest names (request.Perform a)
-
 -- what a session does, over texts
 abbrev pub act_in : List (List ℕ) → Act → log.Act
 act_in names act.Begin = model.Begin
-act_in names (act.Propose p) = model.Propose (action_in names p.action)
+act_in names (act.Propose p) = model.Propose (asked_in names p)
 act_in names act.Commit = model.Commit
 act_in names act.Undo = model.Undo
 act_in names act.Redo = model.Redo
 
 -- the names of what is proposed are among the first ones, as many as it says
 abbrev pub IsKnownProposal : List (List ℕ) → Proposed → Type 0
-IsKnownProposal names p = (p.names ≤ length names) × IsNamed p.names p.action
+IsKnownProposal names p = (p.names ≤ length names) × IsNamed p.names p.asked
 
 abbrev pub IsKnownAct : List (List ℕ) → Act → Type 0
 IsKnownAct names act.Begin = Unit {0}
@@ -59,9 +46,9 @@ events_in names es = map (event_in names) es
 abbrev pub AreKnownEvents : List (List ℕ) → List Event → Type 0
 AreKnownEvents names es = AllByRecursion (IsKnownEvent names) es
 
--- what is proposed by requests, of which the action is the only one, if it is there
-abbrev pub answer_of : List (List ℕ) → Option Action → Result log.Act Cause
-answer_of names found = option_map_or (λ a. Ok (model.Propose (action_in names a))) found (Err BadArgument)
+-- what is proposed by lines, of which the one that asks for something to propose is the only one, if it is there
+abbrev pub answer_of : List (List ℕ) → Option Asked → Result log.Act Cause
+answer_of names found = option_map_or (λ a. Ok (model.Propose (asked_over names a))) found (Err BadArgument)
 
 -- a line asks for the event that was put after the others
 pub record HasAsked (names : List (List ℕ)) (line : List ℕ) (before after : List Event) : Type 0 where

@@ -6,7 +6,7 @@ use proposals::Proposal;
 #[derive(Drop)]
 pub enum Act {
     Begin,
-    /// It proposes an action, over the names that were known at its line.
+    /// It proposes what its line asks for, over the names that were known at its line.
     Propose(Proposal),
     Commit,
     Undo,

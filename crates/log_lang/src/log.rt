@@ -4,17 +4,19 @@ ghost use Rattle.event_trees.specs.Naming.{Grows};
 ghost use Rattle.script_model.specs.Lines.{lines_of};
 ghost use Rattle.script_model.specs.Additions as added;
 ghost use Rattle.script_model.specs.Commands as script;
-ghost use Rattle.script_lang.specs.Shown.{requests_in, AreKnown, texts, fault_shown};
+ghost use Rattle.proposals.specs.Proposed.{IsNamed};
+ghost use Rattle.script_lang.specs.Shown.{line_in, lines_in, IsKnownLine, AreKnown, texts, fault_shown};
 ghost use Rattle.log_model.specs.Events as log;
-ghost use Rattle.log_lang.specs.Shown.{act_in, IsKnownAct, IsKnownAction, event_in, IsKnownEvent, events_in, AreKnownEvents, answer_of, HasAsked};
+ghost use Rattle.log_lang.specs.Shown.{act_in, IsKnownAct, event_in, IsKnownEvent, events_in, AreKnownEvents, answer_of, HasAsked};
 
 use crate::event::{Act, Event};
 use command_words::number_of;
-use commands::{Action, Request};
-use proposals::Proposal;
+use commands::Request;
+use proposals::{Asked, Proposal};
 use rb_base::{Memory, Names};
 use script_lang::{
-    ScriptFault, is_blank_line, is_skipped, lines_of, parse_script, same_text, split_word,
+    ScriptFault, ScriptLine, is_blank_line, is_skipped, lines_of, parse_script, same_text,
+    split_word,
 };
 use std::alloc::Global;
 
@@ -42,20 +44,29 @@ fn lone_act(word: &[u8]) -> Option<Act>
     }
 }
 
-/// The action that is asked for, if it is all that is.
-fn only_action(requests: Vec<Request>) -> Option<Action>
-    ensures said { (names : List (List ℕ)) → log.proposing (requests_in names requests.items) ≡ answer_of names result }
-    ensures known { (names : List (List ℕ)) → AreKnown names requests.items → IfSome result (IsKnownAction names) }
+/// What a line proposes: neither undo nor redo is proposed.
+fn proposed_by(line: ScriptLine) -> Option<Asked>
+    ensures said { (names : List (List ℕ)) → log.proposing (line_in names line ∷ []) ≡ answer_of names result }
+    ensures known { (names : List (List ℕ)) → IsKnownLine names line → IfSome result (IsNamed (length names)) }
 {
-    let mut requests = requests;
-    let last = requests.pop()?;
-    if !requests.is_empty() {
+    match line {
+        ScriptLine::Request(Request::Perform(action)) => Some(Asked::Action(action)),
+        ScriptLine::Request(_) => None,
+        ScriptLine::Rule(rule) => Some(Asked::Rule(rule)),
+    }
+}
+
+/// What is proposed by lines, if it is all that they ask for.
+fn only_asked(lines: Vec<ScriptLine>) -> Option<Asked>
+    ensures said { (names : List (List ℕ)) → log.proposing (lines_in names lines.items) ≡ answer_of names result }
+    ensures known { (names : List (List ℕ)) → AreKnown names lines.items → IfSome result (IsNamed (length names)) }
+{
+    let mut lines = lines;
+    let last = lines.pop()?;
+    if !lines.is_empty() {
         return None;
     }
-    match last {
-        Request::Perform(action) => Some(action),
-        Request::Undo | Request::Redo => None,
-    }
+    proposed_by(last)
 }
 
 /// The fault at the line of a number.
@@ -64,7 +75,6 @@ fn at_line(fault: ScriptFault, line: usize) -> ScriptFault
 {
     match fault {
         ScriptFault::UnknownCommand { .. } => ScriptFault::UnknownCommand { line },
-        ScriptFault::Unbuilt { .. } => ScriptFault::Unbuilt { line },
         ScriptFault::BadArgument { .. } => ScriptFault::BadArgument { line },
         ScriptFault::TooMany { .. } => ScriptFault::TooMany { line },
         ScriptFault::Memory => ScriptFault::Memory,
@@ -79,8 +89,8 @@ fn proposal(alloc: Global, text: &[u8], line: usize, names: &mut Names) -> Resul
     ensures grows { Grows names.old names.new }
 {
     match parse_script(alloc, text, names) {
-        Ok(requests) => match only_action(requests) {
-            Some(action) => Ok(Act::Propose(Proposal::new(action, names.len()))),
+        Ok(lines) => match only_asked(lines) {
+            Some(asked) => Ok(Act::Propose(Proposal::new(asked, names.len()))),
             None => Err(ScriptFault::BadArgument { line }),
         },
         Err(fault) => Err(at_line(fault, line)),

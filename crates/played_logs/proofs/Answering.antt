@@ -1,11 +1,11 @@
 -- What is answered to a log that is played, and to one that is wrong.
-use Rattle.std.proofs.Common.{◌≡◌, ◌≤◌, ℕ, List, [], ◌++◌, length, Option, Some, None, IsTrue, refl, ap, subst, sym, codes}
+use Rattle.std.proofs.Common.{◌≡◌, ℕ, List, [], ◌++◌, Option, Some, None, refl, ap, subst, sym, codes}
 use Rattle.std.specs.Prelude.{MatchOption}
-use Rattle.std.specs.List.{list_all}
 use Rattle.image_model.specs.Image.{ImageOf}
 use Rattle.class_table.specs.View.{image_of}
 use Rattle.history_model.specs.History.{opened}
-use Rattle.session_model.specs.Scripts.{Version, History, rules}
+use Rattle.session_model.specs.Scripts.{rules}
+use Rattle.ruled_model.specs.RuledScripts.{Version}
 use Rattle.team_core.specs.History.{HistoryOf, IsOpening, Keeps}
 use Rattle.team_core.proofs.Answering.{Keeps-same}
 use Rattle.script_model.specs.Makers.{Text}
@@ -18,7 +18,7 @@ use Rattle.apply_model.specs.Lines.{line, script_line}
 use Rattle.log_model.specs.Events.{IsLogRefused}
 use Rattle.log_lang.specs.declared.event.Event.{Event}
 use Rattle.log_lang.specs.Shown.{events_in}
-use Rattle.session_book.specs.Shared.{Shared, book_of, book_rules, fits_in, shared_history}
+use Rattle.session_book.specs.Shared.{Shared, book_of, book_rules, fits_in}
 use Rattle.play_model.specs.Played.{played, PlaysIn, NoLog}
 use Rattle.played_logs.specs.Told.{team_events, HasPlayed}
 use Rattle.played_logs.proofs.Playing.{Point, lines-played, history-played, all-played}

@@ -1,11 +1,12 @@
 -- How far a log was played.
-use Rattle.std.proofs.Common.{◌≡◌, ◌<◌, ◌≤◌, ℕ, suc, ◌+◌, Bool, IsTrue, List, [], ◌∷◌, ◌++◌, length, map, refl, sym, ap, subst, ◌∙◌, arith, append_assoc, length-append, codes}
+use Rattle.std.proofs.Common.{◌≡◌, ◌<◌, ◌≤◌, ℕ, ◌+◌, Bool, IsTrue, List, [], ◌∷◌, ◌++◌, length, map, refl, sym, ap, subst, ◌∙◌, arith, append_assoc, length-append, codes}
 use Rattle.std.specs.List.{AllByRecursion, list_all}
 use Rattle.std.proofs.lemmas.Bool.{le-leb}
 use Rattle.std.proofs.lemmas.List.{append-nil}
 use Rattle.image_model.specs.Image.{ImageOf}
 use Rattle.history_model.specs.History.{opened}
-use Rattle.session_model.specs.Scripts.{Version, rules}
+use Rattle.session_model.specs.Scripts.{rules}
+use Rattle.ruled_model.specs.RuledScripts.{Version}
 use Rattle.team_core.specs.declared.reply.Reply.{Reply}
 use Rattle.team_core.specs.History.{RulesOf, Keeps}
 use Rattle.team_core.specs.Events.{ActOf, Begin, Propose, Commit, Undo, Redo, PointOf, Answers, entry_of}
@@ -19,9 +20,9 @@ use Rattle.log_model.specs.Events.{Event as Asked}
 use Rattle.log_lang.specs.declared.event.Act.{Act}
 use Rattle.log_lang.specs.declared.event.Act.TheVariants as act
 use Rattle.log_lang.specs.declared.event.Event.{Event}
-use Rattle.log_lang.specs.Shown.{act_in, event_in, events_in, IsKnownAct, AreKnownEvents}
-use Rattle.proposals.specs.Proposed.{Proposed, action_in}
-use Rattle.session_book.specs.Shared.{Shared, book_of, book_rules, fits_in, shared_history, condition_text}
+use Rattle.log_lang.specs.Shown.{act_in, events_in, IsKnownAct, AreKnownEvents}
+use Rattle.proposals.specs.Proposed.{Proposed, asked_in}
+use Rattle.session_book.specs.Shared.{Shared, book_of, book_rules, fits_in, shared_history, reason_text}
 use Rattle.play_model.specs.Replies.{team_rules, opening, replies_in, led_to, reply_lines}
 use Rattle.play_model.specs.Played.{played}
 use Rattle.played_logs.specs.Told.{team_act, team_event, team_events, told, told_line, told_lines, HasPlayed}
@@ -146,11 +147,11 @@ amid-all {start} {p} {all} {left} {names} {q} {number} {before} {after} b none a
     }
 
 -- the events over texts
-events-shown : (names : List Text) (es : List Event) → map (event_shown (action_in names)) (team_events es) ≡ events_in names es
+events-shown : (names : List Text) (es : List Event) → map (event_shown (asked_in names)) (team_events es) ≡ events_in names es
 events-shown names [] = refl
 events-shown names (e ∷ es) = λ i. record { session = e.session; act = by e.act i } ∷ events-shown names es i
   where
-    by : (a : Act) → act_shown (action_in names) (team_act a) ≡ act_in names a
+    by : (a : Act) → act_shown (asked_in names) (team_act a) ≡ act_in names a
     by act.Begin = refl
     by (act.Propose p) = refl
     by act.Commit = refl
@@ -158,19 +159,19 @@ events-shown names (e ∷ es) = λ i. record { session = e.session; act = by e.a
     by act.Redo = refl
 
 -- the rules over texts
-are-shown : (names : List Text) → AreShown (action_in names) condition_text (book_rules names) team_rules
+are-shown : (names : List Text) → AreShown (asked_in names) reason_text (book_rules names) team_rules
 are-shown names = record { relation = λ s c. refl; no_earlier = refl; no_later = refl }
 
 module _ (names : List Text) (i : ImageOf Text) (p : Point) (es : List Event) (b : Shared) (text : Text)
     (log : p.log ≡ []) (proposed : (s : ℕ) → p.proposed s ≡ []) (history : p.history ≡ book_of (opened rules i)) (has : HasPlayed names p (team_events es) b [] text) where
-  opens : point_shown (action_in names) p ≡ opening i
-  opens = λ j. record { log = log j; proposed = λ s. map (action_in names) (proposed s j); history = history j }
+  opens : point_shown (asked_in names) p ≡ opening i
+  opens = λ j. record { log = log j; proposed = λ s. map (asked_in names) (proposed s j); history = history j }
 
   -- the lines are those of the replies
   pub lines-played : text ≡ reply_lines 1 (replies_in i (events_in names es))
   lines-played =
       has.lines
-      ∙ ap (told_lines 1) (replies-shown (action_in names) condition_text (book_rules names) team_rules (are-shown names) p (team_events es)
+      ∙ ap (told_lines 1) (replies-shown (asked_in names) reason_text (book_rules names) team_rules (are-shown names) p (team_events es)
       ∙ (λ j. map told (replies team_rules (opens j) (events-shown names es j))))
       ∙ lines-told 1 (replies_in i (events_in names es))
 
@@ -178,7 +179,7 @@ module _ (names : List Text) (i : ImageOf Text) (p : Point) (es : List Event) (b
   pub history-played : shared_history b ≡ (led_to i (events_in names es)).history
   history-played =
       has.history
-      ∙ reached-shown (action_in names) condition_text (book_rules names) team_rules (are-shown names) p (team_events es)
+      ∙ reached-shown (asked_in names) reason_text (book_rules names) team_rules (are-shown names) p (team_events es)
       ∙ (λ j. (reached team_rules (opens j) (events-shown names es j)).history)
 
 -- what is sent in all

@@ -1,17 +1,17 @@
 -- Events and replies of the program in the words of the definitions.
 use Rattle.std.specs.Prelude.{◌≡◌, ℕ, suc, codes, List, [], ◌∷◌, ◌++◌, map}
 use Rattle.std.specs.Fmt.{decimal}
-use Rattle.command_model.specs.Conditions.{ConditionOf}
+use Rattle.rule_model.specs.RuleCommands.{Reason}
 use Rattle.team_core.specs.declared.reply.Reply.{Reply}
 use Rattle.team_core.specs.declared.reply.Reply.TheVariants.{Accepted, AlreadyOpen, NotOpen, Full, Stale, Refused}
 use Rattle.team_core.specs.Events.{ActOf, Begin, Propose, Commit, Undo, Redo, PointOf}
 use Rattle.team_laws.specs.Logs.{EventOf, replies, reached}
 use Rattle.shown_logs.specs.Shown.{shown}
 use Rattle.script_model.specs.Makers.{Text}
-use Rattle.session_model.specs.Scripts.{Version}
+use Rattle.ruled_model.specs.RuledScripts.{Version}
 use Rattle.apply_model.specs.Lines.{line}
 use Rattle.proposals.specs.Proposed.{Proposed}
-use Rattle.session_book.specs.Shared.{Shared, condition_text, book_rules, shared_history}
+use Rattle.session_book.specs.Shared.{Shared, reason_text, book_rules, shared_history}
 use Rattle.log_lang.specs.declared.event.Act.{Act}
 use Rattle.log_lang.specs.declared.event.Act.TheVariants as act
 use Rattle.log_lang.specs.declared.event.Event.{Event}
@@ -30,9 +30,9 @@ team_event e = record { session = e.session; act = team_act e.act }
 abbrev pub team_events : List Event → List (EventOf Proposed)
 team_events es = map team_event es
 
--- a reply with its condition as it is printed
-abbrev pub told : Reply (ConditionOf Text) → Reply Text
-told r = shown condition_text r
+-- a reply with its reason as it is printed
+abbrev pub told : Reply Reason → Reply Text
+told r = shown reason_text r
 
 -- it in words
 abbrev pub told_text : Reply Text → Text

@@ -1,1 +1,1 @@
-pub mod NamesMore
+pub mod MoreNames

@@ -1,21 +1,29 @@
--- Actions that are proposed.
-use Rattle.std.specs.Prelude.{ℕ, ◌<◌, List}
+-- What is proposed.
+use Rattle.std.specs.Prelude.{ℕ, ◌<◌, List, take}
 use Rattle.rb_base.specs.Names.{name_at}
-use Rattle.run_model.specs.Values.{Name}
-use Rattle.session_model.specs.Actions.{ActionOf}
+use Rattle.patterns.specs.Names.{PatternNames}
+use Rattle.ruled_model.specs.RuledScripts as model
 use Rattle.commands.specs.Actions.{map_action, ActionNames}
 use Rattle.commands.specs.Views.{action_of}
-use Rattle.commands.specs.declared.command.Action.{Action}
+use Rattle.certificates.specs.Asked.{command_in}
+use Rattle.proposals.specs.declared.proposal.Asked.{Asked}
+use Rattle.proposals.specs.declared.proposal.Asked.TheVariants as asked
 
--- each name of an action is among so many first ones of a table
-abbrev pub IsNamed : ℕ → Action → Type 0
-IsNamed count a = ActionNames (λ n. n < count) (action_of a)
+-- each name of what is asked for is among so many first ones of a table
+abbrev pub IsNamed : ℕ → Asked → Type 0
+IsNamed count (asked.Action a) = ActionNames (λ n. n < count) (action_of a)
+IsNamed count (asked.Rule r) = PatternNames (λ n. n < count) r.rule.pattern × PatternNames (λ n. n < count) r.rule.replacement
 
--- an action whose names are among so many
+-- what is asked for, whose names are among so many
 pub record Proposed : Type 0 where
-  pub action : Action
+  pub asked : Asked
   pub names : ℕ
 
--- it, over the texts of the names
-abbrev pub action_in : List (List ℕ) → Proposed → ActionOf Name
-action_in names p = map_action (name_at names) (action_of p.action)
+-- what is asked for, over the texts of its names
+abbrev pub asked_over : List (List ℕ) → Asked → model.Asked
+asked_over names (asked.Action a) = model.Acts (map_action (name_at names) (action_of a))
+asked_over names (asked.Rule r) = model.Applies (command_in names r)
+
+-- what is proposed, over the texts of the names, which are so many first ones of a table
+abbrev pub asked_in : List (List ℕ) → Proposed → model.Asked
+asked_in names p = asked_over (take p.names names) p.asked

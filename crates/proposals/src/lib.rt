@@ -1,6 +1,6 @@
-//! Actions that are proposed, with how many names they are over.
+//! What is proposed to be done with an image, with how many names it is over.
 #![tactic(auto)]
 
 mod proposal;
 
-pub use proposal::Proposal;
+pub use proposal::{Asked, Proposal};

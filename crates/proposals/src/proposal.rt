@@ -1,54 +1,62 @@
-// An action that is proposed.
+// What is proposed.
 ghost use Rattle.std.specs.Prelude.{◌≡◌};
 ghost use Rattle.proposals.specs.Proposed.{Proposed, IsNamed};
 
+use certificates::RuleRequest;
 use commands::Action;
 use std::marker::Model;
 
-/// An action whose names are among so many first ones of a table. Contracts see both.
+/// What a line of a script asks for, beside undo and redo.
+#[derive(Drop)]
+pub enum Asked {
+    /// A command or a composite.
+    Action(Action),
+    /// All code of users is rewritten by a rule that its certificate is to derive.
+    Rule(RuleRequest),
+}
+
+/// What is asked for, whose names are among so many first ones of a table. Contracts see both.
 pub struct Proposal {
-    action: Action,
+    asked: Asked,
     names: usize,
 }
 
 /// It is written out and not derived: a function that gives up a proposal calls this one, and goes over no tree itself.
 impl Drop for Proposal {
     fn drop(self) {
-        let Proposal {
-            action: _,
-            names: _,
-        } = self;
+        let Proposal { asked: _, names: _ } = self;
     }
 }
 
 impl Model for Proposal {
     ghost use Rattle.std.specs.Coded.{codes};
     ghost use Rattle.tree_model.specs.TreeCode.{coded_tree, coded_literal};
+    ghost use Rattle.patterns.specs.PatternCode.{coded_pattern};
     ghost use Rattle.proposals.specs.Proposed.{Proposed, IsNamed};
 
     ghost Value = { Proposed };
 
-    ghost coded = { Prim.hlevel (codes, coded_tree, coded_literal) };
+    ghost coded = { Prim.hlevel (codes, coded_tree, coded_literal, coded_pattern) };
 
-    ghost view = { λ a. record { action = a.action; names = a.names } };
+    ghost view = { λ a. record { asked = a.asked; names = a.names } };
 
-    ghost invariant = { λ a. IsNamed a.names a.action };
+    ghost invariant = { λ a. IsNamed a.names a.asked };
 }
 
 impl Proposal {
-    /// The action, whose names are among so many.
-    pub fn new(action: Action, names: usize) -> Proposal
-        requires { IsNamed names action }
-        ensures { result ≡ record { action = action; names = names } }
+    /// What is asked for, whose names are among so many.
+    pub fn new(asked: Asked, names: usize) -> Proposal
+        requires { IsNamed names asked }
+        ensures { result ≡ record { asked = asked; names = names } }
     {
-        Proposal { action, names }
+        Proposal { asked, names }
     }
 
-    /// The action.
-    pub fn action(&self) -> &Action
-        ensures action { result.now ≡ self.now.action }
-        ensures named { IsNamed self.now.names self.now.action }
+    /// What is asked for.
+    pub fn asked(&self) -> &Asked
+        ensures asked { result.now ≡ self.now.asked }
+        ensures named { IsNamed self.now.names self.now.asked }
     {
-        &self.action
+        &self.asked
     }
 }

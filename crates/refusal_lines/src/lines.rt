@@ -1,14 +1,19 @@
 // The lines of a refused script and of a refused command.
-ghost use Rattle.std.specs.Prelude.{◌≡◌, ◌++◌, codes, OnOk, MatchOption};
+ghost use Rattle.std.specs.Prelude.{◌≡◌, ◌++◌, codes, map, OnOk, MatchOption};
 ghost use Rattle.std.specs.Fmt.{decimal};
 ghost use Rattle.rb_base.specs.Names.{name_at};
 ghost use Rattle.command_numbers.specs.MappedCommands.{map_condition};
 ghost use Rattle.commands.specs.Views.{condition_of};
+ghost use Rattle.certificates.specs.Shown.{step_shown};
+ghost use Rattle.rule_model.specs.RuleCommands.{Unmet, Derived};
 ghost use Rattle.script_lang.specs.Shown.{fault_shown};
-ghost use Rattle.apply_model.specs.Lines.{line, refusal_line, script_line};
+ghost use Rattle.text_model.specs.Pieces.{pieces_behind};
+ghost use Rattle.apply_model.specs.Lines.{line, reason_words, refusal_line, script_line};
 
+use crate::certificate::push_certificate;
 use crate::conditions::push_condition;
 use crate::words::push_number;
+use certificates::Certificate;
 use commands::Condition;
 use rb_base::{Memory, Names, Text};
 use script_lang::ScriptFault;
@@ -21,11 +26,35 @@ pub fn push_refusal(
     names: &Names,
     out: &mut Text,
 ) -> Result<(), Memory>
-    ensures { OnOk result (out.new ≡ out.old ++ refusal_line (record { number = number; condition = map_condition (name_at names.now) (condition_of condition.now) })) }
+    ensures { OnOk result (out.new ≡ out.old ++ refusal_line (record { number = number; condition = Unmet (map_condition (name_at names.now) (condition_of condition.now)) })) }
 {
     out.push_slice(b"refused ")?;
     push_number(number, out)?;
     push_condition(*condition, names, out)?;
+    out.push_slice(b"\n")
+}
+
+/// Appends the words that refuse a rule which its certificate does not derive, each after a blank: C45, its name and the
+/// certificate. On want of memory a part of them may be appended.
+pub fn push_not_derived(certificate: &Certificate, out: &mut Text) -> Result<(), Memory>
+    ensures { OnOk result (out.new ≡ out.old ++ pieces_behind (codes " ") (reason_words (Derived (map step_shown certificate.now.steps.items)))) }
+{
+    out.push_slice(b" C45 Derived ")?;
+    push_certificate(certificate, out)
+}
+
+/// Appends the line of a rule that its certificate does not derive: its number in the script, from 1, and the certificate. On want
+/// of memory a part of the line may be appended.
+pub fn push_underived(
+    number: usize,
+    certificate: &Certificate,
+    out: &mut Text,
+) -> Result<(), Memory>
+    ensures { OnOk result (out.new ≡ out.old ++ refusal_line (record { number = number; condition = Derived (map step_shown certificate.now.steps.items) })) }
+{
+    out.push_slice(b"refused ")?;
+    push_number(number, out)?;
+    push_not_derived(certificate, out)?;
     out.push_slice(b"\n")
 }
 
@@ -47,7 +76,6 @@ pub fn push_script_line(fault: ScriptFault, out: &mut Text) -> Result<(), Memory
 {
     match fault {
         ScriptFault::UnknownCommand { line } => push_cause(line, b"UnknownCommand", out),
-        ScriptFault::Unbuilt { line } => push_cause(line, b"Unbuilt", out),
         ScriptFault::BadArgument { line } => push_cause(line, b"BadArgument", out),
         ScriptFault::TooMany { line } => push_cause(line, b"TooMany", out),
         ScriptFault::Memory => Err(Memory),

@@ -9,6 +9,7 @@ use Rattle.rb_base.specs.Names.{name_at}
 use Rattle.event_trees.specs.Naming.{Grows}
 use Rattle.command_model.specs.Commands.{AddMethod}
 use Rattle.session_model.specs.Scripts.{Request}
+use Rattle.ruled_model.specs.RuledScripts.{Line}
 use Rattle.script_model.specs.Makers.{Text, single}
 use Rattle.script_model.specs.Commands.{Cause, TooMany}
 use Rattle.script_model.specs.Additions.{Addition, addition_of, AddsMethod, Spelled}
@@ -32,7 +33,7 @@ told-cause line n told cause P p e =
     (sym (ap (λ (x : ℕ × Cause). x.0) same), subst P (ap (λ (x : ℕ × Cause). x.1) same) p)
 
 -- a command for which there is no room
-pub no-room : (line : Text) (count : ℕ) (r : Request) → LineSays line (Ok r) → 10000 ≤ count → IsWrong line count TooMany
+pub no-room : (line : Text) (count : ℕ) (r : Line) → LineSays line (Ok r) → 10000 ≤ count → IsWrong line count TooMany
 no-room line count r says full = record { answer = Ok r; says = says; wrong = by (nat_lt count 10000) refl }
   where
     by : (b : Bool) → nat_lt count 10000 ≡ b → (let o : Option Cause = if b then None else Some TooMany in o) ≡ Some TooMany

@@ -3,13 +3,13 @@ use Rattle.std.proofs.Common.{◌≡◌, ℕ, suc, ◌+◌, Bool, true, false, n
 use Rattle.std.specs.Prelude.{cond}
 use Rattle.std.specs.List.{slice_split, onto_first}
 use Rattle.std.proofs.lemmas.Bool.{ne_eqb}
-use Rattle.session_model.specs.Scripts.{Request}
+use Rattle.ruled_model.specs.RuledScripts.{Line}
 use Rattle.chunk_format.specs.Blank.{is_blank, blank_len, drop_blanks}
 use Rattle.script_model.specs.Makers.{Text}
 use Rattle.script_model.specs.Lines.{words_of}
-use Rattle.script_model.specs.Commands.{Cause, BadArgument, said_by, no_command}
+use Rattle.script_model.specs.Commands.{Cause, UnknownCommand, BadArgument, said_by}
 use Rattle.script_model.specs.Additions.{word_len, first_word, behind_word}
-use Rattle.script_model.specs.Scripts.{LineSays, InWords, InText, InLiteral, IsWrong}
+use Rattle.script_model.specs.Scripts.{InWords, InText, InLiteral, LineSays, OfCommand, OfRule, IsWrong}
 use Rattle.script_lang.specs.declared.verb.LineVerb.{LineVerb}
 use Rattle.script_lang.specs.declared.verb.LineVerb.TheVariants as line_verb
 use Rattle.script_lang.specs.Shown.{filled}
@@ -67,34 +67,35 @@ begins (b ∷ t) = by (is_blank b) refl (begins t)
         Word (words ∙ ap (λ (n : ℕ). take n (b ∷ t) ∷ words_of (drop n (b ∷ t))) long ∙ ap (λ (d : Text). take (word_len d) d ∷ words_of (drop (word_len d) d)) (sym same))
 
 -- a line says what its command asks for with the text behind the first word
-line-says : (line : Text) (v : LineVerb) (answer : Result Request Cause) → BeginsWith v (first_word line) → Asks v (behind_word line) answer → LineSays line answer
-line-says line line_verb.AddMethod answer begun says = InText begun says
-line-says line line_verb.AddParameter answer begun says = InLiteral begun says
+line-says : (line : Text) (v : LineVerb) (answer : Result Line Cause) → BeginsWith v (first_word line) → Asks v (behind_word line) answer → LineSays line answer
+line-says line line_verb.ApplyRule answer begun says = OfRule says.0 begun says.1 says.2
+line-says line line_verb.AddMethod answer begun says = OfCommand says.said begun.0 (InText begun.1 says.says) says.is
+line-says line line_verb.AddParameter answer begun says = OfCommand says.said begun.0 (InLiteral begun.1 says.says) says.is
 line-says line (line_verb.Words v) answer begun says = by (begins line)
   where
     by : Begins line → LineSays line answer
-    by (Word is) = InWords begun.0 begun.1 (says ∙ ap (λ (w : Text). said_by (w ∷ words_of (behind_word line))) (sym begun.2) ∙ ap said_by (sym is))
-    by (Blank none nothing) = InWords begun.0 begun.1 (says ∙ ap (λ (w : Text). said_by (w ∷ words_of (behind_word line))) (sym begun.2 ∙ none) ∙ ap said_by (sym nothing))
+    by (Word is) =
+        OfCommand says.said begun.0.0
+        (InWords begun.0.1 begun.0.2 (says.says ∙ ap (λ (w : Text). said_by (w ∷ words_of (behind_word line))) (sym begun.1) ∙ ap said_by (sym is))) says.is
+    by (Blank none nothing) =
+        OfCommand says.said begun.0.0
+        (InWords begun.0.1 begun.0.2 (says.says ∙ ap (λ (w : Text). said_by (w ∷ words_of (behind_word line))) (sym begun.1 ∙ none) ∙ ap said_by (sym nothing))) says.is
 
 -- a line whose first word is no command's
-line-unknown : (line : Text) → BeginsWithNone (first_word line) → LineSays line (Err (no_command (first_word line)))
+line-unknown : (line : Text) → BeginsWithNone (first_word line) → LineSays line (Err UnknownCommand)
 line-unknown line none = by (begins line)
   where
-    by : Begins line → LineSays line (Err (no_command (first_word line)))
-    by (Word is) = InWords none.0 none.1 (sym (ap said_by is ∙ none.2 (words_of (behind_word line))))
-    by (Blank empty nothing) = InWords none.0 none.1 (ap (λ (w : Text). let r : Result Request Cause = Err (no_command w) in r) empty ∙ ap said_by (sym nothing))
+    by : Begins line → LineSays line (Err UnknownCommand)
+    by (Word is) = OfCommand (Err UnknownCommand) none.0.0 (InWords none.0.1 none.0.2 (sym (ap said_by is ∙ none.1 (words_of (behind_word line))))) refl
+    by (Blank empty nothing) = OfCommand (Err UnknownCommand) none.0.0 (InWords none.0.1 none.0.2 (ap said_by (sym nothing))) refl
 
 -- the same of a word that is the first one, and of the text behind it
 module _ (line word : Text) (first : word ≡ first_word line) where
-  pub says-in : (rest : Text) (v : LineVerb) (answer : Result Request Cause) → rest ≡ behind_word line → BeginsWith v word → Asks v rest answer → LineSays line answer
+  pub says-in : (rest : Text) (v : LineVerb) (answer : Result Line Cause) → rest ≡ behind_word line → BeginsWith v word → Asks v rest answer → LineSays line answer
   says-in rest v answer behind begun says = line-says line v answer (subst (BeginsWith v) first begun) (subst (λ (t : Text). Asks v t answer) behind says)
 
   pub wrong-in : (count : ℕ) (rest : Text) (v : LineVerb) → rest ≡ behind_word line → BeginsWith v word → Asks v rest (Err BadArgument) → IsWrong line count BadArgument
   wrong-in count rest v behind begun says = record { answer = Err BadArgument; says = says-in rest v (Err BadArgument) behind begun says; wrong = refl }
 
-  pub unknown-in : (count : ℕ) → BeginsWithNone word → IsWrong line count (no_command word)
-  unknown-in count none = record {
-    answer = Err (no_command word);
-    says = subst (λ (w : Text). LineSays line (Err (no_command w))) (sym first) (line-unknown line (subst BeginsWithNone first none));
-    wrong = refl;
-  }
+  pub unknown-in : (count : ℕ) → BeginsWithNone word → IsWrong line count UnknownCommand
+  unknown-in count none = record { answer = Err UnknownCommand; says = line-unknown line (subst BeginsWithNone first none); wrong = refl }

@@ -27,7 +27,12 @@ use Rattle.commands.specs.declared.command.Action.TheVariants as action
 use Rattle.commands.specs.declared.command.Request.{Request}
 use Rattle.commands.specs.declared.command.Request.TheVariants as request
 use Rattle.commands.specs.Views.{command_of, request_in, IsKnownRequest}
-use Rattle.script_lang.specs.Shown.{requests_in, AreKnown}
+use Rattle.pattern_faults.proofs.Said.{pattern_kept, pattern_known}
+use Rattle.ruled_model.specs.RuledScripts.{Applies, as_line}
+use Rattle.certificates.specs.Asked.{command_in}
+use Rattle.script_lang.specs.declared.asked.ScriptLine.{ScriptLine}
+use Rattle.script_lang.specs.declared.asked.ScriptLine.TheVariants as script_line
+use Rattle.script_lang.specs.Shown.{line_in, IsKnownLine, lines_in, AreKnown}
 
 -- the literal of a node, and another one where it is none
 abbrev held-literal : LiteralOf Text → TreeOf Text → LiteralOf Text
@@ -133,7 +138,7 @@ module _ {names later : List Text} (g : Grows names later) where
   command_known-grown (command.MoveCode (code.InlineTemporary m x)) h = (number-grown m.class h.0, number-grown m.selector h.1, number-grown x h.2)
 
   -- a request
-  request-grown : (r : Request) → IsKnownRequest names r → request_in later r ≡ request_in names r
+  pub request-grown : (r : Request) → IsKnownRequest names r → request_in later r ≡ request_in names r
   request-grown (request.Perform (action.Single c)) h = λ i. Perform (Single (command-grown c h i))
   request-grown (request.Perform (action.CreateAccessors c x setter parameter)) h =
       λ i. Perform (CreateAccessors (name_at-grown c h.0 i) (name_at-grown x h.1 i) (name_at-grown setter h.2 i) (name_at-grown parameter h.3 i))
@@ -143,7 +148,7 @@ module _ {names later : List Text} (g : Grows names later) where
   request-grown request.Undo h = refl
   request-grown request.Redo h = refl
 
-  known-grown : (r : Request) → IsKnownRequest names r → IsKnownRequest later r
+  pub known-grown : (r : Request) → IsKnownRequest names r → IsKnownRequest later r
   known-grown (request.Perform (action.Single c)) h = command_known-grown c h
   known-grown (request.Perform (action.CreateAccessors c x setter parameter)) h =
       (number-grown c h.0, number-grown x h.1, number-grown setter h.2, number-grown parameter h.3)
@@ -152,14 +157,23 @@ module _ {names later : List Text} (g : Grows names later) where
   known-grown request.Undo h = tt
   known-grown request.Redo h = tt
 
-  -- requests
-  pub requests-grown : (rs : List Request) → AreKnown names rs → requests_in later rs ≡ requests_in names rs
-  requests-grown [] h = refl
-  requests-grown (r ∷ rs) h = λ i. request-grown r h.0 i ∷ requests-grown rs h.1 i
+  -- lines
+  pub line-grown : (l : ScriptLine) → IsKnownLine names l → line_in later l ≡ line_in names l
+  line-grown (script_line.Request r) h = ap as_line (request-grown r h)
+  line-grown (script_line.Rule r) h =
+      λ i. Perform (Applies (record (command_in names r) { rule = record { pattern = pattern_kept g r.rule.pattern h.0 i; replacement = pattern_kept g r.rule.replacement h.1 i } }))
 
-  pub all_known-grown : (rs : List Request) → AreKnown names rs → AreKnown later rs
+  pub line_known-grown : (l : ScriptLine) → IsKnownLine names l → IsKnownLine later l
+  line_known-grown (script_line.Request r) h = known-grown r h
+  line_known-grown (script_line.Rule r) h = (pattern_known g r.rule.pattern h.0, pattern_known g r.rule.replacement h.1)
+
+  pub lines-grown : (ls : List ScriptLine) → AreKnown names ls → lines_in later ls ≡ lines_in names ls
+  lines-grown [] h = refl
+  lines-grown (l ∷ ls) h = λ i. line-grown l h.0 i ∷ lines-grown ls h.1 i
+
+  pub all_known-grown : (ls : List ScriptLine) → AreKnown names ls → AreKnown later ls
   all_known-grown [] h = tt
-  all_known-grown (r ∷ rs) h = (known-grown r h.0, all_known-grown rs h.1)
+  all_known-grown (l ∷ ls) h = (line_known-grown l h.0, all_known-grown ls h.1)
 
 -- a text that was put into a table
 pub interned-text : (names : List Text) (t : Text) (n : ℕ) → Some n ≡ number_in names t → name_at names n ≡ t

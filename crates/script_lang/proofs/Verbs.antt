@@ -7,7 +7,7 @@ use Rattle.std.specs.Option.{option_map, option_map_or}
 use Rattle.std.proofs.lemmas.Bool.Decides.{Decides-eqb}
 use Rattle.std.proofs.lemmas.Slice.Eq.{slice_eq-Decides}
 use Rattle.rb_base.specs.Names.{text_eq}
-use Rattle.script_model.specs.Commands.{Row, table, no_command, said_by_row, said_by}
+use Rattle.script_model.specs.Commands.{Row, UnknownCommand, table, said_by_row, said_by}
 use Rattle.script_lang.specs.declared.verb.Verb.{Verb}
 use Rattle.script_lang.specs.Shown.{word_of, FindsVerb}
 
@@ -76,6 +76,6 @@ module _ (w : Text) where
       by true e first some go = absurd (cc)
       by false e first some go = ap (λ (b : Bool). cond b (Some t) (find (λ (x : Row). text_eq w x.word) ts)) (ap (text_eq w) (sym first) ∙ e) ∙ go some
 
-  pub no-verb : {rows : List (Bor Text × Verb)} (o : Option Verb) → FindsVerb w rows o → map (λ (r : Bor Text × Verb). r.0.now) rows ≡ map (λ (t : Row). t.word) table → IfNone o ((ws : List Text) → said_by (w ∷ ws) ≡ Err (no_command w))
+  pub no-verb : {rows : List (Bor Text × Verb)} (o : Option Verb) → FindsVerb w rows o → map (λ (r : Bor Text × Verb). r.0.now) rows ≡ map (λ (t : Row). t.word) table → IfNone o ((ws : List Text) → said_by (w ∷ ws) ≡ Err UnknownCommand)
   no-verb (Some v) finds same = tt
-  no-verb {rows} None finds same = λ ws. ap (λ (o : Option Row). option_map_or (said_by_row ws) o (Err (no_command w))) (none-found rows table same (sym finds.is))
+  no-verb {rows} None finds same = λ ws. ap (λ (o : Option Row). option_map_or (said_by_row ws) o (Err UnknownCommand)) (none-found rows table same (sym finds.is))

@@ -10,12 +10,16 @@ use Rattle.name_meanings.specs.declared.meaning.VariableKind.{VariableKind}
 use Rattle.name_meanings.specs.declared.meaning.VariableKind.TheVariants as kind
 use Rattle.commands.specs.declared.command.MethodName.{MethodName}
 use Rattle.commands.specs.declared.command.MethodPart.{MethodPart}
-use Rattle.commands.specs.declared.command.Request.{Request}
 use Rattle.commands.specs.Views.{request_in, IsKnownRequest}
 use Rattle.script_model.specs.Words.{add_class, rename_class, remove_class, add_inst_var, rename_inst_var, remove_inst_var, push_up_inst_var, push_down_inst_var, add_class_var, rename_class_var, remove_class_var, push_up_class_var, push_down_class_var, add_class_side_var, rename_class_side_var, remove_class_side_var, rename_selector, remove_method, push_up_method, push_down_method, remove_parameter, rename_temp, abstract_inst_var, extract_method, inline_method, extract_temp, inline_temp, create_accessors, extract_superclass, push_up_with_methods, undo, redo}
 use Rattle.script_model.specs.Arguments.{a_class, a_selector, argument, name, side_of, number_of, arguments_of, takes, method_and, part_and}
 use Rattle.script_model.specs.Commands as script
 use Rattle.script_model.specs.Additions as added
+use Rattle.history_model.specs.Rules.{Perform}
+use Rattle.ruled_model.specs.RuledScripts.{Line, Applies, as_line}
+use Rattle.certificates.specs.Asked.{command_in, IsKnownRule}
+use Rattle.script_lang.specs.declared.asked.ScriptLine.{ScriptLine}
+use Rattle.script_lang.specs.declared.asked.ScriptLine.TheVariants as script_line
 use Rattle.script_lang.specs.declared.verb.Verb.{Verb}
 use Rattle.script_lang.specs.declared.verb.Verb.TheVariants as verb
 use Rattle.script_lang.specs.declared.verb.PairVerb.{PairVerb}
@@ -107,13 +111,21 @@ pub record FindsVerb (w : List ℕ) (rows : List (Bor (List ℕ) × Verb)) (foun
 abbrev pub asked : Verb → List (List ℕ) → Result Asked script.Cause
 asked v ws = script.said_by (word_of v ∷ ws)
 
--- requests over the texts of their names
-abbrev pub requests_in : List (List ℕ) → List Request → List Asked
-requests_in names rs = map (request_in names) rs
+-- what a line asks for over the texts of its names, and that their numbers have texts
+abbrev pub line_in : List (List ℕ) → ScriptLine → Line
+line_in names (script_line.Request r) = as_line (request_in names r)
+line_in names (script_line.Rule r) = Perform (Applies (command_in names r))
 
--- the numbers of their names have texts
-abbrev pub AreKnown : List (List ℕ) → List Request → Type 0
-AreKnown names rs = AllByRecursion (IsKnownRequest names) rs
+abbrev pub IsKnownLine : List (List ℕ) → ScriptLine → Type 0
+IsKnownLine names (script_line.Request r) = IsKnownRequest names r
+IsKnownLine names (script_line.Rule r) = IsKnownRule names r
+
+-- the same of lines
+abbrev pub lines_in : List (List ℕ) → List ScriptLine → List Line
+lines_in names asked = map (line_in names) asked
+
+abbrev pub AreKnown : List (List ℕ) → List ScriptLine → Type 0
+AreKnown names asked = AllByRecursion (IsKnownLine names) asked
 
 -- the texts of words
 abbrev pub texts : List (Bor (List ℕ)) → List (List ℕ)
@@ -156,7 +168,6 @@ addition_shown o = option_map (λ (a : Addition). record { class = a.class.now; 
 -- the line and the cause that a fault tells; want of memory tells none
 abbrev pub fault_shown : ScriptFault → Option (ℕ × script.Cause)
 fault_shown (fault.UnknownCommand line) = Some (line, script.UnknownCommand)
-fault_shown (fault.Unbuilt line) = Some (line, script.Unbuilt)
 fault_shown (fault.BadArgument line) = Some (line, script.BadArgument)
 fault_shown (fault.TooMany line) = Some (line, script.TooMany)
 fault_shown fault.Memory = None

@@ -13,11 +13,9 @@ pub enum ScriptFault {
     /// The first word of the line is no command's.
     #[error("line {line}: unknown command")]
     UnknownCommand { line: usize },
-    /// The first word of the line is that of a command which is still to come.
-    #[error("line {line}: the command is not built yet")]
-    Unbuilt { line: usize },
     /// The command does not take so many words, one of them is not spelled as it is to be at its place, the text of
-    /// `addMethod` is no method of a user, or that of `addParameter` no literal.
+    /// `addMethod` is no method of a user, or that of `addParameter` no literal; or `applyRule` has no certificate, no arrow, or
+    /// a text that is no pattern or no replacement for it.
     #[error("line {line}: bad argument")]
     BadArgument { line: usize },
     /// There are 10,000 commands before this line.

@@ -2,6 +2,7 @@
 #![tactic(auto)]
 
 mod additions;
+mod asked;
 mod bytes;
 mod fault;
 mod lines;
@@ -12,6 +13,7 @@ mod verb;
 mod words;
 
 pub use additions::split_word;
+pub use asked::ScriptLine;
 pub use bytes::same_text;
 pub use fault::ScriptFault;
 pub use lines::{is_blank_line, is_skipped, lines_of};

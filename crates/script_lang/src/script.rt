@@ -1,66 +1,29 @@
 // The reader of scripts.
-ghost use Rattle.std.specs.Prelude.{◌≡◌, ◌∷◌, ◌++◌, [], ℕ, List, length, Some, Ok, Err, IfOk, IfErr, OnOk};
+ghost use Rattle.std.specs.Prelude.{◌≡◌, ◌∷◌, ◌++◌, [], ℕ, List, length, Some, IfOk, IfErr, OnOk};
 ghost use Rattle.event_trees.specs.Naming.{Grows};
 ghost use Rattle.script_model.specs.Lines.{lines_of};
 ghost use Rattle.script_model.specs.Commands as script;
 ghost use Rattle.script_model.specs.Scripts.{IsWrong, Say, Says, IsRefused};
-ghost use Rattle.commands.specs.Views.{request_in, IsKnownRequest};
-ghost use Rattle.script_lang.specs.declared.words.Wrong.TheVariants as wrong;
-ghost use Rattle.script_lang.specs.Shown.{requests_in, AreKnown, texts, fault_shown};
-ghost use Rattle.script_lang.specs.Read.{Asks, HasAsked};
+ghost use Rattle.script_lang.specs.Shown.{lines_in, AreKnown, texts, fault_shown};
+ghost use Rattle.script_lang.specs.Read.{HasAsked};
 
-use crate::additions::{add_method, split_word};
+use crate::additions::split_word;
+use crate::asked::{ScriptLine, asked_behind};
 use crate::fault::ScriptFault;
-use crate::lines::{is_skipped, lines_of, words_of};
-use crate::parameters::add_parameter;
-use crate::requests::request_of;
-use crate::verb::{LineVerb, is_to_come, line_verb};
+use crate::lines::{is_skipped, lines_of};
+use crate::verb::line_verb;
 use crate::words::Wrong;
-use commands::Request;
 use rb_base::{Memory, Names};
 use std::alloc::Global;
 
 /// The most commands of a script.
 const COMMAND_LIMIT: usize = 10000;
 
-/// Why a word is none of a command that is performed.
-fn no_command(word: &[u8], line: usize) -> ScriptFault
-    ensures { fault_shown result ≡ Some (line, script.no_command word.now) }
+/// Puts what a line asks for behind what the lines before it ask for.
+fn push(requests: &mut Vec<ScriptLine>, asked: ScriptLine) -> Result<(), Memory>
+    ensures { OnOk result (requests.new.items ≡ requests.old.items ++ asked ∷ []) }
 {
-    if is_to_come(word) {
-        ScriptFault::Unbuilt { line }
-    } else {
-        ScriptFault::UnknownCommand { line }
-    }
-}
-
-/// What a command asks for with the text behind its word.
-fn request_behind(
-    alloc: Global,
-    command: LineVerb,
-    text: &[u8],
-    names: &mut Names,
-) -> Result<Request, Wrong>
-    ensures said { IfOk result (λ r. Asks command text.now (Ok (request_in names.new r))) }
-    ensures known { IfOk result (λ r. IsKnownRequest names.new r) }
-    ensures wrong { IfErr result (λ e. e ≡ wrong.Argument → Asks command text.now (Err script.BadArgument)) }
-    ensures grows { Grows names.old names.new }
-{
-    match command {
-        LineVerb::AddMethod => add_method(alloc, text, names),
-        LineVerb::AddParameter => add_parameter(alloc, text, names),
-        LineVerb::Words(verb) => {
-            let words = words_of(alloc, text)?;
-            request_of(alloc, verb, words.as_slice(), names)
-        }
-    }
-}
-
-/// Puts a request behind others.
-fn push(requests: &mut Vec<Request>, request: Request) -> Result<(), Memory>
-    ensures { OnOk result (requests.new.items ≡ requests.old.items ++ request ∷ []) }
-{
-    requests.push(request)?;
+    requests.push(asked)?;
     Ok(())
 }
 
@@ -69,7 +32,7 @@ fn read_line(
     alloc: Global,
     text: &[u8],
     line: usize,
-    requests: &mut Vec<Request>,
+    requests: &mut Vec<ScriptLine>,
     names: &mut Names,
 ) -> Result<(), ScriptFault>
     ensures ok { OnOk result (HasAsked names.new text.now requests.old.items requests.new.items) }
@@ -78,10 +41,10 @@ fn read_line(
 {
     let (word, rest) = split_word(text);
     let Some(command) = line_verb(word) else {
-        return Err(no_command(word, line));
+        return Err(ScriptFault::UnknownCommand { line });
     };
-    match request_behind(alloc, command, rest, names) {
-        Ok(request) => push(requests, request)?,
+    match asked_behind(alloc, command, rest, names) {
+        Ok(asked) => push(requests, asked)?,
         Err(Wrong::Argument) => return Err(ScriptFault::BadArgument { line }),
         Err(Wrong::Memory) => return Err(ScriptFault::Memory),
     }
@@ -96,8 +59,8 @@ fn read_lines(
     alloc: Global,
     lines: &[&[u8]],
     names: &mut Names,
-) -> Result<Vec<Request>, ScriptFault>
-    ensures ok { IfOk result (λ requests. Say (texts lines.now) (requests_in names.new requests.items)) }
+) -> Result<Vec<ScriptLine>, ScriptFault>
+    ensures ok { IfOk result (λ requests. Say (texts lines.now) (lines_in names.new requests.items)) }
     ensures known { IfOk result (λ requests. AreKnown names.new requests.items) }
     ensures fault { IfErr result (λ f. (n : ℕ) (cause : script.Cause) → fault_shown f ≡ Some (n, cause) → (text : List ℕ) → lines_of text ≡ texts lines.now → IsRefused text n cause) }
     ensures grows { Grows names.old names.new }
@@ -121,7 +84,8 @@ fn read_lines(
 /// a name is not told.
 ///
 /// A line of `addMethod` has the text of a method behind its fourth word, to the end of the line, and one of `addParameter`
-/// a literal.
+/// a literal. One of `applyRule` has a certificate behind its first word, and then the texts of a pattern and its replacement, with
+/// an arrow between.
 ///
 /// On any error `names` may hold the names of the commands before it, and of the words before the one that is wrong. The
 /// time and the memory that it takes from `alloc` are linear in the text.
@@ -129,8 +93,8 @@ pub fn parse_script(
     alloc: Global,
     text: &[u8],
     names: &mut Names,
-) -> Result<Vec<Request>, ScriptFault>
-    ensures ok { IfOk result (λ requests. Says text.now (requests_in names.new requests.items)) }
+) -> Result<Vec<ScriptLine>, ScriptFault>
+    ensures ok { IfOk result (λ requests. Says text.now (lines_in names.new requests.items)) }
     ensures known { IfOk result (λ requests. AreKnown names.new requests.items) }
     ensures fault { IfErr result (λ f. (n : ℕ) (cause : script.Cause) → fault_shown f ≡ Some (n, cause) → IsRefused text.now n cause) }
     ensures grows { Grows names.old names.new }

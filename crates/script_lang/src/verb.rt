@@ -1,8 +1,6 @@
 // The words of commands.
 ghost use Rattle.std.specs.Prelude.{◌≡◌, ℕ, List, ◌∷◌, Err, IfSome, IfNone};
-ghost use Rattle.std.specs.List.{list_any};
-ghost use Rattle.rb_base.specs.Names.{text_eq};
-ghost use Rattle.script_model.specs.Commands.{words_to_come, no_command, said_by};
+ghost use Rattle.script_model.specs.Commands.{UnknownCommand, said_by};
 ghost use Rattle.script_lang.specs.Shown.{word_of, FindsVerb};
 ghost use Rattle.script_lang.specs.Read.{BeginsWith, BeginsWithNone};
 
@@ -12,6 +10,8 @@ use name_meanings::VariableKind;
 /// A command by what stands behind its word.
 #[derive(Clone, Copy)]
 pub(crate) enum LineVerb {
+    /// A certificate and the texts of a rule.
+    ApplyRule,
     /// The text of a method.
     AddMethod,
     /// The text of a literal.
@@ -20,8 +20,8 @@ pub(crate) enum LineVerb {
     Words(Verb),
 }
 
-/// A command by its word alone, sorted by what stands behind the word. `addMethod` and `addParameter` are none of these,
-/// since a text stands behind them.
+/// A command by its word alone, sorted by what stands behind the word. `applyRule`, `addMethod` and `addParameter` are none of
+/// these, since a text stands behind them.
 #[derive(Clone, Copy)]
 pub(crate) enum Verb {
     /// A class.
@@ -185,7 +185,7 @@ fn find_verb(word: &[u8], rows: &[(&[u8], Verb)]) -> Option<Verb>
 /// The command that is performed and has the word.
 fn verb_of(word: &[u8]) -> Option<Verb>
     ensures some { IfSome result (λ verb. word.now ≡ word_of verb) }
-    ensures none { IfNone result ((ws : List (List ℕ)) → said_by (word.now ∷ ws) ≡ Err (no_command word.now)) }
+    ensures none { IfNone result ((ws : List (List ℕ)) → said_by (word.now ∷ ws) ≡ Err UnknownCommand) }
 {
     find_verb(word, &VERBS)
 }
@@ -195,7 +195,9 @@ pub(crate) fn line_verb(word: &[u8]) -> Option<LineVerb>
     ensures some { IfSome result (λ verb. BeginsWith verb word.now) }
     ensures none { IfNone result (BeginsWithNone word.now) }
 {
-    if same_text(word, b"addMethod") {
+    if same_text(word, b"applyRule") {
+        Some(LineVerb::ApplyRule)
+    } else if same_text(word, b"addMethod") {
         Some(LineVerb::AddMethod)
     } else if same_text(word, b"addParameter") {
         Some(LineVerb::AddParameter)
@@ -205,11 +207,4 @@ pub(crate) fn line_verb(word: &[u8]) -> Option<LineVerb>
             None => None,
         }
     }
-}
-
-/// Whether the word is that of a command which is still to come.
-pub(crate) fn is_to_come(word: &[u8]) -> bool
-    ensures { result ≡ list_any (text_eq word.now) words_to_come }
-{
-    same_text(word, b"applyRule")
 }

@@ -21,8 +21,8 @@ use Rattle.command_numbers.specs.MappedCommands.{map_command, map_condition}
 use Rattle.commands.specs.declared.command.Command.{Command}
 use Rattle.commands.specs.Views.{command_of, self_in, HasSelf, asked_by}
 use Rattle.code_command_numbers.specs.SelfNumber.{IsNumberOfSelf}
+use Rattle.wider_slots.specs.Wider.{Wider}
 use Rattle.wider_slots.proofs.Images.{numbers-still}
-use Rattle.session.specs.Stepping.{IsRoom}
 
 -- what is known of verdicts over the numbers of names
 abbrev pub Accepts : Type 0
@@ -52,12 +52,12 @@ module _ (s : Slots) (c : Command) (orderly : IsOrderly s) (has : HasSelf s.name
   refused-texts law q e = law s.names (self_in s.names) parts_of_text (number_image s) (command_of c) q orderly.names_distinct (number-of-self s.names has) orderly.names_known known (by_numbers (Some q) e)
 
   -- or makes what its changes make of slots with room for them
-  pub accepted-texts : Accepts → (p t : Slots) → IsRoom s p → first_false (asked_by s.names) (number_image s) (command_of c) ≡ None
+  pub accepted-texts : Accepts → (p t : Slots) → Wider s p → p.names ≡ s.names → first_false (asked_by s.names) (number_image s) (command_of c) ≡ None
       → number_image t ≡ effect (asked_by p.names) (number_writing p.names) (command_of c) (number_image p) → t.names ≡ p.names
       → judged text_asked canonical (image_of s) (map_command (name_at s.names) (command_of c)) ≡ Ok (image_of t)
-  accepted-texts law p t room e made names =
-      let numbers : number_image p ≡ number_image s = ap number_image room.wider.state ∙ numbers-still s room.wider.closed room.wider.more in
+  accepted-texts law p t room same e made names =
+      let numbers : number_image p ≡ number_image s = ap number_image room.state ∙ numbers-still s room.closed room.more in
       let there : number_image t ≡ effect (asked_by s.names) (number_writing s.names) (command_of c) (number_image s) =
-      made ∙ (λ i. effect (asked_by (room.names i)) (number_writing (room.names i)) (command_of c) (numbers i)) in
+      made ∙ (λ i. effect (asked_by (same i)) (number_writing (same i)) (command_of c) (numbers i)) in
       law s.names (self_in s.names) parts_of_text (number_image s) (number_image t) (command_of c) orderly.names_distinct (number-of-self s.names has) orderly.names_known known (by_numbers None e ∙ ap (λ (j : ImageOf ℕ). Ok j) (sym there))
-      ∙ ap (λ (ns : List (List ℕ)). Ok (map_image (name_at ns) (number_image t))) (sym (names ∙ room.names))
+      ∙ ap (λ (ns : List (List ℕ)). Ok (map_image (name_at ns) (number_image t))) (sym (names ∙ same))

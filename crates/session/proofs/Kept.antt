@@ -1,5 +1,5 @@
 -- The commands of an action lead back and forth, and keep the names.
-use Rattle.std.proofs.Common.{◌≡◌, List, [], ◌∷◌, refl, sym, ap, subst, ◌∙◌}
+use Rattle.std.proofs.Common.{◌≡◌, ℕ, List, [], ◌∷◌, refl, sym, ap, subst, ◌∙◌}
 use Rattle.run_model.specs.Renamings.{Renaming, composed}
 use Rattle.class_table.specs.Slots.{Slots}
 use Rattle.class_table.specs.Valid.{IsOrderly}
@@ -11,7 +11,7 @@ use Rattle.wider_slots.proofs.Closing.{names-kept}
 use Rattle.wider_slots.proofs.Logging.{applied-closed, undone-closed, inverses-fit, inverses_undone-fit}
 use Rattle.wider_slots.specs.Closed.{IsClosed}
 use Rattle.wider_slots.specs.Logs.{CanTakeBack, CanDoAgain}
-use Rattle.session.specs.Log.{DoneCommand, taken_back, left_back, done_again, left_again, CanGoBack, CanGoForth}
+use Rattle.session.specs.Log.{DoneCommand, taken_back, left_back, done_again, left_again, CanGoBack, CanGoForth, CommandsKnown}
 use Rattle.session.specs.History.{renamed_by, renamed_back, renamed_forth}
 
 -- the names stay
@@ -96,6 +96,15 @@ went-forth s (d ∷ ds) closed orderly can =
       slots = ap (λ (z : Slots). all_undone z b) rest.slots ∙ leads.image;
       left = λ i. record d { changes = (ap (λ (z : Slots). inverses_undone z b) rest.slots ∙ leads.changes) i } ∷ rest.left i;
     }
+
+-- the commands that are left rename what they renamed
+pub back-known : (n : ℕ) (s : Slots) (ds : List DoneCommand) → CommandsKnown n ds → CommandsKnown n (left_back s ds)
+back-known n s [] known = tt
+back-known n s (d ∷ ds) known = (known.0, back-known n s ds known.1)
+
+pub again-known : (n : ℕ) (s : Slots) (ds : List DoneCommand) → CommandsKnown n ds → CommandsKnown n (left_again s ds)
+again-known n s [] known = tt
+again-known n s (d ∷ ds) known = (known.0, again-known n (all_applied s d.changes) ds known.1)
 
 -- and rename the same
 pub renamed-again : (s : Slots) (ds : List DoneCommand) → IsClosed s → IsOrderly s → CanGoForth s ds → (r : Renaming) → renamed_back (done_again s ds) r (left_again s ds) ≡ renamed_forth s r ds

@@ -7,7 +7,12 @@ pub mod Planned
 pub mod Each
 pub mod Entries
 pub mod Renamed
+pub mod ShownNames
 pub mod Superclass
+pub mod SelfGrown
 pub mod Steps
 pub mod Loops
+pub mod Made
 pub mod Groups
+pub mod RuledSteps
+pub mod MatchedSteps

@@ -1,5 +1,5 @@
 -- A log stays one where an action is taken back or done again, and its history moves with it.
-use Rattle.std.proofs.Common.{◌≡◌, List, [], ◌∷◌, Result, Ok, refl, sym, ap, subst, ◌∙◌, arith}
+use Rattle.std.proofs.Common.{◌≡◌, List, [], ◌∷◌, length, Result, Ok, refl, sym, ap, subst, ◌∙◌, arith}
 use Rattle.std.specs.Prelude.{Contains}
 use Rattle.run_model.specs.Renamings.{Renaming}
 use Rattle.class_table.specs.declared.record.Place.{Place}
@@ -12,8 +12,8 @@ use Rattle.session_model.specs.Scripts.{Version, History, rules}
 use Rattle.reference_index.specs.Mentioned.{Mentioned, IsIndexOf, DiffersAtMost}
 use Rattle.session.specs.Log.{Done, taken_back, left_back, done_again, left_again, LeadsBack, LeadsForth, IsIndexBut, IsLogOf}
 use Rattle.session.specs.History.{renamed_back, renaming_at, version_at, versions_before, versions_after, history_of}
-use Rattle.session.proofs.Kept.{went-back, went-forth, renamed-again, renamed-taken}
-use Rattle.session.proofs.Room.{index-along}
+use Rattle.session.proofs.Kept.{went-back, went-forth, back-known, again-known, renamed-again, renamed-taken}
+use Rattle.session.proofs.Room.{index-along, known-before, known-behind}
 
 -- the entry that was done again leads back, and the one that was taken back leads forth
 abbrev pub again : Slots → Done → Done
@@ -53,6 +53,8 @@ module _ (s : Slots) (e : Done) (x y : Mentioned) (stale : List Place) (back for
         index = renewed t y index;
         back = (whole.can, differs-back s t (taken_back t (left_again s e.commands)) e.touched whole.slots is.forth.1, subst (λ (z : Slots). LeadsBack z back) (sym whole.slots) is.back);
         forth = is.forth.2;
+        back_known = known-behind s e.commands (again s e ∷ back) (again-known (length s.names) s e.commands is.forth_known.0, is.back_known);
+        forth_known = known-behind s e.commands forth is.forth_known.1;
       }
 
   -- an action is taken back
@@ -67,6 +69,8 @@ module _ (s : Slots) (e : Done) (x y : Mentioned) (stale : List Place) (back for
         index = renewed t y index;
         back = is.back.2;
         forth = (whole.can, differs-back s t (done_again t (left_back s e.commands)) e.touched whole.slots is.back.1, subst (λ (z : Slots). LeadsForth z forth) (sym whole.slots) is.forth);
+        back_known = known-before s e.commands back is.back_known.1;
+        forth_known = known-before s e.commands (back_again s e ∷ forth) (back-known (length s.names) s e.commands is.back_known.0, is.forth_known);
       }
 
   -- an action that is done again is the version behind

@@ -45,15 +45,15 @@ within-renamed s r (d ∷ ds) =
     ∙ within-renamed s (composed r (renamed_by u d)) ds
 
 -- all actions
-abbrev all_of : List Done → List Renames
+abbrev pub all_of : List Done → List Renames
 all_of es = flat_map of_entry (reverse es)
 
-all-first : (e : Done) (es : List Done) → all_of (e ∷ es) ≡ all_of es ++ of_entry e
+pub all-first : (e : Done) (es : List Done) → all_of (e ∷ es) ≡ all_of es ++ of_entry e
 all-first e es =
     ap (flat_map of_entry) (reverse-append (e ∷ []) es) ∙ flat_map-append of_entry (reverse es) (e ∷ [])
     ∙ ap (λ (xs : List Renames). all_of es ++ xs) (append-nil (of_entry e))
 
-judged-length : (s : Slots) (es : List Done) → length (images_judged s es) ≡ length (all_of es)
+pub judged-length : (s : Slots) (es : List Done) → length (images_judged s es) ≡ length (all_of es)
 judged-length s [] = refl
 judged-length s (e ∷ es) =
     let u : Slots = taken_back s e.commands in

@@ -24,15 +24,15 @@ use Rattle.commands.specs.Views.{condition_of}
 use Rattle.commands.specs.declared.condition.Condition.{Condition}
 use Rattle.commands.specs.declared.condition.Condition.TheVariants as condition
 use Rattle.reference_index.specs.Mentioned.{Mentioned, IsIndexOf}
-use Rattle.wider_slots.proofs.Orderly.{orderly-wider}
 use Rattle.wider_slots.specs.Closed.{IsClosed}
-use Rattle.session.specs.Log.{Done, Log, log_at, taken_back, done_again, CanGoBack, CanGoForth, IsLogOf}
-use Rattle.session.specs.History.{renamed_back, renaming_at, history_of}
+use Rattle.wider_slots.proofs.StepLemmas.{wider-same}
+use Rattle.session.specs.Log.{Done, Log, log_at, taken_back, done_again, CanGoBack, CanGoForth, EntriesKnown, IsLogOf}
+use Rattle.session.specs.History.{renamed_back, renaming_at, version_behind, history_of}
 use Rattle.session.specs.Stepping.{IsUnderWay, IsCarriedOut, IsStepped, after_commands}
 use Rattle.session.specs.declared.refusal.StepRefusal.{StepRefusal}
 use Rattle.session.specs.declared.refusal.StepRefusal.TheVariants as refusal
 use Rattle.session.proofs.Kept.{again-names, back-names}
-use Rattle.session.proofs.Room.{room-same, room-back, room-forth, room-version, room-before, room-history}
+use Rattle.session.proofs.Room.{room-names, room-back, room-version, room-before, room-log, room-history, entries-longer}
 use Rattle.session.proofs.Logs.{again, back_again, renewed, is-index, log-again, log-back, history-again, history-back}
 use Rattle.session.proofs.UnderWay.{Follows}
 use Rattle.session.proofs.Entries.{last-done, first-undone, last-done-set, first-undone-set, last-pushed}
@@ -155,9 +155,75 @@ begins s log is renewed_there = record {
   orderly = is.orderly;
   index_of = is-index s log.index log.stale renewed_there is.index;
   back = tt;
-  room = room-same s is.closed;
+  known = tt;
+  room = wider-same s is.closed;
   touched = λ p no. refl;
 }
+
+-- the log with one more entry, which drops what was undone, and the log once that entry is taken back
+abbrev pub noted : Mentioned → Done → Log → Log
+noted y e log = record { index = y; stale = []; back = e ∷ log.back; forth = [] }
+
+abbrev pub gone : Mentioned → Done → Log → Log
+gone y e log = record { index = y; stale = e.touched; back = log.back; forth = log.forth }
+
+-- commands that lead back to slots with room
+module _ (s t : Slots) (log : Log) (y : Mentioned) (e : Done) (is : IsLogOf s log) (way : IsUnderWay s t y e) where
+  -- the slots before them
+  abbrev start : Slots
+  start = taken_back t e.commands
+
+  -- are one more entry
+  pub noted-log : IsLogOf t (noted y e log)
+  noted-log = record {
+    closed = way.closed;
+    orderly = way.orderly;
+    index = renewed t y way.index_of;
+    back = (way.back, way.touched, room-back s start log.back way.room is.back);
+    forth = tt;
+    back_known = (
+      way.known,
+      subst (λ (names : List (List ℕ)). EntriesKnown (length names) log.back) (back-names t e.commands)
+          (entries-longer (length s.names) (length start.names) (room-names s start way.room) log.back is.back_known),
+    );
+    forth_known = tt;
+  }
+
+  pub noted-history : history_of t (noted y e log) ≡ appended rules (history_of s log) (version_behind t (renaming_at s log.back) e.commands)
+  noted-history =
+      let before = room-version s start log.back way.room is.back is.back_known in
+      λ i. record {
+        earlier = before i ∷ room-before s start log.back way.room is.back is.back_known i;
+        now = record { image = image_of t; renaming = renamed_back t ((before i).renaming) e.commands };
+        later = [];
+      }
+
+  -- or are taken back
+  pub gone-log : IsLogOf start (gone y e log)
+  gone-log =
+      let there = room-log s start log way.room is in
+      record {
+        closed = there.closed;
+        orderly = there.orderly;
+        index = record { former = t; index_of = way.index_of; differs = way.touched };
+        back = there.back;
+        forth = there.forth;
+        back_known = there.back_known;
+        forth_known = there.forth_known;
+      }
+
+  pub gone-history : history_of start (gone y e log) ≡ history_of s log
+  gone-history = room-history s start log way.room is
+
+-- these logs by lists of entries
+module _ (x y : Mentioned) (stale : List Place) (es : List Done) (n : ℕ) (e : Done) (log : Log) (view : log_at x stale es n ≡ log) where
+  pub noted-there : log.stale ≡ [] → (items : List Done) (len : ℕ) → items ≡ take n es ++ e ∷ [] → len ≡ length items → noted y e log ≡ log_at y stale items len
+  noted-there renewed_there items len is_noted is_len =
+      let none : stale ≡ [] = ap (λ (l : Log). l.stale) view ∙ renewed_there in
+      (λ i. noted y e (sym view i)) ∙ sym (last-pushed y [] es n e) ∙ (λ i. log_at y (sym none i) (sym is_noted i) (sym (is_len ∙ ap length is_noted) i))
+
+  pub gone-there : (places : List Place) → places ≡ e.touched → gone y e log ≡ log_at y places es n
+  gone-there places same = λ i. record { index = y; stale = sym same i; back = (sym view i).back; forth = (sym view i).forth }
 
 -- commands that are one action
 module _ (s t : Slots) (log : Log) (y : Mentioned) (e : Done) (commands : List (CommandOf Name)) (is : IsLogOf s log) (renewed_there : log.stale ≡ []) where
@@ -165,77 +231,56 @@ module _ (s t : Slots) (log : Log) (y : Mentioned) (e : Done) (commands : List (
   abbrev behind : Result Version (ConditionOf Name) → Outcome
   behind o = by_result (λ v. Ok (appended rules (history_of s log) v)) (λ q. Err q) o
 
-  pub all-done : IsCarriedOut s log.index no_commands commands t y e (Ok tt) → IsStepped s log (after_commands (history_of s log) commands) t (record { index = y; stale = []; back = e ∷ log.back; forth = [] }) (Ok tt)
+  pub all-done : IsCarriedOut s log.index no_commands commands t y e (Ok tt) → IsStepped s log (after_commands (history_of s log) commands) t (noted y e log) (Ok tt)
   all-done done =
       let way : IsUnderWay s t y e = done.under_way s (begins s log is renewed_there) in
-      let w : Slots = taken_back t e.commands in
       record {
-        log = record {
-          closed = way.closed;
-          orderly = way.orderly;
-          index = renewed t y way.index_of;
-          back = (way.back, way.touched, room-back s w log.back way.room is.back);
-          forth = tt;
-        };
+        log = noted-log s t log y e is way;
         names = done.names;
-        done =
-            ap behind (done.done (renaming_at s log.back))
-            ∙ sym (λ i. Ok (record {
-              earlier = room-version s w log.back way.room is.back i ∷ room-before s w log.back way.room is.back i;
-              now = record { image = image_of t; renaming = renamed_back t ((room-version s w log.back way.room is.back i).renaming) e.commands };
-              later = [];
-            }));
+        done = ap behind (done.done (renaming_at s log.back)) ∙ sym (ap (λ (h : History). Ok h) (noted-history s t log y e is way));
         same = tt;
         refused = tt;
       }
 
   -- one of them is refused, and those before it are taken back
   pub all-undone : (q : StepRefusal) → IsCarriedOut s log.index no_commands commands t y e (Err q)
-      → IsStepped s log (after_commands (history_of s log) commands) (taken_back t e.commands) (record { index = y; stale = e.touched; back = log.back; forth = log.forth }) (Err q)
+      → IsStepped s log (after_commands (history_of s log) commands) (taken_back t e.commands) (gone y e log) (Err q)
   all-undone q done =
       let way : IsUnderWay s t y e = done.under_way s (begins s log is renewed_there) in
-      let w : Slots = taken_back t e.commands in
       record {
-        log = record {
-          closed = way.room.wider.still;
-          orderly = orderly-wider s w way.room.wider is.orderly;
-          index = record { former = t; index_of = way.index_of; differs = way.touched };
-          back = room-back s w log.back way.room is.back;
-          forth = room-forth s w log.forth way.room is.forth;
-        };
-        names = way.room.names;
+        log = gone-log s t log y e is way;
+        names = back-names t e.commands ∙ done.names;
         done = tt;
-        same = room-history s w log way.room is;
+        same = gone-history s t log y e is way;
         refused = λ c same. ap behind (done.refused c same (renaming_at s log.back));
       }
+
+-- no commands, where a list of entries stands for a log
+pub begins-there : (s : Slots) (x : Mentioned) (stale : List Place) (es : List Done) (n : ℕ) (first : Done) (log : Log) → log_at x stale es n ≡ log → IsLogOf s log → log.stale ≡ [] → first ≡ no_commands → IsUnderWay s s x first
+begins-there s x stale es n first log view is renewed_there empty =
+    subst (λ (z : Done). IsUnderWay s s x z) (sym empty) (subst (λ (l : Log). IsUnderWay s s l.index no_commands) (sym view) (begins s log is renewed_there))
 
 -- the same of a list of entries that stand for a log
 module _ (s t : Slots) (x y : Mentioned) (stale : List Place) (es : List Done) (n : ℕ) (first e : Done) (commands : List (CommandOf Name)) (log : Log)
     (view : log_at x stale es n ≡ log) (is : IsLogOf s log) (renewed_there : log.stale ≡ []) (empty : first ≡ no_commands) where
-  pub begins-there : IsUnderWay s s x first
-  begins-there =
-      subst (λ (z : Done). IsUnderWay s s x z) (sym empty) (subst (λ (l : Log). IsUnderWay s s l.index no_commands) (sym view) (begins s log is renewed_there))
-
   carried-there : (result : Result (Unit {0}) StepRefusal) → IsCarriedOut s x first commands t y e result → IsCarriedOut s log.index no_commands commands t y e result
   carried-there result done =
       subst (λ (l : Log). IsCarriedOut s l.index no_commands commands t y e result) view (subst (λ (z : Done). IsCarriedOut s x z commands t y e result) empty done)
 
   pub all-noted : IsCarriedOut s x first commands t y e (Ok tt) → (items : List Done) (len : ℕ) → items ≡ take n es ++ e ∷ [] → len ≡ length items
       → IsStepped s log (after_commands (history_of s log) commands) t (log_at y stale items len) (Ok tt)
-  all-noted done items len noted is_len =
-      let none : stale ≡ [] = ap (λ (l : Log). l.stale) view ∙ renewed_there in
-      subst (λ (l : Log). IsStepped s log (after_commands (history_of s log) commands) t l (Ok tt))
-      ((λ i. record { index = y; stale = []; back = e ∷ (sym view i).back; forth = [] }) ∙ sym (last-pushed y [] es n e) ∙ (λ i. log_at y (sym none i) (sym noted i) (sym (is_len ∙ ap length noted) i)))
+  all-noted done items len is_noted is_len =
+      subst (λ (l : Log). IsStepped s log (after_commands (history_of s log) commands) t l (Ok tt)) (noted-there x y stale es n e log view renewed_there items len is_noted is_len)
       (all-done s t log y e commands is renewed_there (carried-there (Ok tt) done))
 
   pub can-undo : (q : StepRefusal) → IsCarriedOut s x first commands t y e (Err q) → CanGoBack t e.commands
-  can-undo q done = (done.under_way s begins-there).back
+  can-undo q done = (done.under_way s (begins-there s x stale es n first log view is renewed_there empty)).back
 
   pub all-taken-back : (u : Slots) (places : List Place) (q : StepRefusal) → IsCarriedOut s x first commands t y e (Err q) → u ≡ taken_back t e.commands → places ≡ e.touched
       → IsStepped s log (after_commands (history_of s log) commands) u (log_at y places es n) (Err q)
   all-taken-back u places q done made same =
       subst (λ (z : Slots). IsStepped s log (after_commands (history_of s log) commands) z (log_at y places es n) (Err q)) (sym made) (
-      subst (λ (l : Log). IsStepped s log (after_commands (history_of s log) commands) (taken_back t e.commands) l (Err q)) (λ i. record { index = y; stale = sym same i; back = (sym view i).back; forth = (sym view i).forth })
+      subst (λ (l : Log). IsStepped s log (after_commands (history_of s log) commands) (taken_back t e.commands) l (Err q)) (gone-there x y stale es n e log view places same)
       (all-undone s t log y e commands is renewed_there q (carried-there (Err q) done)))
 
 -- an entry of a list that stands for a log is taken back or done again
@@ -287,11 +332,19 @@ none-forth s x stale es n h is =
 pub opened-log : (s : Slots) (x : Mentioned) (stale : List Place) (es : List Done) → IsClosed s → IsOrderly s → IsIndexOf s x → stale ≡ [] → es ≡ [] → IsLogOf s (log_at x stale es 0)
 opened-log s x stale es closed orderly is none empty =
     subst (λ (z : List Place). IsLogOf s (log_at x z es 0)) (sym none) (
-    subst (λ (zs : List Done). IsLogOf s (log_at x [] zs 0)) (sym empty) (record { closed = closed; orderly = orderly; index = renewed s x is; back = tt; forth = tt }))
+    subst (λ (zs : List Done). IsLogOf s (log_at x [] zs 0)) (sym empty) (record { closed = closed; orderly = orderly; index = renewed s x is; back = tt; forth = tt; back_known = tt; forth_known = tt }))
 
 -- a log whose index is renewed
 pub renewed-log : (s : Slots) (x y : Mentioned) (stale places : List Place) (es : List Done) (n : ℕ) (log : Log) → log_at x stale es n ≡ log → IsLogOf s log → Follows s x y stale → places ≡ [] → IsLogOf s (log_at y places es n)
 renewed-log s x y stale places es n log view is follows none =
     let there : IsLogOf s (log_at x stale es n) = subst (IsLogOf s) (sym view) is in
     subst (λ (z : List Place). IsLogOf s (log_at y z es n)) (sym none)
-    (record { closed = there.closed; orderly = there.orderly; index = renewed s y (follows there.index.former there.index.index_of there.index.differs); back = there.back; forth = there.forth })
+    (record {
+      closed = there.closed;
+      orderly = there.orderly;
+      index = renewed s y (follows there.index.former there.index.index_of there.index.differs);
+      back = there.back;
+      forth = there.forth;
+      back_known = there.back_known;
+      forth_known = there.forth_known;
+    })

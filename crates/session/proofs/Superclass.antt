@@ -1,11 +1,13 @@
 -- The superclass of a class, and what a class variable becomes that goes to it.
-use Rattle.std.proofs.Common.{◌≡◌, ◌<◌, ℕ, List, length, nat_eq, Option, None, Some, option_map, refl, sym, ap, ◌∙◌}
+use Rattle.std.proofs.Common.{◌≡◌, ◌<◌, ℕ, List, length, nat_eq, Option, None, Some, option_map, refl, sym, ap, subst, ◌∙◌}
 use Rattle.std.specs.Option.{option_and_then, option_map_or}
 use Rattle.rb_base.specs.Names.{text_eq, name_at}
 use Rattle.image_model.specs.Image.{ClassOf, map_class}
+use Rattle.image_model.specs.ImageNames.{OptionNames, ClassNames}
 use Rattle.image_model.specs.Words.{text_words, number_words}
 use Rattle.image_model.specs.Chain.{class_named}
 use Rattle.image_model.proofs.Changed.{class_named-map}
+use Rattle.image_model.proofs.Lists.{find-all}
 use Rattle.image_model.proofs.Tables.{KeepsWords-number_words}
 use Rattle.class_table.specs.declared.record.ClassRec.{ClassRec}
 use Rattle.class_table.specs.Finding.{named_in}
@@ -59,6 +61,17 @@ module _ (s : Slots) (n : ℕ) (orderly : IsOrderly s) where
   pub of_superclass : (k : ℕ) (c : ClassRec) (o : Option ℕ) → named_in s.classes s.class_order n ≡ Some k → live_at s.classes s.class_order k ≡ Some c → c.superclass ≡ o
       → option_and_then live_name o ≡ superclass_name nat_eq (number_image s) n
   of_superclass k c o e f g = sym (of_rec k (Some c) e f ∙ ap (option_and_then live_name) g)
+
+  -- its name has a text
+  pub superclass-known : (d : ℕ) → superclass_name nat_eq (number_image s) n ≡ Some d → d < length s.names
+  superclass-known d e = subst (OptionNames known) e (by (class_named nat_eq (number_image s).classes n) (find-all (ClassNames known) (λ (c : ClassOf ℕ). nat_eq n c.name) (number_image s).classes orderly.names_known.classes))
+    where
+      known : ℕ → Type 0
+      known k = k < length s.names
+
+      by : (o : Option (ClassOf ℕ)) → OptionNames (ClassNames known) o → OptionNames known (option_and_then (λ (c : ClassOf ℕ). c.superclass) o)
+      by None h = tt
+      by (Some c) h = h.superclass
 
   -- the same over texts
   pub superclass-text : n < length s.names → superclass_name text_eq (image_of s) (name_at s.names n) ≡ option_map (name_at s.names) (superclass_name nat_eq (number_image s) n)

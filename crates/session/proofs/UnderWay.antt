@@ -1,5 +1,5 @@
 -- Commands that are carried out one after the other.
-use Rattle.std.proofs.Common.{◌≡◌, ℕ, List, [], ◌∷◌, ◌++◌, Result, Ok, Err, refl, sym, ap, subst, ◌∙◌}
+use Rattle.std.proofs.Common.{◌≡◌, ◌<◌, ℕ, List, [], ◌∷◌, ◌++◌, length, Result, Ok, Err, refl, sym, ap, subst, ◌∙◌}
 use Rattle.std.proofs.lemmas.List.Elements.{Contains-append_left, Contains-append_right}
 use Rattle.rb_base.specs.Names.{name_at}
 use Rattle.image_model.specs.Image.{ImageOf}
@@ -22,14 +22,17 @@ use Rattle.history_model.specs.History.{after_all, by_result, version_after}
 use Rattle.reference_index.specs.Mentioned.{Mentioned, names_at, IsIndexOf, DiffersAtMost}
 use Rattle.session_model.specs.Scripts.{Version, rules}
 use Rattle.wider_slots.specs.Logs.{CanTakeBack, CanDoAgain}
+use Rattle.wider_slots.specs.Wider.{Wider}
+use Rattle.wider_slots.proofs.Opened.{all-append}
 use Rattle.wider_slots.proofs.Orderly.{orderly-wider}
-use Rattle.session.specs.Log.{DoneCommand, Done, with_command, taken_back, CanGoBack}
-use Rattle.session.specs.History.{renaming_in, renamed_by, renamed_back, version_behind}
-use Rattle.session.specs.Stepping.{IsRoom, IsUnderWay, IsCarriedOut}
+use Rattle.wider_slots.proofs.StepLemmas.{wider-twice}
+use Rattle.session.specs.Log.{DoneCommand, Done, with_command, taken_back, CanGoBack, RenamesNames, CommandsKnown}
+use Rattle.session.specs.History.{renamed_by, renamed_back, version_behind}
+use Rattle.session.specs.Stepping.{IsUnderWay, IsCarriedOut}
 use Rattle.session.specs.declared.refusal.StepRefusal.{StepRefusal}
 use Rattle.session.specs.declared.refusal.StepRefusal.TheVariants as refusal
 use Rattle.session.proofs.Kept.{applied-names, again-leads, again-closed, again-can}
-use Rattle.session.proofs.Room.{room-twice, room-mentions, room-image, index-along, back-both, back-renamed}
+use Rattle.session.proofs.Room.{room-names, room-mentions, index-along, renames-longer, commands-longer, room-renamed, back-both, back-renamed}
 
 -- the index goes with the code
 abbrev pub Follows : Slots → Mentioned → Mentioned → List Place → Type 0
@@ -52,20 +55,21 @@ renamed-behind s r (d ∷ fs) bs =
     ∙ renamed-behind s (composed r (renamed_by (taken_back (taken_back s bs) (d ∷ fs)) d)) fs bs
 
 -- room in between
-pub under_way-room : (first s t : Slots) (x : Mentioned) (d : Done) → IsRoom s t → IsUnderWay first s x d → IsUnderWay first t x d
+pub under_way-room : (first s t : Slots) (x : Mentioned) (d : Done) → Wider s t → IsUnderWay first s x d → IsUnderWay first t x d
 under_way-room first s t x d room is =
     let both = back-both s t d.commands room is.back in
     record {
-      closed = room.wider.still;
-      orderly = orderly-wider s t room.wider is.orderly;
+      closed = room.still;
+      orderly = orderly-wider s t room is.orderly;
       index_of = index-along s t x (room-mentions s t room) is.index_of;
       back = both.can;
-      room = room-twice first (taken_back s d.commands) (taken_back t d.commands) is.room both.room;
+      known = commands-longer (length s.names) (length t.names) (room-names s t room) d.commands is.known;
+      room = wider-twice first (taken_back s d.commands) (taken_back t d.commands) is.room both.room;
       touched = λ p no. room-mentions (taken_back s d.commands) (taken_back t d.commands) both.room p ∙ is.touched p no ∙ sym (room-mentions s t room p);
     }
 
 -- the changes of a plan, made in slots with room
-module _ (s p : Slots) (d : Done) (c : DoneCommand) (places : List Place) (room : IsRoom s p) (can : CanDoAgain p c.changes) where
+module _ (s p : Slots) (d : Done) (c : DoneCommand) (places : List Place) (room : Wider s p) (can : CanDoAgain p c.changes) (named : RenamesNames (λ k. k < length s.names) c.renames) where
   -- the slots then, the command fs it is kept, and the action with it
   abbrev pub after : Slots
   after = all_applied p c.changes
@@ -78,7 +82,7 @@ module _ (s p : Slots) (d : Done) (c : DoneCommand) (places : List Place) (room 
 
   -- the last command is taken back, and then those before it
   last-back : taken_back after (kept ∷ []) ≡ p
-  last-back = (again-leads p c.changes room.wider.still can).image
+  last-back = (again-leads p c.changes room.still can).image
 
   all-back : taken_back after next.commands ≡ taken_back p d.commands
   all-back = back-behind after d.commands (kept ∷ []) ∙ ap (λ (z : Slots). taken_back z d.commands) last-back
@@ -87,20 +91,22 @@ module _ (s p : Slots) (d : Done) (c : DoneCommand) (places : List Place) (room 
   under_way-next x y differs follows first is =
       let there = under_way-room first s p x d room is in
       record {
-        closed = again-closed p c.changes room.wider.still can;
+        closed = again-closed p c.changes room.still can;
         orderly = can.orderly;
         index_of = follows p there.index_of differs;
-        back = can-behind after d.commands (kept ∷ []) (tt, again-can p c.changes room.wider.still there.orderly can) (subst (λ (z : Slots). CanGoBack z d.commands) (sym last-back) there.back);
-        room = subst (IsRoom first) (sym all-back) there.room;
+        back = can-behind after d.commands (kept ∷ []) (tt, again-can p c.changes room.still there.orderly can) (subst (λ (z : Slots). CanGoBack z d.commands) (sym last-back) there.back);
+        known = subst (λ (names : List (List ℕ)). CommandsKnown (length names) next.commands) (sym (applied-names p c.changes)) (
+            all-append (λ (b : DoneCommand). RenamesNames (λ k. k < length p.names) b.renames) d.commands (kept ∷ []) there.known (renames-longer (length s.names) (length p.names) (room-names s p room) c.renames named, tt));
+        room = subst (Wider first) (sym all-back) there.room;
         touched = λ q no. ap (λ (z : Slots). names_at z q) all-back ∙ there.touched q (λ h. no (Contains-append_left d.touched places q h)) ∙ sym (differs q (λ h. no (Contains-append_right d.touched places q h)));
       }
 
   -- what is renamed then
-  pub renamed-next : CanGoBack s d.commands → (r : Renaming) → renamed_back after r next.commands ≡ composed (renamed_back s r d.commands) (renamed_by s c)
-  renamed-next back r =
+  pub renamed-next : CanGoBack s d.commands → CommandsKnown (length s.names) d.commands → (r : Renaming) → renamed_back after r next.commands ≡ composed (renamed_back s r d.commands) (renamed_by s c)
+  renamed-next back known r =
       renamed-behind after r d.commands (kept ∷ [])
       ∙ ap (λ (z : Slots). composed (renamed_back z r d.commands) (renamed_by z c)) last-back
-      ∙ (λ i. composed (back-renamed s p d.commands room back r i) (renaming_in (room.names i) (room-image s p room i) c.renames))
+      ∙ (λ i. composed (back-renamed s p d.commands room back known r i) (room-renamed s p c room named i))
 
 -- commands in two parts
 module _ (bs : List (CommandOf Name)) where
@@ -153,12 +159,12 @@ pub carried-none : (s : Slots) (x : Mentioned) (d : Done) → IsCarriedOut s x d
 carried-none s x d = record { under_way = λ begin is. is; names = refl; done = λ r. refl; refused = tt }
 
 -- want of memory, after room was made
-pub carried-wanting : (s t : Slots) (x y : Mentioned) (d e : Done) (commands : List (CommandOf Name)) → IsRoom s t → y ≡ x → e ≡ d → IsCarriedOut s x d commands t y e (Err refusal.Memory)
-carried-wanting s t x y d e commands room index entry =
+pub carried-wanting : (s t : Slots) (x y : Mentioned) (d e : Done) (commands : List (CommandOf Name)) → Wider s t → t.names ≡ s.names → y ≡ x → e ≡ d → IsCarriedOut s x d commands t y e (Err refusal.Memory)
+carried-wanting s t x y d e commands room names index entry =
     subst (λ (z : Mentioned). IsCarriedOut s x d commands t z e (Err refusal.Memory)) (sym index) (
     subst (λ (z : Done). IsCarriedOut s x d commands t x z (Err refusal.Memory)) (sym entry) (record {
       under_way = λ begin is. under_way-room begin s t x d room is;
-      names = room.names;
+      names = names;
       done = tt;
       refused = λ c same. cc;
     }))
@@ -179,15 +185,15 @@ module _ (s : Slots) (x : Mentioned) (d : Done) (command : CommandOf Name) where
         ap (one r) e ∙ ap (λ (b : Condition). Err (map_condition (name_at s.names) (condition_of b))) is;
   }
 
-  pub carried-one : (p : Slots) (y : Mentioned) (c : DoneCommand) (places : List Place) (room : IsRoom s p) (can : CanDoAgain p c.changes) → CanGoBack s d.commands
+  pub carried-one : (p : Slots) (y : Mentioned) (c : DoneCommand) (places : List Place) (room : Wider s p) (can : CanDoAgain p c.changes) → RenamesNames (λ k. k < length s.names) c.renames → p.names ≡ s.names → CanGoBack s d.commands → CommandsKnown (length s.names) d.commands
       → DiffersAtMost p (all_applied p c.changes) places → Follows (all_applied p c.changes) x y places
       → judged text_asked canonical (image_of s) command ≡ Ok (image_of (all_applied p c.changes)) → renamed_by s c ≡ renaming_of (image_of s) command
       → IsCarriedOut s x d (command ∷ []) (all_applied p c.changes) y (with_command d (record { changes = inverses p c.changes; renames = c.renames }) places) (Ok tt)
-  carried-one p y c places room can back differs follows made renamed = record {
-    under_way = under_way-next s p d c places room can x y differs follows;
-    names = applied-names p c.changes ∙ room.names;
+  carried-one p y c places room can named names back known differs follows made renamed = record {
+    under_way = under_way-next s p d c places room can named x y differs follows;
+    names = applied-names p c.changes ∙ names;
     done = λ r.
         ap (one r) made
-        ∙ (λ i. Ok (record { image = image_of (all_applied p c.changes); renaming = (ap (composed (renamed_back s r d.commands)) (sym renamed) ∙ sym (renamed-next s p d c places room can back r)) i }));
+        ∙ (λ i. Ok (record { image = image_of (all_applied p c.changes); renaming = (ap (composed (renamed_back s r d.commands)) (sym renamed) ∙ sym (renamed-next s p d c places room can named back known r)) i }));
     refused = tt;
   }

@@ -1,5 +1,6 @@
 -- What is kept of an image that commands change: an index, and what leads back and forth.
-use Rattle.std.specs.Prelude.{ℕ, List, [], ◌∷◌, ◌++◌, reverse, take, drop}
+use Rattle.std.specs.Prelude.{ℕ, ◌<◌, List, [], ◌∷◌, ◌++◌, length, reverse, take, drop}
+use Rattle.std.specs.List.{AllByRecursion}
 use Rattle.class_table.specs.declared.record.Place.{Place}
 use Rattle.class_table.specs.Slots.{Slots}
 use Rattle.change_set.specs.declared.change.Change.{Change}
@@ -7,8 +8,11 @@ use Rattle.change_set.specs.Changes.{all_applied, inverses, all_undone, inverses
 use Rattle.wider_slots.specs.Closed.{IsClosed}
 use Rattle.wider_slots.specs.Logs.{CanTakeBack, CanDoAgain}
 use Rattle.class_table.specs.Valid.{IsOrderly}
+use Rattle.command_numbers.specs.CommandNames.{CommandNames}
+use Rattle.commands.specs.Views.{renaming_command}
 use Rattle.reference_index.specs.Mentioned.{Mentioned, IsIndexOf, DiffersAtMost}
 use Rattle.session.specs.declared.renames.Renames.{Renames}
+use Rattle.session.specs.declared.renames.Renames.TheVariants as renames
 
 -- a single command that was done: the changes by which it is undone, or done again once it is undone, and what it renames
 pub record DoneCommand : Type 0 where
@@ -78,10 +82,26 @@ pub record IsIndexBut (s : Slots) (index : Mentioned) (stale : List Place) : Typ
   pub index_of : IsIndexOf former index
   pub differs : DiffersAtMost former s stale
 
--- the log is one of these slots: they are orderly and closed, the index is theirs but for what is to be looked at again, and what is kept leads back and forth
+-- P holds of each name in what a command renames
+abbrev pub RenamesNames : (ℕ → Type 0) → Renames → Type 0
+RenamesNames P renames.Nothing = Unit {0}
+RenamesNames P (renames.Renaming r) = CommandNames P (renaming_command r)
+RenamesNames P (renames.Moved c x d) = P c × P x × P d
+RenamesNames P (renames.Temporary m x y) = P m.class × P m.selector × P x × P y
+
+-- each name in what these commands rename is one of the first so many, and the same of actions
+abbrev pub CommandsKnown : ℕ → List DoneCommand → Type 0
+CommandsKnown n ds = AllByRecursion (λ (d : DoneCommand). RenamesNames (λ k. k < n) d.renames) ds
+
+abbrev pub EntriesKnown : ℕ → List Done → Type 0
+EntriesKnown n es = AllByRecursion (λ (e : Done). CommandsKnown n e.commands) es
+
+-- the log is one of these slots: they are orderly and closed, the index is theirs but for what is to be looked at again, what is kept leads back and forth, and what it renames has texts
 pub record IsLogOf (s : Slots) (log : Log) : Type 0 where
   pub closed : IsClosed s
   pub orderly : IsOrderly s
   pub index : IsIndexBut s log.index log.stale
   pub back : LeadsBack s log.back
   pub forth : LeadsForth s log.forth
+  pub back_known : EntriesKnown (length s.names) log.back
+  pub forth_known : EntriesKnown (length s.names) log.forth

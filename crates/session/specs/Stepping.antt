@@ -1,5 +1,5 @@
 -- What a step makes of the slots of an image and its log.
-use Rattle.std.specs.Prelude.{◌≡◌, List, Result, Ok, Err, IfErr, OnOk, OnErr}
+use Rattle.std.specs.Prelude.{◌≡◌, List, length, Result, Ok, Err, IfErr, OnOk, OnErr}
 use Rattle.rb_base.specs.Names.{name_at}
 use Rattle.run_model.specs.Values.{Name}
 use Rattle.run_model.specs.Renamings.{Renaming}
@@ -15,23 +15,19 @@ use Rattle.session_model.specs.Scripts.{History, rules}
 use Rattle.commands.specs.Views.{condition_of}
 use Rattle.commands.specs.declared.condition.Condition.{Condition}
 use Rattle.reference_index.specs.Mentioned.{Mentioned, IsIndexOf, DiffersAtMost}
-use Rattle.session.specs.Log.{Done, Log, taken_back, CanGoBack, IsLogOf}
+use Rattle.session.specs.Log.{Done, Log, taken_back, CanGoBack, CommandsKnown, IsLogOf}
 use Rattle.session.specs.History.{version_behind, history_of}
 use Rattle.session.specs.declared.refusal.StepRefusal.{StepRefusal}
 use Rattle.session.specs.declared.refusal.StepRefusal.TheVariants as refusal
 
--- the second slots are the first ones with room at the ends, over the same names
-pub record IsRoom (s t : Slots) : Type 0 where
-  pub wider : Wider s t
-  pub names : t.names ≡ s.names
-
--- these commands were done one after the other: they lead back from the slots to the first ones with room
+-- these commands were done one after the other: they lead back from the slots to the first ones with room, and what they rename has texts
 pub record IsUnderWay (s t : Slots) (index : Mentioned) (d : Done) : Type 0 where
   pub closed : IsClosed t
   pub orderly : IsOrderly t
   pub index_of : IsIndexOf t index
   pub back : CanGoBack t d.commands
-  pub room : IsRoom s (taken_back t d.commands)
+  pub known : CommandsKnown (length t.names) d.commands
+  pub room : Wider s (taken_back t d.commands)
   pub touched : DiffersAtMost t (taken_back t d.commands) d.touched
 
 -- What commands one after the other make of slots, their index and what was done before. Where they are done they make that version; and a condition that refuses one of them is the one that is false.

@@ -2,11 +2,13 @@
 #![tactic(auto)]
 
 mod done;
+mod grouping;
 mod performing;
 mod refusal;
 mod renames;
+mod ruling;
 mod session;
 
-pub use refusal::{GroupRefusal, StepRefusal};
-pub use renames::Renames;
+pub use refusal::{GroupRefusal, RuleRefusal, StepRefusal};
+pub use renames::{AllRenames, Renames};
 pub use session::Session;

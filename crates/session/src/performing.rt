@@ -14,14 +14,13 @@ ghost use Rattle.run_model.specs.Values.{Name};
 ghost use Rattle.rename_model.specs.ClassRenamed.{canonical};
 ghost use Rattle.class_table.specs.View.{image_of};
 ghost use Rattle.session_model.specs.Steps as model;
-ghost use Rattle.commands.specs.Actions.{map_action};
+ghost use Rattle.commands.specs.Actions.{map_action, ActionNames};
 ghost use Rattle.commands.specs.Views.{action_of};
 ghost use Rattle.session.specs.Stepping.{IsUnderWay, IsCarriedOut};
-ghost use Rattle.proposals.specs.Proposed.{IsNamed, Proposed, action_in};
-ghost use Rattle.session.specs.Grouping.{IsActedOut, IsGroupedOut};
+ghost use Rattle.session.specs.Grouping.{IsActedOut};
 
 use crate::done::{Done, DoneCommand, do_one};
-use crate::refusal::{GroupRefusal, StepRefusal};
+use crate::refusal::StepRefusal;
 use crate::renames::{Renames, renames_of};
 use class_table::{Image, Place};
 use code_command_numbers::all_verdicts_by_numbers;
@@ -30,7 +29,6 @@ use commands::{Action, Command, NewClass};
 use composites::{first_own_false, steps_of};
 use conditions::first_false;
 use plans::Plan;
-use proposals::Proposal;
 use rb_base::{Memory, Steps};
 use reference_index::Index;
 use std::alloc::Global;
@@ -53,7 +51,7 @@ fn note(
 }
 
 /// Carries out the plan of a command behind others.
-fn carry_out<L: Ledger>(
+pub(crate) fn carry_out<L: Ledger>(
     image: &mut Image,
     index: &mut Index,
     planned: Plan,
@@ -166,7 +164,7 @@ fn perform_steps<L: Ledger>(
 ) -> Result<(), StepRefusal>
     requires under_way { (first : Slots) × IsUnderWay first image.old index.old done.old }
     requires self_known { HasSelf image.old.names }
-    requires named { IsNamed (length image.old.names) action }
+    requires named { ActionNames (λ n. n < length image.old.names) (action_of action) }
     ensures { IsCarriedOut image.old index.old done.old (model.steps_of text_eq (image_of image.old) canonical (map_action (name_at image.old.names) (action_of action))) image.new index.new done.new result }
 {
     let commands = steps_of(alloc, image, index, action, steps)?;
@@ -184,7 +182,7 @@ fn perform_steps_of<L: Ledger>(
 ) -> Result<(), StepRefusal>
     requires under_way { (first : Slots) × IsUnderWay first image.old index.old done.old }
     requires self_known { HasSelf image.old.names }
-    requires named { IsNamed (length image.old.names) action.now }
+    requires named { ActionNames (λ n. n < length image.old.names) (action_of action.now) }
     ensures { IsCarriedOut image.old index.old done.old (model.steps_of text_eq (image_of image.old) canonical (map_action (name_at image.old.names) (action_of action.now))) image.new index.new done.new result }
 {
     match action {
@@ -229,7 +227,7 @@ fn perform_steps_of<L: Ledger>(
 }
 
 /// Carries an action out after others, if none of its own conditions is false and none of its single commands is refused.
-fn perform_action<L: Ledger>(
+pub(crate) fn perform_action<L: Ledger>(
     alloc: Global,
     image: &mut Image,
     index: &mut Index,
@@ -239,35 +237,11 @@ fn perform_action<L: Ledger>(
 ) -> Result<(), StepRefusal>
     requires under_way { (first : Slots) × IsUnderWay first image.old index.old done.old }
     requires self_known { HasSelf image.old.names }
-    requires named { IsNamed (length image.old.names) action.now }
+    requires named { ActionNames (λ n. n < length image.old.names) (action_of action.now) }
     ensures { IsActedOut image.old index.old done.old (map_action (name_at image.old.names) (action_of action.now)) image.new index.new done.new result }
 {
     if let Some(condition) = first_own_false(alloc, image, index, action, steps)? {
         return Err(StepRefusal::Condition(condition));
     }
     perform_steps_of(alloc, image, index, action, done, steps)
-}
-
-/// Carries actions out in order after others, or those before the first one that is refused.
-pub(crate) fn perform_group<L: Ledger>(
-    alloc: Global,
-    image: &mut Image,
-    index: &mut Index,
-    actions: &[Proposal],
-    done: &mut Done,
-    steps: &mut Steps<L>,
-) -> Result<(), GroupRefusal>
-    requires under_way { (first : Slots) × IsUnderWay first image.old index.old done.old }
-    requires self_known { HasSelf image.old.names }
-    requires known { AllByRecursion (λ p. p.names ≤ length image.old.names) actions.now }
-    ensures { IsGroupedOut image.old index.old done.old (map (action_in image.old.names) actions.now) image.new index.new done.new result }
-{
-    let mut nth = 0;
-    for proposal in actions {
-        nth += 1;
-        if let Err(refusal) = perform_action(alloc, image, index, proposal.action(), done, steps) {
-            return Err(refusal.at(nth));
-        }
-    }
-    Ok(())
 }

@@ -1,5 +1,5 @@
-// What a command renames, in a short form.
-ghost use Rattle.std.specs.Prelude.{◌≡◌, ◌<◌, length, nat_eq};
+// What a command renames, in a short form, and what commands rename one after the other.
+ghost use Rattle.std.specs.Prelude.{◌≡◌, ◌<◌, ◌++◌, length, flat_map, nat_eq, OnOk, IfOk};
 ghost use Rattle.rb_base.specs.Names.{name_at};
 ghost use Rattle.class_table.specs.Valid.{IsOrderly};
 ghost use Rattle.class_table.specs.View.{number_image, image_of};
@@ -10,10 +10,14 @@ ghost use Rattle.command_numbers.specs.CommandNames.{CommandNames};
 ghost use Rattle.command_numbers.specs.MappedCommands.{map_command};
 ghost use Rattle.commands.specs.Views.{command_of};
 ghost use Rattle.session.specs.History.{renaming_in};
+ghost use Rattle.session.specs.Log.{RenamesNames};
+ghost use Rattle.session.specs.Called.{class_named, selector_named, classes_called, selectors_called};
 
 use class_table::Image;
 use commands::{Command, MethodName, NewParameter, Renaming, VariableMove};
-use rb_base::NameId;
+use new_names::{NewName, composed};
+use rb_base::{Memory, NameId};
+use std::alloc::Global;
 
 /// What a command renames.
 #[derive(Clone, Copy, Debug)]
@@ -34,6 +38,58 @@ pub enum Renames {
         variable: NameId,
         to: NameId,
     },
+}
+
+/// What commands rename one after the other.
+#[derive(Drop)]
+pub struct AllRenames {
+    /// Each name of a class that is replaced, with what the class that had it first is called now.
+    pub classes: Vec<NewName>,
+    /// The same of selectors.
+    pub selectors: Vec<NewName>,
+    /// What each command renames, in order, variables and temporaries among it.
+    pub commands: Vec<Renames>,
+}
+
+/// Puts the classes and the selectors that get other names behind others.
+fn put_names(
+    commands: &[Renames],
+    classes: &mut Vec<NewName>,
+    selectors: &mut Vec<NewName>,
+) -> Result<(), Memory>
+    ensures classes { OnOk result (classes.new.items ≡ classes.old.items ++ flat_map class_named commands.now) }
+    ensures selectors { OnOk result (selectors.new.items ≡ selectors.old.items ++ flat_map selector_named commands.now) }
+{
+    for command in commands {
+        match *command {
+            Renames::Renaming(Renaming::Class { class, to }) => {
+                classes.push(NewName { from: class, to })?;
+            }
+            Renames::Renaming(Renaming::Selector { selector, to }) => {
+                selectors.push(NewName { from: selector, to })?;
+            }
+            _ => {}
+        }
+    }
+    Ok(())
+}
+
+impl AllRenames {
+    /// What these commands rename, the first one first.
+    pub(crate) fn by(alloc: Global, commands: Vec<Renames>) -> Result<AllRenames, Memory>
+        ensures classes { IfOk result (λ r. r.classes.items ≡ classes_called commands.items) }
+        ensures selectors { IfOk result (λ r. r.selectors.items ≡ selectors_called commands.items) }
+        ensures commands { IfOk result (λ r. r.commands.items ≡ commands.items) }
+    {
+        let mut classes = Vec::new(alloc);
+        let mut selectors = Vec::new(alloc);
+        put_names(&commands, &mut classes, &mut selectors)?;
+        Ok(AllRenames {
+            classes: composed(alloc, &classes)?,
+            selectors: composed(alloc, &selectors)?,
+            commands,
+        })
+    }
 }
 
 /// The name of the superclass; none where there is no class of the name, or it has none.
@@ -60,7 +116,9 @@ fn superclass_name(image: &Image, class: NameId) -> Option<NameId>
 fn renames_up(image: &Image, class: NameId, variable: NameId) -> Renames
     requires orderly { IsOrderly image.now }
     requires class { class < length image.now.names }
-    ensures { renaming_in image.now.names (image_of image.now) result ≡ renaming_of (image_of image.now) (PushUpClassVar (name_at image.now.names class) (name_at image.now.names variable)) }
+    requires variable { variable < length image.now.names }
+    ensures renaming { renaming_in image.now.names (image_of image.now) result ≡ renaming_of (image_of image.now) (PushUpClassVar (name_at image.now.names class) (name_at image.now.names variable)) }
+    ensures known { RenamesNames (λ n. n < length image.now.names) result }
 {
     match superclass_name(image, class) {
         Some(to) => Renames::Moved {
@@ -76,7 +134,8 @@ fn renames_up(image: &Image, class: NameId, variable: NameId) -> Renames
 pub(crate) fn renames_of(image: &Image, command: &Command) -> Renames
     requires orderly { IsOrderly image.now }
     requires known { CommandNames (λ n. n < length image.now.names) (command_of command.now) }
-    ensures { renaming_in image.now.names (image_of image.now) result ≡ renaming_of (image_of image.now) (map_command (name_at image.now.names) (command_of command.now)) }
+    ensures renaming { renaming_in image.now.names (image_of image.now) result ≡ renaming_of (image_of image.now) (map_command (name_at image.now.names) (command_of command.now)) }
+    ensures known { RenamesNames (λ n. n < length image.now.names) result }
 {
     match command {
         Command::Rename(renaming) => Renames::Renaming(*renaming),

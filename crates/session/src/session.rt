@@ -1,14 +1,16 @@
 // The steps of a session.
-ghost use Rattle.std.specs.Prelude.{◌≡◌, ◌≢◌, ◌<◌, ◌≤◌, ℕ, ◌++◌, ◌∷◌, [], length, map, take, None, Ok, Err, IfOk, IfErr, OnOk, OnErr, vec_len};
+ghost use Rattle.std.specs.Prelude.{◌≡◌, ◌≢◌, ◌<◌, ◌≤◌, ℕ, ◌++◌, ◌∷◌, [], length, map, take, Some, None, Ok, Err, IfOk, IfErr, OnOk, OnErr, vec_len};
 ghost use Rattle.std.specs.List.{AllByRecursion};
 ghost use Rattle.std.specs.Vec.{vec_capacity};
 ghost use Rattle.rb_base.specs.Names.{name_at};
+ghost use Rattle.image_model.specs.Image.{ImageOf};
+ghost use Rattle.run_model.specs.Values.{Name};
 ghost use Rattle.run_model.specs.Renamings.{no_renaming};
 ghost use Rattle.class_table.specs.Slots.{Slots};
 ghost use Rattle.class_table.specs.View.{image_of};
 ghost use Rattle.class_table.specs.Valid.{IsOrderly};
 ghost use Rattle.wider_slots.specs.Closed.{IsClosed};
-ghost use Rattle.history_model.specs.Rules.{Perform, Undo, Redo};
+ghost use Rattle.history_model.specs.Rules.{Perform, Undo, Redo, Asks};
 ghost use Rattle.history_model.specs.History.{opened, stepped};
 ghost use Rattle.command_model.specs.Asked.{text_asked};
 ghost use Rattle.command_numbers.specs.CommandNames.{CommandNames};
@@ -18,21 +20,38 @@ ghost use Rattle.session_model.specs.Scripts.{rules};
 ghost use Rattle.commands.specs.Actions.{map_action, ActionNames};
 ghost use Rattle.commands.specs.Views.{action_of, command_of, condition_of, request_in, HasSelf, IsKnownRequest};
 ghost use Rattle.commands.specs.declared.condition.Condition.{Condition};
+ghost use Rattle.kept_runs.specs.WellSpelled.{IsWellSpelledAction};
+ghost use Rattle.rule_laws.specs.KeptRules.{IsSpelledRule};
+ghost use Rattle.ruled_laws.specs.SpelledRequests.{IsSpelledAsked};
+ghost use Rattle.matched_histories.specs.MatchedHistories.{IsMatchedHistory};
 ghost use Rattle.session.specs.Log.{IsLogOf};
+ghost use Rattle.new_names.specs.Shown.{ShowsTheSame};
+ghost use Rattle.session.specs.Called.{shown_by};
 ghost use Rattle.session.specs.History.{renames_done, images_judged, renamed_along, history_of};
 ghost use Rattle.session.specs.Stepping.{IsStepped, after_commands};
-ghost use Rattle.proposals.specs.Proposed.{Proposed, action_in};
-ghost use Rattle.session.specs.Grouping.{grouped, IsGroupStepped};
+ghost use Rattle.proposals.specs.Proposed.{Proposed, asked_in};
+ghost use Rattle.session.specs.Refused.{rule_told, group_told};
+ghost use Rattle.session.specs.Making.{IsEntered};
+ghost use Rattle.session.specs.Grouping.{grouped};
+ghost use Rattle.event_trees.specs.Naming.{Grows};
+ghost use Rattle.certificates.specs.Asked.{command_in, IsKnownRule};
+ghost use Rattle.rule_model.specs.RuleCommands.{Reason, Unmet, Derived};
+ghost use Rattle.ruled_model.specs.RuledScripts.{Applies, ruled};
 ghost use Rattle.session.specs.declared.refusal.StepRefusal.TheVariants as refusal;
-ghost use Rattle.session.specs.declared.refusal.GroupRefusal.TheVariants as group_refusal;
+ghost use Rattle.session.specs.declared.refusal.RuleRefusal.TheVariants as rule_refusal;
 
 use crate::done::{Done, do_again, take_back};
-use crate::performing::{perform_each, perform_group};
-use crate::refusal::{GroupRefusal, StepRefusal};
-use crate::renames::Renames;
+use crate::grouping::perform_group;
+use crate::performing::perform_each;
+use crate::refusal::{GroupRefusal, RuleRefusal, StepRefusal};
+use crate::renames::AllRenames;
+use crate::ruling::perform_rule;
+use certificates::RuleRequest;
 use class_table::{Image, Place};
 use commands::{Action, Command, Condition, Request};
 use composites::{first_own_false, steps_of};
+use matched_histories::law_matched_histories;
+use new_names::law_composed_names;
 use proposals::Proposal;
 use rb_base::{Memory, Steps};
 use reference_index::{Index, build};
@@ -108,8 +127,10 @@ impl Session {
         requires orderly { IsOrderly image.now }
         ensures log { OnOk result (IsLogOf image.now self.new) }
         ensures history { OnOk result (history_of image.now self.new ≡ opened rules (image_of image.now)) }
+        ensures matched { OnOk result (IsMatchedHistory (image_of image.now) (history_of image.now self.new)) }
         ensures err { OnErr result (self.new ≡ self.old) }
     {
+        law_matched_histories();
         let index = build(self.alloc, image, steps)?;
         self.index = index;
         self.stale.clear();
@@ -118,17 +139,20 @@ impl Session {
         Ok(())
     }
 
-    /// What the commands rename that are done, in order. One after the other, each in the image in which its command was
-    /// judged, they rename what the present version of the history does.
-    pub fn renames(&self, alloc: Global) -> Result<Vec<Renames>, Memory>
-        ensures items { IfOk result (λ found. found.items ≡ renames_done self.now) }
-        ensures renaming { (s : Slots) → IfOk result (λ found. (history_of s self.now).now.renaming ≡ renamed_along s.names no_renaming (images_judged s self.now.back) found.items) }
+    /// What the commands rename that are done: what classes and selectors of the image that was opened are called now, which is
+    /// all of it that a run shows; and what each command renames, in order. One after the other, each in the image in which its
+    /// command was judged, they rename what the present version of the history does.
+    pub fn renames(&self, alloc: Global) -> Result<AllRenames, Memory>
+        ensures shows { (s : Slots) → IsLogOf s self.now → IfOk result (λ renamed. ShowsTheSame (history_of s self.now).now.renaming (shown_by s.names renamed)) }
+        ensures commands { IfOk result (λ renamed. renamed.commands.items ≡ renames_done self.now) }
+        ensures renaming { (s : Slots) → IfOk result (λ renamed. (history_of s self.now).now.renaming ≡ renamed_along s.names no_renaming (images_judged s self.now.back) renamed.commands.items) }
     {
+        law_composed_names();
         let mut found = Vec::new(alloc);
         for entry in &self.entries[..self.done] {
             entry.put_renames(&mut found)?;
         }
-        Ok(found)
+        AllRenames::by(alloc, found)
     }
 
     /// Makes the index that of the image where a refused action left it behind.
@@ -272,7 +296,8 @@ impl Session {
     }
 
     /// Does what a line of a script asks for. Undo and redo take no memory for the log. After a refusal the image may have
-    /// further slots that are not live.
+    /// further slots that are not live. Each version of the history stays matched with the image that was opened, up to what it
+    /// renames.
     pub fn step<L: Ledger>(
         &mut self,
         image: &mut Image,
@@ -288,7 +313,10 @@ impl Session {
         ensures same { OnErr result (history_of image.new self.new ≡ history_of image.old self.old) }
         ensures refused { IfErr result (λ e. (c : Condition) → e ≡ refusal.Condition c →
             stepped rules (history_of image.old self.old) (request_in image.old.names request) ≡ Err (map_condition (name_at image.old.names) (condition_of c))) }
+        ensures matched { (first : ImageOf Name) → Asks IsWellSpelledAction (request_in image.old.names request) →
+            IsMatchedHistory first (history_of image.old self.old) → IsMatchedHistory first (history_of image.new self.new) }
     {
+        law_matched_histories();
         match request {
             Request::Perform(action) => self.perform(image, action, steps),
             Request::Undo => {
@@ -302,19 +330,20 @@ impl Session {
         }
     }
 
-    /// Does actions as one entry, and drops what was undone. If one is refused, those before it are taken back.
-    fn perform_group<L: Ledger>(
+    /// Does what is proposed as one entry, and drops what was undone. If any of it is refused, what was done before it is taken
+    /// back.
+    fn perform_group<'a, L: Ledger>(
         &mut self,
         image: &mut Image,
-        actions: &[Proposal],
+        proposals: &'a [Proposal],
         steps: &mut Steps<L>,
-    ) -> Result<(), GroupRefusal>
-        requires some { actions.now ≢ [] }
+    ) -> Result<(), GroupRefusal<'a>>
+        requires some { proposals.now ≢ [] }
         requires log { IsLogOf image.old self.old }
         requires renewed { self.old.stale ≡ [] }
         requires self_known { HasSelf image.old.names }
-        requires known { AllByRecursion (λ p. p.names ≤ length image.old.names) actions.now }
-        ensures { IsGroupStepped image.old self.old (grouped (history_of image.old self.old) (map (action_in image.old.names) actions.now)) image.new self.new result }
+        requires known { AllByRecursion (λ p. p.names ≤ length image.old.names) proposals.now }
+        ensures { IsEntered image.old self.old (grouped (history_of image.old self.old) (map (asked_in image.old.names) proposals.now)) image.new self.new group_told result }
     {
         if self.entries.reserve(1).is_err() {
             return Err(GroupRefusal::Memory);
@@ -324,7 +353,7 @@ impl Session {
             self.alloc,
             image,
             &mut self.index,
-            actions,
+            proposals,
             &mut entry,
             steps,
         ) {
@@ -340,28 +369,101 @@ impl Session {
         }
     }
 
-    /// Does actions as one composite and one entry of the history, each in the image after those before it; no actions change
-    /// nothing. After a refusal nothing of them is left but further slots that are not live.
-    pub fn step_all<L: Ledger>(
+    /// Does what is proposed as one entry of the history, each in the image after those before it; nothing that is proposed
+    /// changes nothing. After a refusal nothing of it is left but further slots that are not live. The names of the image may be
+    /// more afterwards.
+    pub fn step_all<'a, L: Ledger>(
         &mut self,
         image: &mut Image,
-        actions: &[Proposal],
+        proposals: &'a [Proposal],
         steps: &mut Steps<L>,
-    ) -> Result<(), GroupRefusal>
+    ) -> Result<(), GroupRefusal<'a>>
         requires log { IsLogOf image.old self.old }
         requires self_known { HasSelf image.old.names }
-        requires known { AllByRecursion (λ p. p.names ≤ length image.old.names) actions.now }
+        requires known { AllByRecursion (λ p. p.names ≤ length image.old.names) proposals.now }
         ensures log { IsLogOf image.new self.new }
-        ensures names { image.new.names ≡ image.old.names }
-        ensures done { OnOk result (grouped (history_of image.old self.old) (map (action_in image.old.names) actions.now) ≡ Ok (history_of image.new self.new)) }
+        ensures names { Grows image.old.names image.new.names }
+        ensures done { OnOk result (grouped (history_of image.old self.old) (map (asked_in image.old.names) proposals.now) ≡ Ok (history_of image.new self.new)) }
         ensures same { OnErr result (history_of image.new self.new ≡ history_of image.old self.old) }
-        ensures refused { IfErr result (λ e. (n : ℕ) (c : Condition) → e ≡ group_refusal.Condition n c →
-            grouped (history_of image.old self.old) (map (action_in image.old.names) actions.now) ≡ Err (n, map_condition (name_at image.old.names) (condition_of c))) }
+        ensures refused { IfErr result (λ e. (q : ℕ × Reason) → group_told image.new.names e ≡ Some q →
+            grouped (history_of image.old self.old) (map (asked_in image.old.names) proposals.now) ≡ Err q) }
+        ensures matched { (first : ImageOf Name) → AllByRecursion IsSpelledAsked (map (asked_in image.old.names) proposals.now) →
+            IsMatchedHistory first (history_of image.old self.old) → IsMatchedHistory first (history_of image.new self.new) }
     {
-        if actions.is_empty() {
+        law_matched_histories();
+        if proposals.is_empty() {
             return Ok(());
         }
         self.renew(image, steps)?;
-        self.perform_group(image, actions, steps)
+        self.perform_group(image, proposals, steps)
+    }
+
+    /// Rewrites all code of users by the rule as one entry, and drops what was undone. If it is refused, all is put back.
+    fn perform_rule<L: Ledger>(
+        &mut self,
+        image: &mut Image,
+        request: &RuleRequest,
+        steps: &mut Steps<L>,
+    ) -> Result<(), RuleRefusal>
+        requires log { IsLogOf image.old self.old }
+        requires renewed { self.old.stale ≡ [] }
+        requires self_known { HasSelf image.old.names }
+        requires known { IsKnownRule image.old.names request.now }
+        ensures { IsEntered image.old self.old (stepped ruled (history_of image.old self.old) (Perform (Applies (command_in image.old.names request.now)))) image.new self.new (rule_told (command_in image.old.names request.now).certificate) result }
+    {
+        if self.entries.reserve(1).is_err() {
+            return Err(RuleRefusal::Memory);
+        }
+        let mut entry = Done::new(self.alloc);
+        match perform_rule(
+            self.alloc,
+            image,
+            &mut self.index,
+            request,
+            &mut entry,
+            steps,
+        ) {
+            Ok(()) => {
+                note(&mut self.entries, self.done, entry);
+                self.done = self.entries.len();
+                Ok(())
+            }
+            Err(refusal) => {
+                self.stale = entry.undo(image);
+                Err(refusal)
+            }
+        }
+    }
+
+    /// Rewrites all code of users by the rule, as one entry of the history, and drops what was undone. The names of the image may be
+    /// more afterwards.
+    ///
+    /// # Errors
+    ///
+    /// Code looks at the program itself; the certificate does not derive the rule; a tree is too high afterwards; or want of memory.
+    /// The image shows the same as before then, and its history is the same.
+    pub fn apply_rule<L: Ledger>(
+        &mut self,
+        image: &mut Image,
+        request: &RuleRequest,
+        steps: &mut Steps<L>,
+    ) -> Result<(), RuleRefusal>
+        requires log { IsLogOf image.old self.old }
+        requires self_known { HasSelf image.old.names }
+        requires known { IsKnownRule image.old.names request.now }
+        ensures log { IsLogOf image.new self.new }
+        ensures names { Grows image.old.names image.new.names }
+        ensures done { OnOk result (stepped ruled (history_of image.old self.old) (Perform (Applies (command_in image.old.names request.now))) ≡ Ok (history_of image.new self.new)) }
+        ensures same { OnErr result (history_of image.new self.new ≡ history_of image.old self.old) }
+        ensures refused { IfErr result (λ e. (c : Condition) → e ≡ rule_refusal.Condition c →
+            stepped ruled (history_of image.old self.old) (Perform (Applies (command_in image.old.names request.now))) ≡ Err (Unmet (map_condition (name_at image.new.names) (condition_of c)))) }
+        ensures underived { IfErr result (λ e. e ≡ rule_refusal.NotDerived →
+            stepped ruled (history_of image.old self.old) (Perform (Applies (command_in image.old.names request.now))) ≡ Err (Derived (command_in image.old.names request.now).certificate)) }
+        ensures matched { (first : ImageOf Name) → IsSpelledRule (command_in image.old.names request.now) →
+            IsMatchedHistory first (history_of image.old self.old) → IsMatchedHistory first (history_of image.new self.new) }
+    {
+        law_matched_histories();
+        self.renew(image, steps)?;
+        self.perform_rule(image, request, steps)
     }
 }

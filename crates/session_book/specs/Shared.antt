@@ -6,16 +6,17 @@ use Rattle.class_table.specs.Slots.{Slots}
 use Rattle.class_table.specs.SlotsCode.{coded_slots}
 use Rattle.text_model.specs.Pieces.{pieces_behind}
 use Rattle.history_model.specs.History.{after_action}
-use Rattle.command_model.specs.Conditions.{ConditionOf, UndoLeft, RedoLeft}
-use Rattle.session_model.specs.Scripts.{Version, History, rules}
-use Rattle.apply_model.specs.Lines.{condition_words}
+use Rattle.command_model.specs.Conditions.{ConditionOf}
+use Rattle.rule_model.specs.RuleCommands.{Reason, Unmet}
+use Rattle.ruled_model.specs.RuledScripts.{Version, History, ruled}
+use Rattle.apply_model.specs.Lines.{reason_words}
 use Rattle.team_core.specs.declared.book.BookRefusal.{BookRefusal}
 use Rattle.team_core.specs.declared.book.BookRefusal.TheVariants as refused
 use Rattle.team_core.specs.History.{HistoryOf, RulesOf, by_result}
 use Rattle.session.specs.Log.{Log}
 use Rattle.session.specs.LogCode.{coded_log}
 use Rattle.session.specs.History.{history_of}
-use Rattle.proposals.specs.Proposed.{Proposed, action_in}
+use Rattle.proposals.specs.Proposed.{Proposed, asked_in}
 
 -- an image, and the log of what was done with it
 pub record Shared : Type 0 where
@@ -33,19 +34,22 @@ book_of h = record { earlier = h.earlier; now = h.now; later = h.later }
 abbrev pub shared_history : Shared → HistoryOf Version
 shared_history b = book_of (history_of b.image b.log)
 
--- a condition as it is printed: its number, its name and its arguments, each after a blank
-abbrev pub condition_text : ConditionOf Name → List ℕ
-condition_text q = pieces_behind (codes " ") (condition_words q)
+-- a reason as it is printed: its number, its name and its arguments, each after a blank; and a condition
+abbrev pub reason_text : Reason → List ℕ
+reason_text q = pieces_behind (codes " ") (reason_words q)
 
--- what an action makes of a version, over the texts of the names; a condition that refuses it is printed
+abbrev pub condition_text : ConditionOf Name → List ℕ
+condition_text q = reason_text (Unmet q)
+
+-- what is made of a version by what is proposed, over the texts of the names; a reason that refuses it is printed
 abbrev pub book_rules : List (List ℕ) → RulesOf Version Proposed (List ℕ)
 book_rules names = record {
-  relation = λ v p. by_result (λ w. Ok w) (λ q. Err (condition_text q)) (after_action rules v (action_in names p));
-  no_earlier = condition_text UndoLeft;
-  no_later = condition_text RedoLeft;
+  relation = λ v p. by_result (λ w. Ok w) (λ q. Err (reason_text q)) (after_action ruled v (asked_in names p));
+  no_earlier = reason_text ruled.undo_left;
+  no_later = reason_text ruled.redo_left;
 }
 
--- an action fits if its names are names of the image
+-- what is proposed fits if its names are names of the image
 abbrev pub fits_in : List (List ℕ) → Proposed → Bool
 fits_in names p = nat_le p.names (length names)
 

@@ -1,5 +1,5 @@
 // The book that an image and its session are.
-ghost use Rattle.std.specs.Prelude.{◌≡◌, ℕ, List, IfOk, OnOk};
+ghost use Rattle.std.specs.Prelude.{◌≡◌, ℕ, List, map, IfOk, OnOk};
 ghost use Rattle.rb_base.specs.Names.{name_at};
 ghost use Rattle.class_table.specs.Valid.{IsOrderly};
 ghost use Rattle.class_table.specs.View.{image_of};
@@ -11,13 +11,16 @@ ghost use Rattle.commands.specs.Views.{condition_of, request_in, HasSelf, IsKnow
 ghost use Rattle.session.specs.Log.{IsLogOf};
 ghost use Rattle.session.specs.History.{history_of};
 ghost use Rattle.team_core.specs.declared.book.BookRefusal.TheVariants as refused;
-ghost use Rattle.session_book.specs.Shared.{condition_text, IsMoved};
+ghost use Rattle.rule_model.specs.RuleCommands.{Derived};
+ghost use Rattle.certificates.specs.Shown.{step_shown};
+ghost use Rattle.session_book.specs.Shared.{reason_text, condition_text, IsMoved};
 
+use certificates::Certificate;
 use class_table::Image;
 use commands::{Condition, Request};
 use proposals::Proposal;
 use rb_base::{Memory, Names, Steps, Text};
-use refusal_lines::push_condition;
+use refusal_lines::{push_condition, push_not_derived};
 use session::{GroupRefusal, Session, StepRefusal};
 use std::alloc::Global;
 use std::marker::Model;
@@ -57,12 +60,23 @@ impl Model for SessionBook {
     ghost invariant = { λ a. IsLogOf a.image a.session × HasSelf a.image.names };
 }
 
-/// Why the book is not moved if the action of this number is refused for a condition.
-fn refusal(alloc: Global, nth: usize, condition: Condition, names: &Names) -> BookRefusal<Text>
+/// Why the book is not moved if what has this number is refused for a condition.
+fn unmet(alloc: Global, nth: usize, condition: Condition, names: &Names) -> BookRefusal<Text>
     ensures { (n : ℕ) (q : List ℕ) → result ≡ refused.Cause n q → (n ≡ nth) × (q ≡ condition_text (map_condition (name_at names.now) (condition_of condition))) }
 {
     let mut cause = Text::new(alloc);
     match push_condition(condition, names, &mut cause) {
+        Ok(()) => BookRefusal::Cause { nth, cause },
+        Err(Memory) => BookRefusal::Memory,
+    }
+}
+
+/// Why the book is not moved if what has this number is a rule that its certificate does not derive.
+fn underived(alloc: Global, nth: usize, certificate: &Certificate) -> BookRefusal<Text>
+    ensures { (n : ℕ) (q : List ℕ) → result ≡ refused.Cause n q → (n ≡ nth) × (q ≡ reason_text (Derived (map step_shown certificate.now.steps.items))) }
+{
+    let mut cause = Text::new(alloc);
+    match push_not_derived(certificate, &mut cause) {
         Ok(()) => BookRefusal::Cause { nth, cause },
         Err(Memory) => BookRefusal::Memory,
     }
@@ -84,9 +98,7 @@ fn moved_by<L: Ledger>(
 {
     match session.step(image, request, steps) {
         Ok(()) => Ok(()),
-        Err(StepRefusal::Condition(condition)) => {
-            Err(refusal(alloc, 1, condition, image.names()))
-        }
+        Err(StepRefusal::Condition(condition)) => { Err(unmet(alloc, 1, condition, image.names())) }
         Err(StepRefusal::Memory) => Err(BookRefusal::Memory),
     }
 }
@@ -147,7 +159,10 @@ impl Book for SessionBook {
         match self.session.step_all(&mut self.image, commands, steps) {
             Ok(()) => Ok(()),
             Err(GroupRefusal::Condition { nth, condition }) => {
-                Err(refusal(self.alloc, nth, condition, self.image.names()))
+                Err(unmet(self.alloc, nth, condition, self.image.names()))
+            }
+            Err(GroupRefusal::NotDerived { nth, certificate }) => {
+                Err(underived(self.alloc, nth, certificate))
             }
             Err(GroupRefusal::Memory) => Err(BookRefusal::Memory),
         }

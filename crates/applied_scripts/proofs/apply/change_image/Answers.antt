@@ -10,9 +10,9 @@ pub returns-in-Ok-clause-changed : goal.returns-in-Ok-clause-changed
 returns-in-Ok-clause-changed c =
     IfOk-weaker c.perform_counted-changed.result _ _
     (λ changed answered.
-    subst (λ (i : ImageOf (List ℕ)). IsChanged i c.args.script.now (image_of c.perform_counted-changed.new.image) c.perform_counted-changed.new.out changed) c.requests_of.ensures.image
+    subst (λ (i : ImageOf (List ℕ)). IsChanged i c.args.script.now (image_of c.perform_counted-changed.new.image) c.perform_counted-changed.new.out changed) c.script_lines.ensures.image
     (answered c.args.script.now c.in-Ok.ensures.said)) c.perform_counted-changed.ensures.changed
 
 pub returns-in_ok-push_script_line-in-Err-clause-changed : goal.returns-in_ok-push_script_line-in-Err-clause-changed
 returns-in_ok-push_script_line-in-Err-clause-changed c =
-    wrong (image_of c.args.image.now) (image_of c.requests_of.new.image) c.args.script.now c.push_script_line.new.out c.in-Err.fault c.in-Err.ensures.fault (rw c.requires.empty at c.in_ok-push_script_line-in-Err.ensures)
+    wrong (image_of c.args.image.now) (image_of c.script_lines.new.image) c.args.script.now c.push_script_line.new.out c.in-Err.fault c.in-Err.ensures.fault (rw c.requires.empty at c.in_ok-push_script_line-in-Err.ensures)

@@ -1,6 +1,7 @@
 use Rattle.token_model.specs.declared.kind.Dialect.TheVariants.{Second}
 use Rattle.st_kernel.specs.KernelText.{prelude_text}
-use Rattle.changed_scripts.proofs.ToldApart.{valid_apart, stays_apart}
+use Rattle.change_file.proofs.ToldApart.{valid_apart}
+use Rattle.changed_scripts.proofs.ToldApart.{stays_apart}
 use Rattle.changed_scripts.proofs.laws.law_of_one_text.Goals as goal
 
 pub returns-clause-same : goal.returns-clause-same

@@ -1,4 +1,4 @@
-use Rattle.std.proofs.Common.{◌≡◌, List, ℕ, true, false, Ok, Err, refl, sym, ◌∙◌}
+use Rattle.std.proofs.Common.{Ok, Err, refl, sym, ◌∙◌}
 use Rattle.script_model.specs.Additions.{first_word, behind_word}
 use Rattle.script_model.specs.Commands.{UnknownCommand, BadArgument}
 use Rattle.log_model.specs.Events.{ActSays, Alone, NoAct}

@@ -1,11 +1,9 @@
-use Rattle.std.proofs.Common.{List, ℕ, length, ap, subst, sym, ◌∙◌, arith}
+use Rattle.std.proofs.Common.{List, ℕ, length, ap, subst, sym, arith}
 use Rattle.class_table.specs.View.{image_of}
-use Rattle.history_model.specs.History.{opened}
 use Rattle.session_model.specs.Scripts.{History}
-use Rattle.file_model.specs.Written.{file_of}
 use Rattle.log_lang.specs.Shown.{AreKnownEvents}
 use Rattle.team_core.specs.Events.{point_of}
-use Rattle.session_book.specs.Shared.{Shared, book_of, shared_history}
+use Rattle.session_book.specs.Shared.{book_of, shared_history}
 use Rattle.played_logs.proofs.Playing.{Point}
 use Rattle.played_logs.proofs.Answering.{answer-played}
 use Rattle.played_logs.proofs.play.play_counted.Goals as goal

@@ -1,4 +1,4 @@
-use Rattle.std.proofs.Common.{◌≡◌, ◌∷◌, List, length, refl, rules, arith}
+use Rattle.std.proofs.Common.{◌≡◌, ◌∷◌, length, refl, rules, arith}
 use Rattle.std.proofs.lemmas.Result.{err_from_is_err_and}
 use Rattle.std.specs.Vec.Iter.{into_iter_items}
 use Rattle.team_core.specs.Events.{point_of}

@@ -1,7 +1,6 @@
-use Rattle.std.proofs.Common.{◌≡◌, List, ℕ, ap, subst, sym, ◌∙◌}
-use Rattle.class_table.specs.Slots.{Slots}
+use Rattle.std.proofs.Common.{ap, sym}
 use Rattle.class_table.specs.View.{image_of}
-use Rattle.session_book.specs.Shared.{Shared, book_of, shared_history}
+use Rattle.session_book.specs.Shared.{book_of, shared_history}
 use Rattle.session_model.specs.Scripts.{History}
 use Rattle.played_logs.proofs.Answering.{is-opening}
 use Rattle.played_logs.proofs.play.team_of.Goals as goal

@@ -1,4 +1,4 @@
-use Rattle.std.proofs.Common.{Option, option_map, None, sym, ap, ◌∙◌}
+use Rattle.std.proofs.Common.{Option, option_map, sym, ap, ◌∙◌}
 use Rattle.std.proofs.lemmas.Result.{err_from_is_err_and}
 use Rattle.rb_base.specs.Names.{name_at}
 use Rattle.command_numbers.specs.MappedCommands.{map_condition}

@@ -9,9 +9,9 @@ use Rattle.command_model.specs.Commands.{CommandOf}
 use Rattle.session_model.specs.Steps.{steps_of}
 use Rattle.commands.specs.Actions.{map_action}
 use Rattle.commands.specs.Views.{action_of}
+use Rattle.wider_slots.proofs.StepLemmas.{wider-same}
 use Rattle.session.specs.Stepping.{IsCarriedOut}
 use Rattle.session.proofs.Each.{text_in, IsKnownIn}
-use Rattle.session.proofs.Room.{room-same}
 use Rattle.session.proofs.UnderWay.{carried-wanting}
 use Rattle.session.proofs.performing.perform_steps.Goals as goal
 
@@ -23,7 +23,7 @@ returns-in_err-commands g c =
     let s = c.args.image.now in
     let p = err_from_is_err_and c.from_residual.result c.from_residual.ensures.1 in
     rw (p.1, p.2) (
-    carried-wanting s s c.args.index.now c.args.index.now c.args.done.now c.args.done.now (steps_of text_eq (image_of s) canonical (map_action (name_at s.names) (action_of c.args.action))) (room-same s c.requires.under_way.1.closed) refl refl)
+    carried-wanting s s c.args.index.now c.args.index.now c.args.done.now c.args.done.now (steps_of text_eq (image_of s) canonical (map_action (name_at s.names) (action_of c.args.action))) (wider-same s c.requires.under_way.1.closed) refl refl refl)
 
 pub returns : goal.returns
 returns g c =

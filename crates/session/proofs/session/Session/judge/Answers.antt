@@ -1,8 +1,7 @@
 use Rattle.std.proofs.Common.{Option, option_map, sym, ap, subst, ◌∙◌}
 use Rattle.rb_base.specs.Names.{name_at}
 use Rattle.command_numbers.specs.MappedCommands.{map_condition}
-use Rattle.commands.specs.Actions.{map_action}
-use Rattle.commands.specs.Views.{action_of, condition_of}
+use Rattle.commands.specs.Views.{condition_of}
 use Rattle.commands.specs.declared.condition.Condition.{Condition}
 use Rattle.reference_index.specs.Mentioned.{IsIndexOf}
 use Rattle.session.specs.Log.{Log}

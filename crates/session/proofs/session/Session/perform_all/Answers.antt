@@ -10,7 +10,7 @@ pub perform_each-requires-clause-under_way : goal.perform_each-requires-clause-u
 perform_each-requires-clause-under_way g c =
     let s = c.args.image.now in
     let v = c.self.inside in
-    (s, begins-there s s v.index v.index v.stale.items v.entries.items v.done c.new-entry.result c.new-entry.result [] c.args.self.now c.self.view_is c.requires.log c.requires.renewed c.new-entry.ensures)
+    (s, begins-there s v.index v.stale.items v.entries.items v.done c.new-entry.result c.args.self.now c.self.view_is c.requires.log c.requires.renewed c.new-entry.ensures)
 
 pub undo-requires : goal.undo-requires
 undo-requires g c =
