@@ -9,3 +9,5 @@ pub mod Chosen
 pub mod Walks
 pub mod MethodTexts
 pub mod Signed
+pub mod Picked
+pub mod ToldApart

@@ -15,9 +15,12 @@ use Rattle.change_file.specs.declared.methods.SignedMethod.{SignedMethod}
 use Rattle.change_file.specs.Shown.{Shown, shown, shown_method, shown_user, shown_at, key_text, key_shown, is_counterpart_shown, is_equal_shown}
 use Rattle.change_file.proofs.KeyWalks.{drop_item, drop_end, moved}
 
--- what is shown of the methods of the user in the slots of an order
+-- the methods of the user in the slots of an order, and what is shown of them
+abbrev pub user_entries : Slots → List ℕ → List (EntryOf Text)
+user_entries s order = filter (λ (m : EntryOf Text). not m.kernel) (map (map_entry (name_at s.names)) (map (entry_of s.classes) (live s.methods order)))
+
 abbrev pub shown_users : Slots → List ℕ → List Shown
-shown_users s order = map shown (filter (λ (m : EntryOf Text). not m.kernel) (map (map_entry (name_at s.names)) (map (entry_of s.classes) (live s.methods order))))
+shown_users s order = map shown (user_entries s order)
 
 module _ (s : Slots) (k : ℕ) (ks : List ℕ) where
   shown_first : (o : Option Shown) → shown_at s k ≡ o → shown_users s (k ∷ ks) ≡ cons_option o (shown_users s ks)

@@ -26,7 +26,7 @@ fn replacement_source(alloc: Global, number: usize, source: &[u8]) -> Result<Tex
 }
 
 /// Whether the do-it of a number, from 0, has this source.
-fn has_source(image: &Image, number: usize, source: &[u8]) -> bool
+pub(crate) fn has_source(image: &Image, number: usize, source: &[u8]) -> bool
     ensures { result ≡ has_text (source_at image.now.doits number) source.now }
 {
     match image.doit_source(number) {

@@ -1,6 +1,6 @@
 // Keys that two lists have in common, and how these pair up in order.
 
-ghost use Rattle.std.specs.Prelude.{◌≡◌, slice_get, IfOk};
+ghost use Rattle.std.specs.Prelude.{◌≡◌, not, slice_get, IfOk};
 ghost use Rattle.change_file.specs.Partners.{is_listed, places_from, partners, partner_at};
 
 use rb_base::{Memory, NameId, Names};
@@ -13,6 +13,19 @@ fn shared_places(alloc: Global, keys: &Names, others: &Names) -> Result<Vec<usiz
     let mut places = Vec::new(alloc);
     for number in 0..keys.len() {
         if others.find(keys.text_of(NameId(number))).is_some() {
+            places.push(number)?;
+        }
+    }
+    Ok(places)
+}
+
+/// The places of the keys that the others have not.
+pub(crate) fn lone_places(alloc: Global, keys: &Names, others: &Names) -> Result<Vec<usize>, Memory>
+    ensures { IfOk result (λ places. places.items ≡ places_from 0 (λ key. not (is_listed others.now key)) keys.now) }
+{
+    let mut places = Vec::new(alloc);
+    for number in 0..keys.len() {
+        if others.find(keys.text_of(NameId(number))).is_none() {
             places.push(number)?;
         }
     }

@@ -5,6 +5,7 @@
 mod changes;
 mod class_edits;
 mod classes;
+mod differences;
 mod doit_edits;
 mod keys;
 mod method_edits;
@@ -12,3 +13,4 @@ mod methods;
 mod pieces;
 
 pub use changes::write_changes;
+pub use differences::{Differences, Member, differs};
