@@ -1,5 +1,5 @@
 // The texts of whole runs.
-ghost use Rattle.std.specs.Prelude.{◌≡◌, ◌++◌, ◌∷◌, [], codes, flat_map, reverse, OnOk};
+ghost use Rattle.std.specs.Prelude.{◌≡◌, ◌++◌, ◌∷◌, [], codes, flat_map, reverse, OnOk, OnErr};
 ghost use Rattle.run_model.specs.Views.{event_text, outcome_text, line_end, run_text};
 
 use crate::atoms::{write_numbered, write_view};
@@ -65,7 +65,7 @@ fn line_end(text: &[u8]) -> &'static [u8]
 ///
 /// # Errors
 ///
-/// `Memory` where there is no memory for the text; `out` may then have a part of it.
+/// `Memory` where there is no memory for the text; `out` is then as it was.
 pub fn write_run(
     alloc: Global,
     events: &[Event],
@@ -73,12 +73,14 @@ pub fn write_run(
     budget: u32,
     out: &mut Text,
 ) -> Result<(), Memory>
-    ensures { OnOk result (out.new ≡ out.old ++ run_text budget events.now outcome.now) }
+    ensures written { OnOk result (out.new ≡ out.old ++ run_text budget events.now outcome.now) }
+    ensures kept { OnErr result (out.new ≡ out.old) }
 {
-    let mut told = Text::new(alloc);
-    write_events(alloc, events, &mut told)?;
-    out.push_slice(told.as_slice())?;
-    out.push_slice(line_end(told.as_slice()))?;
-    write_outcome(alloc, outcome, budget, out)?;
-    out.push_slice(b"\n")
+    let mut text = Text::new(alloc);
+    write_events(alloc, events, &mut text)?;
+    let end = line_end(text.as_slice());
+    text.push_slice(end)?;
+    write_outcome(alloc, outcome, budget, &mut text)?;
+    text.push_slice(b"\n")?;
+    out.push_slice(text.as_slice())
 }

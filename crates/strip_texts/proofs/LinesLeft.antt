@@ -1,5 +1,5 @@
 -- The lines of live slots are those of the classes and the methods of users.
-use Rattle.std.proofs.Common.{◌≡◌, ℕ, ◌&&◌, Bool, true, false, cond, not, List, [], ◌∷◌, ◌++◌, map, filter, Option, None, Some, Result, Ok, Err, slice_get, append_assoc, refl, sym, ap, ◌∙◌}
+use Rattle.std.proofs.Common.{◌≡◌, ℕ, ◌&&◌, Bool, true, false, cond, not, List, [], ◌∷◌, ◌++◌, map, filter, Option, None, Some, Result, Ok, Err, slice_get, refl, sym, ap, ◌∙◌}
 use Rattle.std.specs.Prelude.{flat_map, if◌then◌else◌, OnOk}
 use Rattle.std.specs.List.{cons_option}
 use Rattle.std.specs.Option.{option_map_or}
@@ -65,13 +65,10 @@ module _ (s : Slots) (r : ReachOf (List ℕ)) (i : ImageOf (List ℕ)) (left : i
   pub lines-left : flat_map (class_line_at s) s.class_order ++ flat_map (method_line_at s) s.method_order ≡ certificate r i
   lines-left = λ j. class-lines j ++ method-lines j
 
--- both lists of lines behind a text, where there is room for them
-pub lines-told : (s : Slots) (out middle new : List ℕ) {E : Type 0} {T : Type 0} (result : Result T E) → middle ≡ out ++ flat_map (class_line_at s) s.class_order
-    → OnOk result (new ≡ middle ++ flat_map (method_line_at s) s.method_order)
+-- a text and both lists of lines, where there is room for them
+pub lines-told : (s : Slots) (out classes lines new : List ℕ) {E : Type 0} {T : Type 0} (result : Result T E) → classes ≡ flat_map (class_line_at s) s.class_order
+    → lines ≡ classes ++ flat_map (method_line_at s) s.method_order → OnOk result (new ≡ out ++ lines)
     → OnOk result ((r : ReachOf (List ℕ)) (i : ImageOf (List ℕ)) → image_of s ≡ strip text_eq r i → new ≡ out ++ certificate r i)
-lines-told s out middle new (Err e) first second = tt
-lines-told s out middle new (Ok u) first second = λ r i left.
-    second
-    ∙ ap (λ t. t ++ flat_map (method_line_at s) s.method_order) first
-    ∙ append_assoc out (flat_map (class_line_at s) s.class_order) (flat_map (method_line_at s) s.method_order)
-    ∙ ap (λ t. out ++ t) (lines-left s r i left)
+lines-told s out classes lines new (Err e) first second third = tt
+lines-told s out classes lines new (Ok u) first second third = λ r i left.
+    third ∙ ap (λ t. out ++ t) (second ∙ ap (λ t. t ++ flat_map (method_line_at s) s.method_order) first ∙ lines-left s r i left)

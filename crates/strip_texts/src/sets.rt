@@ -1,5 +1,5 @@
 // What is left of an image, line by line.
-ghost use Rattle.std.specs.Prelude.{◌≡◌, ◌++◌, ℕ, List, flat_map, OnOk};
+ghost use Rattle.std.specs.Prelude.{◌≡◌, ◌++◌, ℕ, List, flat_map, OnOk, OnErr};
 ghost use Rattle.rb_base.specs.Names.{text_eq};
 ghost use Rattle.image_model.specs.Image.{ImageOf};
 ghost use Rattle.strip_model.specs.Reach.{ReachOf};
@@ -72,11 +72,14 @@ fn push_methods(alloc: Global, image: &Image, out: &mut Text) -> Result<(), Memo
 }
 
 /// Appends a line for each class and then for each method of a user, in the order of the image. Of an image from which all was
-/// taken out that is not reached these are the lines that tell what is.
+/// taken out that is not reached these are the lines that tell what is. If memory is wanting, nothing is appended.
 pub fn write_sets(alloc: Global, image: &Image, out: &mut Text) -> Result<(), Memory>
     requires { IsOrderly image.now }
-    ensures { OnOk result ((r : ReachOf (List ℕ)) (i : ImageOf (List ℕ)) → image_of image.now ≡ strip text_eq r i → out.new ≡ out.old ++ certificate r i) }
+    ensures written { OnOk result ((r : ReachOf (List ℕ)) (i : ImageOf (List ℕ)) → image_of image.now ≡ strip text_eq r i → out.new ≡ out.old ++ certificate r i) }
+    ensures kept { OnErr result (out.new ≡ out.old) }
 {
-    push_classes(image, out)?;
-    push_methods(alloc, image, out)
+    let mut lines = Text::new(alloc);
+    push_classes(image, &mut lines)?;
+    push_methods(alloc, image, &mut lines)?;
+    out.push_slice(lines.as_slice())
 }
