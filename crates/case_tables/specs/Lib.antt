@@ -1,0 +1,2 @@
+pub mod CaseTexts
+pub mod TableFaults

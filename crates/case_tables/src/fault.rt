@@ -1,4 +1,7 @@
 // What is wrong in a table.
+ghost use Rattle.std.specs.Prelude.{◌≡◌};
+ghost use Rattle.case_tables.specs.declared.fault.TableFault.TheVariants as fault;
+
 use rb_base::Memory;
 use std::alloc::{AllocError, AllocFailed};
 use thiserror::Error;
@@ -39,18 +42,24 @@ pub enum TableFault {
 }
 
 impl From<Memory> for TableFault {
+    ghost from_gives = { λ _ e. e ≡ fault.Memory };
+
     fn from(_error: Memory) -> TableFault {
         TableFault::Memory
     }
 }
 
 impl From<AllocError> for TableFault {
+    ghost from_gives = { λ _ e. e ≡ fault.Memory };
+
     fn from(_error: AllocError) -> TableFault {
         TableFault::Memory
     }
 }
 
 impl<T: Drop> From<AllocFailed<T>> for TableFault {
+    ghost from_gives = { λ _ e. e ≡ fault.Memory };
+
     fn from(_error: AllocFailed<T>) -> TableFault {
         TableFault::Memory
     }

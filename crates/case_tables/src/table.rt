@@ -1,5 +1,8 @@
 // A table as it is read, from its first byte to its last.
-ghost use Rattle.std.specs.Prelude.{◌≡◌, ◌≤◌, ◌<◌, ◌++◌, ◌∷◌, [], ℕ, length, decimal, IfOk, OnOk, IsTrue};
+ghost use Rattle.std.specs.Prelude.{◌≡◌, ◌-◌, ◌+◌, ◌==◌, ◌≤◌, ◌<◌, ◌++◌, ◌∷◌, [], ℕ, length, take, count_by, decimal, position, not, IfOk, IfErr, OnOk, OnErr, IsTrue};
+ghost use Rattle.std.specs.Char.{is_ascii_digit};
+ghost use Rattle.case_tables.specs.CaseTexts.{ReadsPieces, ReadsPiece, bytes_text, repeated, counted, with_number, IsLine};
+ghost use Rattle.case_tables.specs.TableFaults.{Lacks, LacksPiece, IsWrongAt};
 
 use crate::fault::{Fault, TableFault};
 use itoa::Buffer;
@@ -20,19 +23,21 @@ pub struct Table<'t> {
 impl<'t> Table<'t> {
     /// A table of which nothing is read.
     pub fn new(whole: &'t [u8]) -> Table<'t>
-        ensures { result.rest.now ≡ whole.now }
+        ensures whole { result.whole.now ≡ whole.now }
+        ensures rest { result.rest.now ≡ whole.now }
     {
         Table { whole, rest: whole }
     }
 
     /// This fault at the line of what is to be read next.
     pub fn fault(&self, cause: TableFault) -> Fault
-        ensures { result.cause ≡ cause }
+        ensures cause { result.cause ≡ cause }
+        ensures line { result.line ≡ count_by (λ byte. byte == 10) (take (length self.now.whole.now - length self.now.rest.now) self.now.whole.now) + 1 }
     {
-        let read = self.whole.len().saturating_sub(self.rest.len());
-        let lines = self.whole.iter().take(read).filter(|byte| **byte == b'\n');
+        let read = &self.whole[..self.whole.len().saturating_sub(self.rest.len())];
+        let lines = read.iter().filter(|byte| **byte == b'\n').count();
         Fault {
-            line: lines.count().saturating_add(1),
+            line: lines.saturating_add(1),
             cause,
         }
     }
@@ -41,6 +46,7 @@ impl<'t> Table<'t> {
     pub fn skip(&mut self, text: &str) -> bool
         ensures read { IsTrue result → self.old.rest.now ≡ text.now ++ self.new.rest.now }
         ensures unread { ¬ IsTrue result → self.new.rest.now ≡ self.old.rest.now }
+        ensures lacks { ¬ IsTrue result → Lacks text.now self.new.rest.now }
     {
         match self.rest.strip_prefix(text.as_bytes()) {
             Some(rest) => {
@@ -54,6 +60,7 @@ impl<'t> Table<'t> {
     /// Reads this text, or answers the fault where another one stands next.
     pub fn want(&mut self, text: &str, fault: TableFault) -> Result<(), TableFault>
         ensures ok { OnOk result (self.old.rest.now ≡ text.now ++ self.new.rest.now) }
+        ensures err { IfErr result (λ cause. (cause ≡ fault) × (self.new.rest.now ≡ self.old.rest.now) × Lacks text.now self.new.rest.now) }
         ensures shorter { length self.new.rest.now ≤ length self.old.rest.now }
     {
         if self.skip(text) { Ok(()) } else { Err(fault) }
@@ -62,14 +69,15 @@ impl<'t> Table<'t> {
     /// Reads a number, which stands as it is printed.
     pub fn number(&mut self) -> Result<u32, TableFault>
         ensures ok { IfOk result (λ number. self.old.rest.now ≡ decimal number ++ self.new.rest.now) }
+        ensures wrong { IfErr result (λ fault. IsWrongAt fault self.new.rest.now) }
         ensures shorter { length self.new.rest.now ≤ length self.old.rest.now }
     {
-        let end = self.rest.iter().position(|byte| !byte.is_ascii_digit());
-        let digits = &self.rest[..end.unwrap_or(self.rest.len())];
-        let Some(number) = str::from_utf8(digits)
-            .ok()
-            .and_then(|digits| digits.parse::<u32>().ok())
-        else {
+        let end = digits_end(self.rest).unwrap_or(self.rest.len());
+        let digits = &self.rest[..end];
+        let Ok(digits) = str::from_utf8(digits) else {
+            return Err(TableFault::Number);
+        };
+        let Ok(number) = digits.parse::<u32>() else {
             return Err(TableFault::Number);
         };
         self.want(Buffer::new().format(number), TableFault::Number)?;
@@ -79,6 +87,7 @@ impl<'t> Table<'t> {
     /// Reads a number and the end of its line.
     pub fn last_number(&mut self) -> Result<u32, TableFault>
         ensures ok { IfOk result (λ number. self.old.rest.now ≡ decimal number ++ 10 ∷ self.new.rest.now) }
+        ensures wrong { IfErr result (λ fault. IsWrongAt fault self.new.rest.now) }
         ensures shorter { length self.new.rest.now ≤ length self.old.rest.now }
     {
         let number = self.number()?;
@@ -89,6 +98,7 @@ impl<'t> Table<'t> {
     /// Reads a number and the blank behind it.
     pub fn first_number(&mut self) -> Result<u32, TableFault>
         ensures ok { IfOk result (λ number. self.old.rest.now ≡ decimal number ++ 32 ∷ self.new.rest.now) }
+        ensures wrong { IfErr result (λ fault. IsWrongAt fault self.new.rest.now) }
         ensures shorter { length self.new.rest.now ≤ length self.old.rest.now }
     {
         let number = self.number()?;
@@ -99,11 +109,15 @@ impl<'t> Table<'t> {
     /// Reads the rest of a line.
     pub fn line(&mut self) -> Result<&'t str, TableFault>
         ensures ok { IfOk result (λ text. self.old.rest.now ≡ text.now ++ 10 ∷ self.new.rest.now) }
+        ensures line { IfOk result (λ text. IsLine text.now) }
+        ensures wrong { IfErr result (λ fault. IsWrongAt fault self.new.rest.now) }
         ensures shorter { length self.new.rest.now ≤ length self.old.rest.now }
     {
-        let end = self.rest.iter().position(|byte| *byte == b'\n');
-        let (line, rest) = self.rest.split_at(end.unwrap_or(self.rest.len()));
-        let text = str::from_utf8(line).map_err(|_| TableFault::Utf8)?;
+        let end = line_end(self.rest).unwrap_or(self.rest.len());
+        let (line, rest) = self.rest.split_at(end);
+        let Ok(text) = str::from_utf8(line) else {
+            return Err(TableFault::Utf8);
+        };
         self.rest = rest;
         self.want("\n", TableFault::LineFeed)?;
         Ok(text)
@@ -111,7 +125,8 @@ impl<'t> Table<'t> {
 
     /// Reads the length of bytes, the end of its line, the bytes and the line feed behind them.
     pub fn bytes(&mut self) -> Result<&'t [u8], TableFault>
-        ensures ok { IfOk result (λ bytes. self.old.rest.now ≡ decimal (length bytes.now) ++ 10 ∷ (bytes.now ++ 10 ∷ self.new.rest.now)) }
+        ensures ok { IfOk result (λ bytes. self.old.rest.now ≡ bytes_text bytes.now ++ self.new.rest.now) }
+        ensures wrong { IfErr result (λ fault. IsWrongAt fault self.new.rest.now) }
         ensures shorter { length self.new.rest.now ≤ length self.old.rest.now }
     {
         let length = self.last_number()?;
@@ -125,7 +140,8 @@ impl<'t> Table<'t> {
 
     /// Reads bytes that are UTF-8. Where they are not, they are still to be read.
     pub fn text(&mut self) -> Result<&'t str, TableFault>
-        ensures ok { IfOk result (λ text. self.old.rest.now ≡ decimal (length text.now) ++ 10 ∷ (text.now ++ 10 ∷ self.new.rest.now)) }
+        ensures ok { IfOk result (λ text. self.old.rest.now ≡ bytes_text text.now ++ self.new.rest.now) }
+        ensures wrong { IfErr result (λ fault. IsWrongAt fault self.new.rest.now) }
         ensures shorter { length self.new.rest.now ≤ length self.old.rest.now }
     {
         let start = self.rest;
@@ -139,8 +155,11 @@ impl<'t> Table<'t> {
         }
     }
 
-    /// Appends the bytes of the pieces that stand next.
+    /// Appends the bytes of the pieces that stand next, up to where no piece begins.
     pub fn pieces(&mut self, into: &mut Vec<u8>) -> Result<(), TableFault>
+        ensures ok { OnOk result (ReadsPieces self.old.rest.now self.new.rest.now into.old.items into.new.items) }
+        ensures end { OnOk result (LacksPiece self.new.rest.now) }
+        ensures wrong { IfErr result (λ fault. IsWrongAt fault self.new.rest.now) }
         ensures shorter { length self.new.rest.now ≤ length self.old.rest.now }
     {
         while self.piece(into)? {}
@@ -150,7 +169,10 @@ impl<'t> Table<'t> {
     /// Appends the bytes of the piece that stands next, and tells whether there was one.
     fn piece(&mut self, into: &mut Vec<u8>) -> Result<bool, TableFault>
         ensures shorter { length self.new.rest.now ≤ length self.old.rest.now }
-        ensures read { IfOk result (λ read. IsTrue read → length self.new.rest.now < length self.old.rest.now) }
+        ensures less { IfOk result (λ read. IsTrue read → length self.new.rest.now < length self.old.rest.now) }
+        ensures read { IfOk result (λ read. IsTrue read → ReadsPiece self.old.rest.now self.new.rest.now into.old.items into.new.items) }
+        ensures unread { IfOk result (λ read. ¬ IsTrue read → (self.new.rest.now ≡ self.old.rest.now) × (into.new.items ≡ into.old.items) × LacksPiece self.new.rest.now) }
+        ensures wrong { IfErr result (λ fault. IsWrongAt fault self.new.rest.now) }
     {
         if self.skip("text ") {
             into.extend_from_slice(self.bytes()?)?;
@@ -168,8 +190,24 @@ impl<'t> Table<'t> {
     }
 }
 
+/// The place of the first byte that is no digit.
+fn digits_end(bytes: &[u8]) -> Option<usize>
+    ensures { result ≡ position (λ byte. not (is_ascii_digit byte)) bytes.now }
+{
+    bytes.iter().position(|byte| !byte.is_ascii_digit())
+}
+
+/// The place of the first line feed.
+fn line_end(bytes: &[u8]) -> Option<usize>
+    ensures { result ≡ position (λ byte. byte == 10) bytes.now }
+{
+    bytes.iter().position(|byte| *byte == b'\n')
+}
+
 /// Appends the bytes so many times.
-fn push_times(into: &mut Vec<u8>, times: u32, bytes: &[u8]) -> Result<(), AllocError> {
+fn push_times(into: &mut Vec<u8>, times: u32, bytes: &[u8]) -> Result<(), AllocError>
+    ensures { OnOk result (into.new.items ≡ into.old.items ++ repeated times bytes.now) }
+{
     for _ in 0..times {
         into.extend_from_slice(bytes)?;
     }
@@ -177,16 +215,26 @@ fn push_times(into: &mut Vec<u8>, times: u32, bytes: &[u8]) -> Result<(), AllocE
 }
 
 /// Appends the bytes for each number from `from` to before `before`.
-fn push_count(into: &mut Vec<u8>, from: u32, before: u32, bytes: &[u8]) -> Result<(), AllocError> {
+fn push_count(into: &mut Vec<u8>, from: u32, before: u32, bytes: &[u8]) -> Result<(), AllocError>
+    ensures { OnOk result (into.new.items ≡ into.old.items ++ counted from (before - from) bytes.now) }
+{
     for number in from..before {
-        let mut buffer = Buffer::new();
-        let digits = buffer.format(number).as_bytes();
-        for byte in bytes {
-            if *byte == PLACE {
-                into.extend_from_slice(digits)?;
-            } else {
-                into.push(*byte)?;
-            }
+        push_numbered(into, number, bytes)?;
+    }
+    Ok(())
+}
+
+/// Appends the bytes with the digits of the number in the place of each `@`.
+fn push_numbered(into: &mut Vec<u8>, number: u32, bytes: &[u8]) -> Result<(), AllocError>
+    ensures { OnOk result (into.new.items ≡ into.old.items ++ with_number number bytes.now) }
+{
+    let mut buffer = Buffer::new();
+    let digits = buffer.format(number).as_bytes();
+    for byte in bytes {
+        if *byte == PLACE {
+            into.extend_from_slice(digits)?;
+        } else {
+            into.push(*byte)?;
         }
     }
     Ok(())
