@@ -1,5 +1,5 @@
 -- Where the outside tells of the files and no read fails, words have at most one answer.
-use Rattle.std.proofs.Common.{◌≡◌, ℕ, Bool, List, Result, Ok, ◌<◌, length, inl, inr, refl, ap, sym, subst, ◌∙◌, arith}
+use Rattle.std.proofs.Common.{◌≡◌, ℕ, Bool, List, Result, Ok, Err, ◌<◌, length, inl, inr, refl, ap, sym, subst, ◌∙◌, arith}
 use Rattle.std.specs.Prelude.{codes}
 use Rattle.rb_base.specs.Outside.{Told, Untold, NoFile, File, IsNoFile, OnFile, MayGive, Rose}
 use Rattle.token_model.specs.declared.kind.Dialect.TheVariants.{Second}
@@ -9,7 +9,7 @@ use Rattle.file_model.specs.Written.{file_of}
 use Rattle.file_model.proofs.OneImage.{one_image, one_refusal, no_image_where_refused}
 use Rattle.canonical_image.specs.Formatted.{formatted}
 use Rattle.image_forms.specs.declared.status.Status.{Status}
-use Rattle.command_words.specs.Forms.{Form, Apply, Changes, Team, Format, Run, Find, Strip, Search, Rewrite, Demo, Help, Version, NoForm, files_of, form_of}
+use Rattle.command_words.specs.Forms.{Form, Apply, Changes, Team, Import, Format, Run, Find, Strip, Search, Rewrite, Demo, Help, Version, NoForm, files_of, form_of}
 use Rattle.image_forms.specs.Loads.{World, Loads, Given, Refused, Refuses, MayFail, IsTold, IsHonest}
 use Rattle.grammar_model.specs.Whole.{DoIt}
 use Rattle.grammar_model.proofs.Texts.{no_fault_DoIt, one_SpellsDoIt, one_HasFirstFault}
@@ -27,18 +27,19 @@ use Rattle.pattern_model.specs.Rewritten.{RuleOf}
 use Rattle.rewrite_model.specs.Saying.{Cause, SaysPattern, SaysReplacement, SaysRule, IsRefusedPattern, IsRefusedReplacement}
 use Rattle.rewrite_model.specs.Searched.{matches}
 use Rattle.rewrite_model.specs.Rewritten.{rewritten_image}
-use Rattle.session_model.specs.Scripts.{Request, History, Refusal as Stop, verdict_in}
+use Rattle.ruled_model.specs.RuledScripts.{Line, History, Refusal as Stop, ruled_verdict}
 use Rattle.script_model.specs.Scripts.{Says}
 use Rattle.image_maker.specs.Generated.{image_text, expression_text, script_text}
 use Rattle.query_model.proofs.OneAnswer.{one_answer}
 use Rattle.file_model.specs.Causes.{Refusal}
+use Rattle.import_model.specs.Imported.{IsImported}
 use Rattle.apply_model.specs.declared.status.Status as applied
 use Rattle.apply_model.specs.declared.status.Status.TheVariants as verdict
 use Rattle.apply_model.specs.Applied as model
 use Rattle.play_model.specs.Played as play
 use Rattle.changes_model.specs.Changes as change
-use Rattle.image_forms.specs.ImageLines.{image_refusal, expression_refusal, text_refusal}
-use Rattle.image_forms.specs.Answers.{status_applied, Applies, PlaysLog, WritesChanges, Formats, Formatted, Refused as Stopped, status_of, RunsIn, NoDoIt, Ran, Runs, NoImage, InImage, Finds, NoImageThere, Found, stripped_text, StripsIn, NoStart, Stripped, Strips, NoImageToStrip, StripsImage, OfImage, Unread, Read, SearchesIn, NoPattern, Matched, RewritesIn, NoRule, NoReplacement, Rewritten, summary, ChangesIn, Unchanged, Changed, DemosIn, NoExpression, Shown, AnswersForm, Answers, image_limit, script_limit}
+use Rattle.image_forms.specs.ImageLines.{image_refusal, import_refusal, expression_refusal, text_refusal}
+use Rattle.image_forms.specs.Answers.{status_applied, Applies, PlaysLog, WritesChanges, Imports, NotImported, Imported, Formats, Formatted, Refused as Stopped, status_of, RunsIn, NoDoIt, Ran, Runs, NoImage, InImage, Finds, NoImageThere, Found, stripped_text, StripsIn, NoStart, Stripped, Strips, NoImageToStrip, StripsImage, OfImage, Unread, Read, SearchesIn, NoPattern, Matched, RewritesIn, NoRule, NoReplacement, Rewritten, summary, ChangesIn, Unchanged, Changed, DemosIn, NoExpression, Shown, AnswersForm, Answers, image_limit, script_limit}
 
 -- both answers are one
 abbrev pub SameAnswer : Status → Status → List ℕ → List ℕ → Type 0
@@ -156,13 +157,14 @@ of_image_one text s t x y P Q step (Unread r wrong is line) (Read i read p) = ab
 of_image_one text s t x y P Q step (Read i read p) (Unread r wrong is line) = absurd (no_image_where_refused Second prelude_text text i r read wrong)
 of_image_one text s t x y P Q step (Read i read p) (Read j read' q) = step j (subst P (one_image Second prelude_text text i j read read') p) q
 
--- what is known of scripts, of patterns and rules, and of lines
+-- what is known of scripts, of logs, of file-outs that are imported, of patterns and rules, and of lines
 pub record OnceLaws : Type 0 where
   pub applies : (image_line : Refusal → List ℕ) (text script : List ℕ) (v u : applied.Status) (x y : List ℕ) → model.Applies image_line text script v x → model.Applies image_line text script u y → (v ≡ u) × (x ≡ y)
   pub applies_in : (i : ImageOf (List ℕ)) (script : List ℕ) (v u : applied.Status) (x y : List ℕ) → model.AppliesIn i script v x → model.AppliesIn i script u y → (v ≡ u) × (x ≡ y)
   pub changes_in : (i : ImageOf (List ℕ)) (script : List ℕ) (v u : applied.Status) (x y : List ℕ) → change.ChangesIn i script v x → change.ChangesIn i script u y → (v ≡ u) × (x ≡ y)
   pub plays : (image_line : Refusal → List ℕ) (text log : List ℕ) (v u : applied.Status) (x y : List ℕ) → play.Plays image_line text log v x → play.Plays image_line text log u y → (v ≡ u) × (x ≡ y)
-  pub requests : (text : List ℕ) (rs qs : List Request) → Says text rs → Says text qs → rs ≡ qs
+  pub imported : (text : List ℕ) (a b : Result (List ℕ) Refusal) → IsImported text a → IsImported text b → a ≡ b
+  pub requests : (text : List ℕ) (rs qs : List Line) → Says text rs → Says text qs → rs ≡ qs
   pub pattern : (text : List ℕ) (p q : PatternOf (List ℕ)) → SaysPattern text p → SaysPattern text q → p ≡ q
   pub no_pattern : (text : List ℕ) (p : PatternOf (List ℕ)) (c : Cause) → SaysPattern text p → ¬ IsRefusedPattern text c
   pub pattern_cause : (text : List ℕ) (c d : Cause) → IsRefusedPattern text c → IsRefusedPattern text d → c ≡ d
@@ -231,6 +233,23 @@ module _ (once : OnceLaws) where
   rewrites_one i pattern replacement s t x y (Rewritten r said is line) (Rewritten q said' is' line') =
       (is ∙ sym is', line ∙ ap (λ (u : RuleOf (List ℕ)). file_of (rewritten_image u i)) (rule_one pattern replacement r q said said') ∙ sym line')
 
+  -- a text that is imported has one answer
+  imports_one : (text : List ℕ) (s t : Status) (x y : List ℕ) → Imports text s x → Imports text t y → SameAnswer s t x y
+  imports_one text s t x y (NotImported r wrong is line) (NotImported q wrong' is' line') =
+      let both : ◌≡◌ {A = Result (List ℕ) Refusal} (Err r) (Err q) = once.imported text (Err r) (Err q) wrong wrong' in
+      let same : r ≡ q = cc in
+      (is ∙ sym is', line ∙ ap (λ (u : Refusal). import_refusal u.chunk u.cause) same ∙ sym line')
+  imports_one text s t x y (NotImported r wrong is line) (Imported made is') =
+      let both : ◌≡◌ {A = Result (List ℕ) Refusal} (Err r) (Ok y) = once.imported text (Err r) (Ok y) wrong made in
+      absurd (cc)
+  imports_one text s t x y (Imported made is) (NotImported r wrong is' line) =
+      let both : ◌≡◌ {A = Result (List ℕ) Refusal} (Ok x) (Err r) = once.imported text (Ok x) (Err r) made wrong in
+      absurd (cc)
+  imports_one text s t x y (Imported made is) (Imported made' is') =
+      let both : ◌≡◌ {A = Result (List ℕ) Refusal} (Ok x) (Ok y) = once.imported text (Ok x) (Ok y) made made' in
+      let same : x ≡ y = cc in
+      (is ∙ sym is', same)
+
   changes_one : (classes : ℕ) (i : ImageOf (List ℕ)) (s t : Status) (x y : List ℕ) → ChangesIn classes i s x → ChangesIn classes i t y → SameAnswer s t x y
   changes_one classes i s t x y (Unchanged v other a is) (Unchanged u other' b is') =
       let same = once.applies_in i (script_text classes) v u x y a b in
@@ -241,7 +260,7 @@ module _ (once : OnceLaws) where
       absurd (other (once.applies_in i (script_text classes) v verdict.Done y (file_of h.now.image) a (model.Accepted rs h says ok refl refl)).0)
   changes_one classes i s t x y (Changed rs h says ok is line) (Changed qs g says' ok' is' line') =
       let asked : rs ≡ qs = once.requests (script_text classes) rs qs says says' in
-      let both : ◌≡◌ {A = Result History Stop} (Ok h) (Ok g) = sym ok ∙ ap (verdict_in i) asked ∙ ok' in
+      let both : ◌≡◌ {A = Result History Stop} (Ok h) (Ok g) = sym ok ∙ ap (ruled_verdict i) asked ∙ ok' in
       let same : h ≡ g = cc in
       (is ∙ sym is', line ∙ (λ k. summary classes (length (asked k)) i (same k).now.image) ∙ sym line')
 
@@ -263,6 +282,8 @@ module _ (once : OnceLaws) where
   form_one w (Team image log) s t x y honest p q =
       loads_one w image image_limit s t x y _ _ honest.told.0 honest.fine
       (λ i p' q'. loads_one w log script_limit s t x y _ _ honest.told.1.0 honest.fine (λ l. plays_one i l s t x y) p' q') p q
+  form_one w (Import file) s t x y honest p q =
+      loads_one w file image_limit s t x y _ _ honest.told.0 honest.fine (λ i. imports_one i s t x y) p q
   form_one w (Format image) s t x y honest p q =
       loads_one w image image_limit s t x y _ _ honest.told.0 honest.fine (λ i. formats_one i s t x y) p q
   form_one w (Run image expression budget) s t x y honest p q =

@@ -1,7 +1,6 @@
 -- What `demo` shows of its image and its script.
 use Rattle.std.proofs.Common.{◌≡◌, ℕ, List, [], length, refl, ap, subst, ◌∙◌}
 use Rattle.image_model.specs.Image.{ImageOf}
-use Rattle.session_model.specs.Scripts.{Request}
 use Rattle.script_model.specs.Scripts.{Says}
 use Rattle.apply_model.specs.declared.status.Status as applied
 use Rattle.apply_model.specs.Applied.{AppliesIn}

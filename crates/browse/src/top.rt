@@ -15,7 +15,8 @@ use crate::team::team;
 use apply_model::has_one_answer_in_image;
 use changes_model::has_one_change_in_image;
 use command_words::{Words, words_of};
-use image_forms::{Status, find, format, help, rewrite, search, strip, usage, version};
+use image_forms::{Status, find, format, help, import, rewrite, search, strip, usage, version};
+use import_model::has_one_import;
 use pieces::{PutSink, send};
 use rb_base::{Memory, Shelf, SinkError, Text};
 use rewrite_model::{has_one_list_of_lines, has_one_pattern, has_one_rule};
@@ -37,6 +38,7 @@ fn answer<F: Shelf>(
         Words::Apply { image, script } => apply(alloc, shelf, image, script, out),
         Words::Changes { image, script } => changes(alloc, shelf, image, script, out),
         Words::Team { image, log } => team(alloc, shelf, image, log, out),
+        Words::Import { file } => import(alloc, shelf, file, out),
         Words::Format { image } => format(alloc, shelf, image, out),
         Words::Run {
             image,
@@ -111,6 +113,7 @@ pub fn has_one_answer()
     has_one_answer_in_image();
     has_one_change_in_image();
     play_model::has_one_answer();
+    has_one_import();
     has_one_reading();
     has_one_pattern();
     has_one_rule();

@@ -24,6 +24,10 @@ strip_words image expression = codes "strip" ∷ image ∷ expression ∷ []
 abbrev pub format_words : List ℕ → List (List ℕ)
 format_words image = codes "format" ∷ image ∷ []
 
+-- `import FILE`
+abbrev pub import_words : List ℕ → List (List ℕ)
+import_words file = codes "import" ∷ file ∷ []
+
 -- the outside gives these bytes of the two files, each within its limit, and the fact holds of them
 pub record AreGiven (w : World) (image script : List ℕ) (Fact : List ℕ → List ℕ → Type 0) : Type 0 where
   pub text : List ℕ
@@ -32,7 +36,7 @@ pub record AreGiven (w : World) (image script : List ℕ) (Fact : List ℕ → L
   pub commands_given : MayGive (w.told script) script_limit commands
   pub fact : Fact text commands
 
--- the outside gives these bytes of a file with an image, within its limit, and the fact holds of them
+-- the outside gives these bytes of a file-out, within its limit, and the fact holds of them
 pub record IsGiven (w : World) (image : List ℕ) (Fact : List ℕ → Type 0) : Type 0 where
   pub text : List ℕ
   pub given : MayGive (w.told image) image_limit text

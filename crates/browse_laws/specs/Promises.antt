@@ -13,8 +13,7 @@ use Rattle.file_model.specs.Reading.{IsImageOf}
 use Rattle.file_rereading.specs.Rereading.{IsWithinLimits}
 use Rattle.format_laws.specs.Empty.{HasNoEmptyDoIt}
 use Rattle.image_doits.specs.Added.{IsWithDoIt}
-use Rattle.session_model.specs.Actions.{ActionOf}
-use Rattle.session_model.specs.Scripts.{Request}
+use Rattle.ruled_model.specs.RuledScripts.{Asked, Line}
 use Rattle.script_model.specs.Scripts.{Says}
 use Rattle.apply_laws.specs.Promised.{IsRefusalOf}
 use Rattle.apply_laws.specs.FileOuts.{IsValidFileOut}
@@ -24,8 +23,8 @@ use Rattle.image_forms.specs.declared.status.Status.{Status}
 use Rattle.image_forms.specs.declared.status.Status.TheVariants as status
 use Rattle.image_forms.specs.Loads.{World}
 use Rattle.image_forms.specs.Answers.{Applies, Runs, Answers}
-use Rattle.browse_laws.specs.Given.{apply_words, changes_words, team_words, strip_words, format_words, AreGiven, IsGiven}
-use Rattle.browse_laws.specs.Printed.{IsStrippedFile, IsFormattedFile}
+use Rattle.browse_laws.specs.Given.{apply_words, changes_words, team_words, strip_words, format_words, import_words, AreGiven, IsGiven}
+use Rattle.browse_laws.specs.Printed.{IsStrippedFile, IsFormattedFile, IsImportedFile}
 
 -- `strip IMAGE EXPRESSION sets`
 abbrev pub sets_words : List ℕ → List ℕ → List (List ℕ)
@@ -33,8 +32,8 @@ sets_words image expression = codes "strip" ∷ image ∷ expression ∷ codes "
 
 -- a script without the commands at its end of which each is taken back there, or without as many redos as undos, is answered with the same bytes
 pub record SendsWithoutEnd (text longer sent : List ℕ) : Type 0 where
-  pub undone : (script : List ℕ) (requests : List Request) (actions : List (ActionOf (List ℕ))) → Says script requests → Says longer (requests ++ (map (λ a. Perform a) actions ++ replicate (length actions) Undo)) → Applies text script status.Done sent
-  pub redone : (script : List ℕ) (requests : List Request) (n : ℕ) → Says script requests → Says longer (requests ++ (replicate n Undo ++ replicate n Redo)) → Applies text script status.Done sent
+  pub undone : (script : List ℕ) (requests : List Line) (actions : List Asked) → Says script requests → Says longer (requests ++ (map (λ a. Perform a) actions ++ replicate (length actions) Undo)) → Applies text script status.Done sent
+  pub redone : (script : List ℕ) (requests : List Line) (n : ℕ) → Says script requests → Says longer (requests ++ (replicate n Undo ++ replicate n Redo)) → Applies text script status.Done sent
 
 -- of `apply IMAGE SCRIPT`
 pub record KeepsApply (w : World) (image script : List ℕ) (s : Status) (sent : List ℕ) : Type 0 where
@@ -87,6 +86,10 @@ pub record IsFormatted (text sent : List ℕ) : Type 0 where
 abbrev pub KeepsFormat : World → List ℕ → Status → List ℕ → Type 0
 KeepsFormat w image s sent = s ≡ status.Done → IsGiven w image (λ text. IsFormatted text sent)
 
+-- of `import FILE`
+abbrev pub KeepsImport : World → List ℕ → Status → List ℕ → Type 0
+KeepsImport w file s sent = s ≡ status.Done → IsGiven w file (λ text. IsImportedFile text sent)
+
 -- The bytes and the status answer the words, and each form keeps what is promised of it.
 pub record KeepsPromises (w : World) (words : List (List ℕ)) (s : Status) (sent : List ℕ) : Type 0 where
   pub answers : Answers w words s sent
@@ -96,3 +99,4 @@ pub record KeepsPromises (w : World) (words : List (List ℕ)) (s : Status) (sen
   pub strip : (image expression : List ℕ) → words ≡ strip_words image expression → KeepsStrip w image expression s sent
   pub sets : (image expression : List ℕ) → words ≡ sets_words image expression → KeepsSets w image expression s sent
   pub format : (image : List ℕ) → words ≡ format_words image → KeepsFormat w image s sent
+  pub import : (file : List ℕ) → words ≡ import_words file → KeepsImport w file s sent

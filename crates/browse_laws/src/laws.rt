@@ -1,8 +1,7 @@
 // Laws of the program. Each function does nothing; its contract is the law.
 ghost use Rattle.std.specs.Prelude.{ℕ, List, ◌++◌, map, length, replicate};
 ghost use Rattle.history_model.specs.Rules.{Perform, Undo, Redo};
-ghost use Rattle.session_model.specs.Actions.{ActionOf};
-ghost use Rattle.session_model.specs.Scripts.{Request};
+ghost use Rattle.ruled_model.specs.RuledScripts.{Asked, Line};
 ghost use Rattle.script_model.specs.Scripts.{Says};
 ghost use Rattle.apply_laws.specs.Promised.{IsRefusalOf};
 ghost use Rattle.apply_laws.specs.FileOuts.{IsValidFileOut};
@@ -28,10 +27,10 @@ pub fn law_applied()
 /// A script that ends with commands and as many `undo` sends what it sends without these, byte for byte: the image is the one from
 /// before the commands. So does a script that ends with some `undo` and as many `redo`.
 pub fn law_undone()
-    ensures undo { (text script longer sent : List ℕ) (requests : List Request) (actions : List (ActionOf (List ℕ))) →
+    ensures undo { (text script longer sent : List ℕ) (requests : List Line) (actions : List Asked) →
         Says script requests → Says longer (requests ++ (map (λ a. Perform a) actions ++ replicate (length actions) Undo)) →
         Applies text longer status.Done sent → Applies text script status.Done sent }
-    ensures redo { (text script longer sent : List ℕ) (requests : List Request) (n : ℕ) →
+    ensures redo { (text script longer sent : List ℕ) (requests : List Line) (n : ℕ) →
         Says script requests → Says longer (requests ++ (replicate n Undo ++ replicate n Redo)) →
         Applies text longer status.Done sent → Applies text script status.Done sent }
 {

@@ -20,7 +20,8 @@ use std::alloc::Global;
 /// image of the first file changed as the commands say: valid, read again, and with the runs of the image before, up to what is
 /// renamed. If it ends with 1, what is sent names the first command that is refused and its first condition that is false. Commands
 /// that are taken back at the end of a script leave nothing. What `changes` sends makes the old file the new one; what `team`
-/// sends are the replies and the image at the end; what `strip` and `format` send runs as before.
+/// sends are the replies and the image at the end; what `strip` and `format` send runs as before; `import` sends a file that is
+/// read as it is.
 pub fn perform<F: Shelf, K: PutSink>(
     alloc: Global,
     words: &[String],

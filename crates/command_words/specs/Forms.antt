@@ -16,6 +16,8 @@ pub data Form : Type 0 where
   Changes : List ℕ → List ℕ → Form
   -- `team IMAGE LOG`
   Team : List ℕ → List ℕ → Form
+  -- `import FILE`
+  Import : List ℕ → Form
   -- `format IMAGE`
   Format : List ℕ → Form
   -- `run IMAGE EXPRESSION` and `run IMAGE EXPRESSION BUDGET`, with the number of ticks
@@ -43,11 +45,12 @@ form_of_one word =
     if bytes_eq word (codes "--help") then Help else
     (if bytes_eq word (codes "--version") then Version else NoForm)
 
--- `format IMAGE`, and `demo NUMBER` with a number from 1 to 2,000
+-- `format IMAGE`, `import FILE`, and `demo NUMBER` with a number from 1 to 2,000
 abbrev pub form_of_two : List ℕ → List ℕ → Form
 form_of_two command word =
     if bytes_eq command (codes "format") then Format word else
-    (if bytes_eq command (codes "demo") then option_map_or Demo (number_of 2000 word) NoForm else NoForm)
+    (if bytes_eq command (codes "import") then Import word else
+    (if bytes_eq command (codes "demo") then option_map_or Demo (number_of 2000 word) NoForm else NoForm))
 
 -- `apply IMAGE SCRIPT`, `changes IMAGE SCRIPT`, `team IMAGE LOG`, `run IMAGE EXPRESSION` with 1,000,000 ticks, `strip IMAGE EXPRESSION`, `search IMAGE PATTERN`, and the forms above
 abbrev pub form_of_three : List ℕ → List ℕ → List ℕ → Form
@@ -91,6 +94,7 @@ abbrev pub files_of : Form → List (List ℕ)
 files_of (Apply image script) = image ∷ script ∷ []
 files_of (Changes image script) = image ∷ script ∷ []
 files_of (Team image log) = image ∷ log ∷ []
+files_of (Import file) = file ∷ []
 files_of (Format image) = image ∷ []
 files_of (Run image expression budget) = image ∷ []
 files_of (Find image question) = image ∷ []
@@ -107,6 +111,7 @@ abbrev pub shows : Words → Form
 shows (words.Apply image script) = Apply image.now script.now
 shows (words.Changes image script) = Changes image.now script.now
 shows (words.Team image log) = Team image.now log.now
+shows (words.Import file) = Import file.now
 shows (words.Format image) = Format image.now
 shows (words.Run image expression budget) = Run image.now expression.now budget
 shows (words.Find image question) = Find image.now (asks question)

@@ -32,6 +32,10 @@ pub enum Words<'w> {
         image: &'w str,
         log: &'w str,
     },
+    /// `import FILE`.
+    Import {
+        file: &'w str,
+    },
     /// `format IMAGE`.
     Format {
         image: &'w str,
@@ -98,6 +102,8 @@ fn form_of_two<'w>(command: &str, word: &'w str) -> Words<'w>
 {
     if command == "format" {
         Words::Format { image: word }
+    } else if command == "import" {
+        Words::Import { file: word }
     } else if command == "demo" {
         match number_of(word.as_bytes(), MOST_CLASSES) {
             Some(number) => Words::Demo { number },

@@ -1,5 +1,5 @@
 -- What the words are answered with: a status, and the bytes that are sent.
-use Rattle.std.specs.Prelude.{◌≡◌, ◌≢◌, ℕ, List, [], ◌++◌, length, Ok, codes, Bool, if◌then◌else◌}
+use Rattle.std.specs.Prelude.{◌≡◌, ◌≢◌, ℕ, List, [], ◌++◌, length, Ok, Err, codes, Bool, if◌then◌else◌}
 use Rattle.std.specs.Fmt.{decimal}
 use Rattle.apply_model.specs.declared.status.Status as applied
 use Rattle.apply_model.specs.declared.status.Status.TheVariants as verdict
@@ -16,6 +16,7 @@ use Rattle.file_model.specs.Causes.{Refusal}
 use Rattle.file_model.specs.Reading.{IsImageOf, HasRefusal}
 use Rattle.file_model.specs.Written as written
 use Rattle.st_kernel.specs.KernelText.{prelude_text}
+use Rattle.import_model.specs.Imported.{IsImported}
 use Rattle.canonical_image.specs.Formatted.{formatted}
 use Rattle.grammar_model.specs.Whole.{DoIt}
 use Rattle.grammar_model.specs.Checks.{Fault}
@@ -30,15 +31,15 @@ use Rattle.pattern_model.specs.Rewritten.{RuleOf}
 use Rattle.rewrite_model.specs.Saying.{Cause, SaysPattern, SaysRule, IsRefusedPattern, IsRefusedReplacement}
 use Rattle.rewrite_model.specs.Searched.{matches}
 use Rattle.rewrite_model.specs.Rewritten.{rewritten_image}
-use Rattle.session_model.specs.Scripts.{Request, History, verdict_in}
+use Rattle.ruled_model.specs.RuledScripts.{Line, History, ruled_verdict}
 use Rattle.script_model.specs.Scripts.{Says}
 use Rattle.image_maker.specs.Generated.{image_text, expression_text, script_text}
 use Rattle.run_model.specs.Views.{run_text}
 use Rattle.strip_model.specs.Reach.{ReachOf, reach}
 use Rattle.strip_model.specs.Stripped.{certificate, strip}
-use Rattle.command_words.specs.Forms.{Form, Apply, Changes, Team, Format, Run, Find, Strip, Search, Rewrite, Demo, Help, Version, NoForm, form_of}
+use Rattle.command_words.specs.Forms.{Form, Apply, Changes, Team, Import, Format, Run, Find, Strip, Search, Rewrite, Demo, Help, Version, NoForm, form_of}
 use Rattle.image_forms.specs.Loads.{World, Loads, line}
-use Rattle.image_forms.specs.ImageLines.{image_refusal, expression_refusal, text_refusal}
+use Rattle.image_forms.specs.ImageLines.{image_refusal, import_refusal, expression_refusal, text_refusal}
 
 -- the most bytes of a file with an image
 abbrev pub image_limit : ℕ
@@ -53,7 +54,7 @@ usage = line (codes "usage: browse COMMAND ARGUMENTS")
 
 -- the forms as they are typed, each with what it does
 abbrev pub help_forms : List ℕ
-help_forms = codes "usage: browse COMMAND ARGUMENTS\napply IMAGE SCRIPT: prints the file-out IMAGE as the commands of SCRIPT change it\nchanges IMAGE SCRIPT: prints what to file in after IMAGE to have it as the commands of SCRIPT change it\nteam IMAGE LOG: prints what the sessions of LOG are answered, and IMAGE as they change it\nrun IMAGE EXPRESSION [BUDGET]: runs the do-its of IMAGE and then EXPRESSION, for at most BUDGET ticks\nfind IMAGE KIND NAME: lists what sends or implements a selector, or means a class or a variable\nformat IMAGE: prints IMAGE with each source in canonical text\nstrip IMAGE EXPRESSION [sets]: prints IMAGE without what its do-its and EXPRESSION cannot reach, or what they reach\nsearch IMAGE PATTERN: lists the nodes that PATTERN matches\nrewrite IMAGE PATTERN REPLACEMENT: prints IMAGE with each node that PATTERN matches replaced\ndemo NUMBER: makes an image of NUMBER classes, runs it, renames in it, and runs it again\n--help: prints these lines\n--version: prints the version of the program and of the logic that proves it"
+help_forms = codes "usage: browse COMMAND ARGUMENTS\napply IMAGE SCRIPT: prints the file-out IMAGE as the commands of SCRIPT change it\nchanges IMAGE SCRIPT: prints what to file in after IMAGE to have it as the commands of SCRIPT change it\nteam IMAGE LOG: prints what the sessions of LOG are answered, and IMAGE as they change it\nrun IMAGE EXPRESSION [BUDGET]: runs the do-its of IMAGE and then EXPRESSION, for at most BUDGET ticks\nfind IMAGE KIND NAME: lists what sends or implements a selector, or means a class or a variable\nformat IMAGE: prints IMAGE with each source in canonical text\nimport FILE: prints FILE, a file-out of Squeak, Pharo or VisualWorks, in the form that the others read\nstrip IMAGE EXPRESSION [sets]: prints IMAGE without what its do-its and EXPRESSION cannot reach, or what they reach\nsearch IMAGE PATTERN: lists the nodes that PATTERN matches\nrewrite IMAGE PATTERN REPLACEMENT: prints IMAGE with each node that PATTERN matches replaced\ndemo NUMBER: makes an image of NUMBER classes, runs it, renames in it, and runs it again\n--help: prints these lines\n--version: prints the version of the program and of the logic that proves it"
 
 -- the kinds of `find`, each with what it lists
 abbrev pub help_kinds : List ℕ
@@ -61,7 +62,7 @@ help_kinds = codes "kinds of find, each with its NAME:\n  senders SELECTOR: the 
 
 -- the commands of a script, each with its arguments and what it does
 abbrev pub help_commands : List ℕ
-help_commands = codes "commands of a SCRIPT, one a line; a SIDE is instance or class, and FROM and TO are offsets as find and search print them:\n  renameClass CLASS NEW: renames a class\n  renameInstVar CLASS VARIABLE NEW: renames an instance variable\n  renameClassVar CLASS VARIABLE NEW: renames a class variable\n  renameClassSideVar CLASS VARIABLE NEW: renames a class-instance variable\n  renameSelector SELECTOR NEW: renames a message and its methods, in all classes\n  renameTemp CLASS SIDE SELECTOR VARIABLE NEW: renames an argument, a block parameter or a temporary\n  addClass NEW SUPERCLASS [CLASS ..]: adds a class, also between a class and its subclasses\n  addInstVar CLASS NEW: adds an instance variable\n  addClassVar CLASS NEW: adds a class variable\n  addClassSideVar CLASS NEW: adds a class-instance variable\n  addMethod CLASS SIDE PROTOCOL METHOD: adds a method, which stands on the same line\n  addParameter SELECTOR NEW VARIABLE LITERAL: gives a message one more argument\n  removeClass CLASS: removes a class that nothing names\n  removeInstVar CLASS VARIABLE: removes an instance variable that nothing uses\n  removeClassVar CLASS VARIABLE: removes a class variable that nothing uses\n  removeClassSideVar CLASS VARIABLE: removes a class-instance variable that nothing uses\n  removeMethod CLASS SIDE SELECTOR: removes a method that nothing sends, or that repeats the inherited one\n  removeParameter SELECTOR NUMBER NEW: takes an argument from a message\n  pushUpInstVar CLASS VARIABLE: moves an instance variable to the superclass\n  pushUpClassVar CLASS VARIABLE: moves a class variable to the superclass\n  pushUpMethod CLASS SIDE SELECTOR: moves a method to the superclass\n  pushUpWithMethods CLASS VARIABLE: moves an instance variable and its methods to the superclass\n  pushDownInstVar CLASS VARIABLE: moves an instance variable to the subclasses\n  pushDownClassVar CLASS VARIABLE SUBCLASS: moves a class variable to one subclass\n  pushDownMethod CLASS SIDE SELECTOR: moves a method to the subclasses\n  extractMethod CLASS SIDE SELECTOR FROM TO NEW: makes a method of a part of a method\n  extractTemp CLASS SIDE SELECTOR FROM TO NEW: makes a temporary of an expression\n  extractSuperclass NEW SUPERCLASS CLASS ..: makes a superclass of several classes\n  inlineMethod CLASS SIDE SELECTOR FROM TO: puts the body of a method in place of a message\n  inlineTemp CLASS SIDE SELECTOR VARIABLE: puts what is assigned to a temporary in its place\n  abstractInstVar CLASS VARIABLE: reads and assigns an instance variable by messages alone\n  createAccessors CLASS VARIABLE: adds a getter and a setter\n  undo: takes the last command back\n  redo: does it again"
+help_commands = codes "commands of a SCRIPT, one a line; a SIDE is instance or class, and FROM and TO are offsets as find and search print them:\n  renameClass CLASS NEW: renames a class\n  renameInstVar CLASS VARIABLE NEW: renames an instance variable\n  renameClassVar CLASS VARIABLE NEW: renames a class variable\n  renameClassSideVar CLASS VARIABLE NEW: renames a class-instance variable\n  renameSelector SELECTOR NEW: renames a message and its methods, in all classes\n  renameTemp CLASS SIDE SELECTOR VARIABLE NEW: renames an argument, a block parameter or a temporary\n  addClass NEW SUPERCLASS [CLASS ..]: adds a class, also between a class and its subclasses\n  addInstVar CLASS NEW: adds an instance variable\n  addClassVar CLASS NEW: adds a class variable\n  addClassSideVar CLASS NEW: adds a class-instance variable\n  addMethod CLASS SIDE PROTOCOL METHOD: adds a method, which stands on the same line\n  addParameter SELECTOR NEW VARIABLE LITERAL: gives a message one more argument\n  removeClass CLASS: removes a class that nothing names\n  removeInstVar CLASS VARIABLE: removes an instance variable that nothing uses\n  removeClassVar CLASS VARIABLE: removes a class variable that nothing uses\n  removeClassSideVar CLASS VARIABLE: removes a class-instance variable that nothing uses\n  removeMethod CLASS SIDE SELECTOR: removes a method that nothing sends, or that repeats the inherited one\n  removeParameter SELECTOR NUMBER NEW: takes an argument from a message\n  pushUpInstVar CLASS VARIABLE: moves an instance variable to the superclass\n  pushUpClassVar CLASS VARIABLE: moves a class variable to the superclass\n  pushUpMethod CLASS SIDE SELECTOR: moves a method to the superclass\n  pushUpWithMethods CLASS VARIABLE: moves an instance variable and its methods to the superclass\n  pushDownInstVar CLASS VARIABLE: moves an instance variable to the subclasses\n  pushDownClassVar CLASS VARIABLE SUBCLASS: moves a class variable to one subclass\n  pushDownMethod CLASS SIDE SELECTOR: moves a method to the subclasses\n  extractMethod CLASS SIDE SELECTOR FROM TO NEW: makes a method of a part of a method\n  extractTemp CLASS SIDE SELECTOR FROM TO NEW: makes a temporary of an expression\n  extractSuperclass NEW SUPERCLASS CLASS ..: makes a superclass of several classes\n  inlineMethod CLASS SIDE SELECTOR FROM TO: puts the body of a method in place of a message\n  inlineTemp CLASS SIDE SELECTOR VARIABLE: puts what is assigned to a temporary in its place\n  abstractInstVar CLASS VARIABLE: reads and assigns an instance variable by messages alone\n  createAccessors CLASS VARIABLE: adds a getter and a setter\n  applyRule STEPS PATTERN ==> REPLACEMENT: rewrites all code by a rule that the laws in STEPS derive\n  undo: takes the last command back\n  redo: does it again"
 
 -- where the guides are
 abbrev pub help_guides : List ℕ
@@ -99,6 +100,11 @@ pub record PlaysLog (text log : List ℕ) (s : Status) (sent : List ℕ) : Type 
   pub verdict : applied.Status
   pub plays : play.Plays image_refusal text log verdict sent
   pub status : s ≡ status_applied verdict
+
+-- `import` answers this text with the status and the bytes: what it becomes, or the first chunk that has no form here
+pub data Imports (text : List ℕ) (s : Status) (sent : List ℕ) : Type 0 where
+  NotImported : (r : Refusal) → IsImported text (Err r) → s ≡ status.ImageText → sent ≡ import_refusal r.chunk r.cause → Imports text s sent
+  Imported : IsImported text (Ok sent) → s ≡ status.Done → Imports text s sent
 
 -- `format` answers this text with the status and the bytes
 pub data Formats (text : List ℕ) (s : Status) (sent : List ℕ) : Type 0 where
@@ -172,7 +178,7 @@ summary classes commands before after =
 -- the script of `demo` changes this image, and what is printed tells how it was run before and is run after; or it is answered as `apply` answers it
 pub data ChangesIn (classes : ℕ) (i : ImageOf (List ℕ)) (s : Status) (sent : List ℕ) : Type 0 where
   Unchanged : (v : applied.Status) → v ≢ verdict.Done → model.AppliesIn i (script_text classes) v sent → s ≡ status_applied v → ChangesIn classes i s sent
-  Changed : (requests : List Request) (h : History) → Says (script_text classes) requests → verdict_in i requests ≡ Ok h → s ≡ status.Done → sent ≡ summary classes (length requests) i h.now.image → ChangesIn classes i s sent
+  Changed : (requests : List Line) (h : History) → Says (script_text classes) requests → ruled_verdict i requests ≡ Ok h → s ≡ status.Done → sent ≡ summary classes (length requests) i h.now.image → ChangesIn classes i s sent
 
 -- `demo` answers its image of so many classes with the status and the bytes: the image has the expression as its last do-it
 pub data DemosIn (classes : ℕ) (i : ImageOf (List ℕ)) (s : Status) (sent : List ℕ) : Type 0 where
@@ -184,6 +190,7 @@ abbrev pub AnswersForm : World → Form → Status → List ℕ → Type 0
 AnswersForm w (Apply image script) s sent = Loads w image image_limit s sent (λ i. Loads w script script_limit s sent (λ c. Applies i c s sent))
 AnswersForm w (Changes image script) s sent = Loads w image image_limit s sent (λ i. Loads w script script_limit s sent (λ c. WritesChanges i c s sent))
 AnswersForm w (Team image log) s sent = Loads w image image_limit s sent (λ i. Loads w log script_limit s sent (λ l. PlaysLog i l s sent))
+AnswersForm w (Import file) s sent = Loads w file image_limit s sent (λ t. Imports t s sent)
 AnswersForm w (Format image) s sent = Loads w image image_limit s sent (λ i. Formats i s sent)
 AnswersForm w (Run image expression budget) s sent = Loads w image image_limit s sent (λ i. Runs i expression budget s sent)
 AnswersForm w (Find image question) s sent = Loads w image image_limit s sent (λ i. Finds i question s sent)

@@ -1,4 +1,4 @@
--- The lines of a refused image, of a refused expression, and of a refused pattern or replacement.
+-- The lines of a refused image, of a chunk that is not imported, of a refused expression, and of a refused pattern or replacement.
 use Rattle.std.specs.Prelude.{ℕ, List, ◌++◌, codes}
 use Rattle.std.specs.Fmt.{decimal}
 use Rattle.token_model.specs.declared.fault.LexFault.{LexFault}
@@ -41,6 +41,10 @@ cause_text (Syntax fault) = fault_text fault
 -- the line of a refusal: the chunk, the place of the cause, and the cause
 abbrev pub image_refusal : Refusal → List ℕ
 image_refusal r = line (codes "image chunk " ++ decimal r.chunk ++ codes " at " ++ decimal r.at ++ codes " " ++ cause_text r.cause)
+
+-- the line of a chunk that is not imported, by its number and the cause
+abbrev pub import_refusal : ℕ → Cause → List ℕ
+import_refusal chunk cause = line (codes "import chunk " ++ decimal chunk ++ codes " " ++ cause_text cause)
 
 -- the line of an expression that is no do-it: the place of its first fault, and the fault
 abbrev pub expression_refusal : Fault → List ℕ

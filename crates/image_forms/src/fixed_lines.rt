@@ -15,6 +15,7 @@ team IMAGE LOG: prints what the sessions of LOG are answered, and IMAGE as they 
 run IMAGE EXPRESSION [BUDGET]: runs the do-its of IMAGE and then EXPRESSION, for at most BUDGET ticks
 find IMAGE KIND NAME: lists what sends or implements a selector, or means a class or a variable
 format IMAGE: prints IMAGE with each source in canonical text
+import FILE: prints FILE, a file-out of Squeak, Pharo or VisualWorks, in the form that the others read
 strip IMAGE EXPRESSION [sets]: prints IMAGE without what its do-its and EXPRESSION cannot reach, or what they reach
 search IMAGE PATTERN: lists the nodes that PATTERN matches
 rewrite IMAGE PATTERN REPLACEMENT: prints IMAGE with each node that PATTERN matches replaced
@@ -66,6 +67,7 @@ const COMMANDS: &str =
   inlineTemp CLASS SIDE SELECTOR VARIABLE: puts what is assigned to a temporary in its place
   abstractInstVar CLASS VARIABLE: reads and assigns an instance variable by messages alone
   createAccessors CLASS VARIABLE: adds a getter and a setter
+  applyRule STEPS PATTERN ==> REPLACEMENT: rewrites all code by a rule that the laws in STEPS derive
   undo: takes the last command back
   redo: does it again";
 

@@ -1,10 +1,10 @@
-// The lines of a refused image, of a refused expression, and of a refused pattern or replacement.
+// The lines of a refused image, of a chunk that is not imported, of a refused expression, and of a refused pattern or replacement.
 ghost use Rattle.std.specs.Prelude.{◌≡◌, ◌++◌, [], OnOk, MatchOption};
 ghost use Rattle.std.specs.Fmt.{decimal};
 ghost use Rattle.file_model.specs.Causes.{place_of_lexical, place_of_fault};
 ghost use Rattle.st_faults.specs.Faults.{fault_of};
 ghost use Rattle.file_faults.specs.Faults.{cause_of};
-ghost use Rattle.image_forms.specs.ImageLines.{lexical_text, fault_text, cause_text, image_refusal, expression_refusal, text_cause, text_place, text_refusal};
+ghost use Rattle.image_forms.specs.ImageLines.{lexical_text, fault_text, cause_text, image_refusal, import_refusal, expression_refusal, text_cause, text_place, text_refusal};
 ghost use Rattle.pattern_faults.specs.Told as pattern;
 
 use file_faults::ImageCause;
@@ -85,6 +85,23 @@ pub fn push_image_refusal(
     push_number(alloc, chunk, out)?;
     out.push_slice(b" at ")?;
     push_number(alloc, at, out)?;
+    out.push_slice(b" ")?;
+    push_cause(cause, out)?;
+    out.push_slice(b"\n")
+}
+
+/// Appends the line of a chunk that is not imported.
+pub(crate) fn push_import_refusal(
+    alloc: Global,
+    chunk: usize,
+    cause: ImageCause,
+    out: &mut Text,
+) -> Result<(), Memory>
+    requires { out.old ≡ [] }
+    ensures { OnOk result (MatchOption (cause_of cause) ⊥ (λ c. out.new ≡ import_refusal chunk c)) }
+{
+    out.push_slice(b"import chunk ")?;
+    push_number(alloc, chunk, out)?;
     out.push_slice(b" ")?;
     push_cause(cause, out)?;
     out.push_slice(b"\n")

@@ -11,7 +11,7 @@ pub enum Status {
     Condition,
     /// 2: the words are in no form.
     Usage,
-    /// 3: a chunk of the image is refused; the line names the first one, the place of the cause and the cause.
+    /// 3: a chunk of the image or of the file-out to import is refused; the line names the first one and the cause.
     ImageText,
     /// 4: the expression of a run is no do-it; the line names the place of its first fault and the fault.
     ScriptText,

@@ -8,10 +8,10 @@ use Rattle.file_model.specs.Written.{file_of}
 use Rattle.image_forms.specs.declared.status.Status.{Status}
 use Rattle.image_forms.specs.declared.status.Status.TheVariants as status
 use Rattle.image_forms.specs.Loads.{World, Loads, Given, Refused}
-use Rattle.image_forms.specs.Answers.{image_limit, Applies, Formats, Formatted, StripsIn, NoStart, Stripped, Strips, NoImageToStrip, StripsImage, Answers}
+use Rattle.image_forms.specs.Answers.{image_limit, Applies, Formatted, StripsIn, NoStart, Stripped, Strips, NoImageToStrip, StripsImage, Answers}
 use Rattle.changes_laws.specs.ChangeFiles.{IsChangeFile}
-use Rattle.browse_laws.specs.Given.{apply_words, changes_words, team_words, strip_words, format_words, AreGiven, IsGiven}
-use Rattle.browse_laws.specs.Printed.{doit_of, IsStrippedFile, IsFormattedFile}
+use Rattle.browse_laws.specs.Given.{apply_words, changes_words, team_words, strip_words, format_words, import_words, AreGiven, IsGiven}
+use Rattle.browse_laws.specs.Printed.{doit_of, IsStrippedFile}
 use Rattle.browse_laws.specs.Promises.{sets_words, SendsWithoutEnd, KeepsApply, IsFiledIn, KeepsChanges, IsStripped, AreLeastSets, IsFormatted}
 use Rattle.browse_laws.proofs.Sending.{given-of}
 use Rattle.browse_laws.proofs.promised.law_promises_kept.Goals as goal
@@ -24,6 +24,7 @@ returns k = λ w words s sent answers. record {
   team = λ image log are done. k.law_played.ensures w image log sent (done-at w (team_words image log) s sent done (at w words (team_words image log) s sent are answers));
   strip = λ image expression are done. stripped w image expression sent (done-at w (strip_words image expression) s sent done (at w words (strip_words image expression) s sent are answers));
   sets = λ image expression are done. least-sets w image expression sent (done-at w (sets_words image expression) s sent done (at w words (sets_words image expression) s sent are answers));
+  import = λ file are done. k.law_imported.ensures w file sent (done-at w (import_words file) s sent done (at w words (import_words file) s sent are answers));
   format = λ image are done. formatted w image sent (done-at w (format_words image) s sent done (at w words (format_words image) s sent are answers));
 }
   where

@@ -1,7 +1,6 @@
-use Rattle.std.proofs.Common.{◌≡◌, ℕ, List, ◌++◌, refl, ap, ◌∙◌}
+use Rattle.std.proofs.Common.{ℕ, List, ◌++◌, refl, ap, ◌∙◌}
 use Rattle.std.specs.Prelude.{codes}
 use Rattle.rb_base.specs.Names.{name_at}
-use Rattle.image_model.specs.Image.{ImageOf}
 use Rattle.class_table.specs.View.{image_of}
 use Rattle.file_model.specs.Written.{file_of}
 use Rattle.pattern_model.specs.Named.{map_pattern}
