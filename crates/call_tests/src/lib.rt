@@ -7,6 +7,8 @@ mod chunks;
 #[cfg(test)]
 mod classes;
 #[cfg(test)]
+mod differences;
+#[cfg(test)]
 mod outside;
 #[cfg(test)]
 mod parts;
@@ -14,6 +16,8 @@ mod parts;
 mod patterns;
 #[cfg(test)]
 mod places;
+#[cfg(test)]
+mod reaching;
 #[cfg(test)]
 mod rooms;
 #[cfg(test)]
