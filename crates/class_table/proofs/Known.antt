@@ -6,7 +6,7 @@ use Rattle.std.specs.Option.{option_and_then}
 use Rattle.std.proofs.Math.Dec.{eqb}
 use Rattle.std.proofs.lemmas.Bool.Decides.{eqb_tells}
 use Rattle.std.proofs.lemmas.Option.{slice_get_cases}
-use Rattle.indexmap.specs.IndexMap.{get}
+use Rattle.std.specs.HashMap.{get}
 use Rattle.class_table.specs.declared.record.ClassRec.{ClassRec}
 use Rattle.class_table.specs.declared.record.MethodRec.{MethodRec}
 use Rattle.class_table.specs.declared.tables.MethodKey.{MethodKey}

@@ -1,7 +1,7 @@
 -- The tables by which live classes and methods are found.
 use Rattle.std.specs.Prelude.{◌≡◌, ℕ, List, length, Bool, true, nat_eq, ◌&&◌, if◌then◌else◌, Option, Some, None}
 use Rattle.std.specs.List.{list_any}
-use Rattle.indexmap.specs.IndexMap.{get}
+use Rattle.std.specs.HashMap.{get}
 use Rattle.class_table.specs.declared.record.ClassRec.{ClassRec}
 use Rattle.class_table.specs.declared.record.MethodRec.{MethodRec}
 use Rattle.class_table.specs.declared.tables.MethodKey.{MethodKey}

@@ -1,7 +1,7 @@
 // Tables by which classes and methods are found, which are kept through the changes of an image.
 ghost use Rattle.std.specs.Prelude.{◌≡◌, ℕ, List, true, false, nat_eq, Some, None, IfOk, OnOk, OnErr};
 ghost use Rattle.std.specs.Option.{option_and_then, ForSome};
-ghost use Rattle.indexmap.specs.IndexMap.{get, Updates};
+ghost use Rattle.std.specs.HashMap.{get, Updates};
 ghost use Rattle.class_table.specs.View.{class_name};
 ghost use Rattle.class_table.specs.Finding.{is_named, named_in, same_key, key_in, is_method_in, method_in};
 ghost use Rattle.class_table.specs.Tables.{key_of, known_at, key_with, IsPlaced, HoldsSlots, KnowsClasses, KnowsClassesWith, KnowsMethods, KnowsMethodsWith};
@@ -9,9 +9,9 @@ ghost use Rattle.class_table.specs.Tables.{key_of, known_at, key_with, IsPlaced,
 use crate::class_order::ClassOrder;
 use crate::method_order::MethodOrder;
 use crate::record::{ClassId, ClassRec, MethodRec, MethodSlot};
-use indexmap::IndexMap;
 use rb_base::{Memory, NameId};
 use std::alloc::Global;
+use std::collections::HashMap;
 
 /// What tells a method: its class, its side and its selector.
 #[derive(Clone, Copy, Debug, PartialEq, Eq, Hash)]
@@ -45,7 +45,7 @@ impl MethodKey {
 #[derive(Drop)]
 pub struct ClassTable {
     pub ready: bool,
-    pub slots: IndexMap<usize, ClassId>,
+    pub slots: HashMap<usize, ClassId>,
 }
 
 impl ClassTable {
@@ -55,7 +55,7 @@ impl ClassTable {
     {
         ClassTable {
             ready: false,
-            slots: IndexMap::new(alloc),
+            slots: HashMap::new(alloc),
         }
     }
 
@@ -172,7 +172,7 @@ fn room_for(entries: usize) -> usize {
 }
 
 // Puts a slot in under a name, if there is room, and answers whether it is in.
-fn put_name(slots: &mut IndexMap<usize, ClassId>, name: usize, id: ClassId) -> bool
+fn put_name(slots: &mut HashMap<usize, ClassId>, name: usize, id: ClassId) -> bool
     ensures { result ≡ true → Updates nat_eq slots.old slots.new name (Some id) }
 {
     if slots.len() == slots.capacity() && !slots.contains_key(&name) {
@@ -211,10 +211,10 @@ fn class_slots(
     alloc: Global,
     classes: &[ClassRec],
     order: &[ClassId],
-) -> Result<Option<IndexMap<usize, ClassId>>, Memory>
+) -> Result<Option<HashMap<usize, ClassId>>, Memory>
     ensures { IfOk result (λ found. ForSome found (λ slots. HoldsSlots (get nat_eq slots) (class_name classes.now) order.now None)) }
 {
-    let mut slots = IndexMap::with_capacity(alloc, room_for(order.len()))?;
+    let mut slots = HashMap::with_capacity(alloc, room_for(order.len()))?;
     for id in order {
         if let Some(name) = name_of(classes, *id) {
             if slots.insert(name.0, *id)?.is_some() {
@@ -232,7 +232,7 @@ pub struct MethodTable {
     pub ready: bool,
     /// The method whose tree was lent to be written last, if nothing was changed since. Its selector may be another one.
     pub lent: Option<MethodSlot>,
-    pub slots: IndexMap<MethodKey, MethodSlot>,
+    pub slots: HashMap<MethodKey, MethodSlot>,
 }
 
 impl MethodTable {
@@ -243,7 +243,7 @@ impl MethodTable {
         MethodTable {
             ready: false,
             lent: None,
-            slots: IndexMap::new(alloc),
+            slots: HashMap::new(alloc),
         }
     }
 
@@ -425,7 +425,7 @@ impl MethodTable {
 }
 
 // Puts a slot in under a key, if there is room, and answers whether it is in.
-fn put_key(slots: &mut IndexMap<MethodKey, MethodSlot>, key: MethodKey, slot: MethodSlot) -> bool
+fn put_key(slots: &mut HashMap<MethodKey, MethodSlot>, key: MethodKey, slot: MethodSlot) -> bool
     ensures { result ≡ true → Updates same_key slots.old slots.new key (Some slot) }
 {
     if slots.len() == slots.capacity() && !slots.contains_key(&key) {
@@ -480,10 +480,10 @@ fn method_slots(
     alloc: Global,
     methods: &[MethodRec],
     order: &[MethodSlot],
-) -> Result<Option<IndexMap<MethodKey, MethodSlot>>, Memory>
+) -> Result<Option<HashMap<MethodKey, MethodSlot>>, Memory>
     ensures { IfOk result (λ found. ForSome found (λ slots. HoldsSlots (get same_key slots) (key_in methods.now) order.now None)) }
 {
-    let mut slots = IndexMap::with_capacity(alloc, room_for(order.len()))?;
+    let mut slots = HashMap::with_capacity(alloc, room_for(order.len()))?;
     for slot in order {
         if let Some(key) = key_of(methods, *slot) {
             if slots.insert(key, *slot)?.is_some() {

@@ -3,7 +3,7 @@ use Rattle.std.proofs.Common.{◌≡◌, ℕ, ◌+◌, ◌<◌, Bool, true, fals
 use Rattle.std.specs.Prelude.{if◌then◌else◌}
 use Rattle.std.specs.Bool.{beq}
 use Rattle.std.proofs.lemmas.List.{take_more}
-use Rattle.indexmap.specs.IndexMap.{get}
+use Rattle.std.specs.HashMap.{get}
 use Rattle.file_model.specs.Places.{ClassPlaceOf, MethodPlaceOf, method_place}
 use Rattle.image_draft.specs.declared.method_draft.MethodDraft.{MethodDraft}
 use Rattle.image_draft.specs.Entries.{entry_of}

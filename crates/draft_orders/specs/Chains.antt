@@ -1,7 +1,7 @@
 -- The classes below a class, by position.
 use Rattle.std.specs.Prelude.{◌≡◌, ℕ, zero, suc, ◌∷◌, ◌++◌, [], List, length, slice_get, nat_eq, Bool, true, false, if◌then◌else◌, Option, Some, None}
 use Rattle.std.specs.Option.{option_map_or}
-use Rattle.indexmap.specs.IndexMap.{get}
+use Rattle.std.specs.HashMap.{get}
 use Rattle.draft_orders.specs.declared.chains.Chains.{Chains}
 
 -- whether a superclass is that of a name

@@ -4,14 +4,14 @@ use Rattle.std.specs.Bool.{beq}
 use Rattle.std.specs.Option.{option_map}
 use Rattle.std.specs.declared.hash.FoldHasher.{FoldHasher}
 use Rattle.std.specs.declared.hash.BuildHasherDefault.{BuildHasherDefault}
-use Rattle.indexmap.specs.IndexMap.{IndexMap, get}
+use Rattle.std.specs.HashMap.{HashMap, get}
 use Rattle.file_model.specs.Places.{ClassPlaceOf, MethodPlaceOf}
 use Rattle.image_draft.specs.declared.method_draft.MethodDraft.{MethodDraft}
 use Rattle.draft_orders.specs.declared.methods.PlaceKey.{PlaceKey}
 
 -- places by the names of classes
 abbrev pub ClassTable : Type 0
-ClassTable = IndexMap ℕ ℕ (BuildHasherDefault FoldHasher)
+ClassTable = HashMap ℕ ℕ (BuildHasherDefault FoldHasher)
 
 -- the table gives the last place that is stated for each name
 abbrev pub IsClassPlaces : List (ClassPlaceOf ℕ) → ClassTable → Type 0
@@ -32,7 +32,7 @@ key_of m = record { class = m.class; meta = m.meta; selector = m.tree.selector }
 
 -- places by keys
 abbrev pub MethodTable : Type 0
-MethodTable = IndexMap PlaceKey ℕ (BuildHasherDefault FoldHasher)
+MethodTable = HashMap PlaceKey ℕ (BuildHasherDefault FoldHasher)
 
 -- the table gives the last place that is stated for each method
 abbrev pub IsMethodPlaces : List (MethodPlaceOf ℕ) → MethodTable → Type 0

@@ -1,13 +1,13 @@
 // The classes below a class, by position: from the last one back to the first one.
 ghost use Rattle.std.specs.Prelude.{◌≡◌, ℕ, ◌∷◌, ◌++◌, [], length, nat_eq, if◌then◌else◌, slice_get, Option, Some, None, OnOk};
 ghost use Rattle.std.specs.Option.{option_and_then};
-ghost use Rattle.indexmap.specs.IndexMap.{get};
+ghost use Rattle.std.specs.HashMap.{get};
 ghost use Rattle.draft_orders.specs.Chains.{IsChained, IsLinked};
 
 use crate::lists::push_last;
-use indexmap::IndexMap;
 use rb_base::Memory;
 use std::alloc::Global;
+use std::collections::HashMap;
 
 /// For each superclass the position of the last class below it, and for each position that of the class before it that has the
 /// same superclass.
@@ -15,12 +15,12 @@ use std::alloc::Global;
 pub struct Chains {
     /// The superclass of the class at each position.
     pub above: Vec<Option<usize>>,
-    pub last: IndexMap<usize, usize>,
+    pub last: HashMap<usize, usize>,
     pub before: Vec<Option<usize>>,
 }
 
 /// Notes the last position under a name, in place of an earlier one.
-fn note(table: &mut IndexMap<usize, usize>, name: usize, place: usize) -> Result<(), Memory>
+fn note(table: &mut HashMap<usize, usize>, name: usize, place: usize) -> Result<(), Memory>
     ensures { OnOk result ((n : ℕ) → get nat_eq table.new n ≡ (if nat_eq name n then Some place else get nat_eq table.old n)) }
 {
     table.insert(name, place)?;
@@ -35,7 +35,7 @@ impl Chains {
     {
         Chains {
             above: Vec::new(alloc),
-            last: IndexMap::new(alloc),
+            last: HashMap::new(alloc),
             before: Vec::new(alloc),
         }
     }

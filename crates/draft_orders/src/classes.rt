@@ -1,6 +1,6 @@
 // Classes that are put in again at their places.
 ghost use Rattle.std.specs.Prelude.{◌≡◌, ℕ, reverse, nat_eq, if◌then◌else◌, Some, IfOk, OnOk};
-ghost use Rattle.indexmap.specs.IndexMap.{get};
+ghost use Rattle.std.specs.HashMap.{get};
 ghost use Rattle.image_model.specs.Image.{ClassOf};
 ghost use Rattle.file_model.specs.Places.{class_place, put_again_behind};
 ghost use Rattle.draft_orders.specs.Parts.{IsAdded, IsSplit};
@@ -9,12 +9,12 @@ ghost use Rattle.draft_orders.specs.Tables.{IsClassPlaces};
 use crate::parts::Parts;
 use crate::places::ClassPlace;
 use image_draft::ClassDraft;
-use indexmap::IndexMap;
 use rb_base::{Memory, NameId};
 use std::alloc::Global;
+use std::collections::HashMap;
 
 /// Notes a place under the name of its class, in place of an earlier one.
-fn note(table: &mut IndexMap<usize, usize>, stated: ClassPlace) -> Result<(), Memory>
+fn note(table: &mut HashMap<usize, usize>, stated: ClassPlace) -> Result<(), Memory>
     ensures { OnOk result ((n : ℕ) → get nat_eq table.new n ≡ (if nat_eq stated.class n then Some stated.place else get nat_eq table.old n)) }
 {
     table.insert(stated.class.0, stated.place)?;
@@ -22,10 +22,10 @@ fn note(table: &mut IndexMap<usize, usize>, stated: ClassPlace) -> Result<(), Me
 }
 
 /// The last place that is stated for each name.
-fn place_table(alloc: Global, places: &[ClassPlace]) -> Result<IndexMap<usize, usize>, Memory>
+fn place_table(alloc: Global, places: &[ClassPlace]) -> Result<HashMap<usize, usize>, Memory>
     ensures { IfOk result (λ table. IsClassPlaces places.now table) }
 {
-    let mut table = IndexMap::new(alloc);
+    let mut table = HashMap::new(alloc);
     for stated in places {
         note(&mut table, *stated)?;
     }
@@ -33,7 +33,7 @@ fn place_table(alloc: Global, places: &[ClassPlace]) -> Result<IndexMap<usize, u
 }
 
 /// The place of a name.
-fn place_of(table: &IndexMap<usize, usize>, name: NameId) -> Option<usize>
+fn place_of(table: &HashMap<usize, usize>, name: NameId) -> Option<usize>
     ensures { result ≡ get nat_eq table.now name }
 {
     table.get(&name.0).copied()
@@ -42,7 +42,7 @@ fn place_of(table: &IndexMap<usize, usize>, name: NameId) -> Option<usize>
 /// Puts a class at the end of its part.
 fn add(
     parts: &mut Parts<ClassDraft>,
-    table: &IndexMap<usize, usize>,
+    table: &HashMap<usize, usize>,
     class: ClassDraft,
 ) -> Result<(), Memory>
     ensures { OnOk result (IsAdded parts.old class.kernel (get nat_eq table.now class.name) class parts.new) }
@@ -56,7 +56,7 @@ fn add(
 fn split(
     alloc: Global,
     classes: Vec<ClassDraft>,
-    table: &IndexMap<usize, usize>,
+    table: &HashMap<usize, usize>,
 ) -> Result<Parts<ClassDraft>, Memory>
     ensures { IfOk result (λ parts. IsSplit (λ (c : ClassOf ℕ). c.kernel) (λ c. get nat_eq table.now c.name) classes.items parts) }
 {

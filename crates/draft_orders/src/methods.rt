@@ -1,6 +1,6 @@
 // Methods that are put in again at their places.
 ghost use Rattle.std.specs.Prelude.{◌≡◌, ℕ, map, reverse, nat_eq, if◌then◌else◌, Some, IfOk, OnOk};
-ghost use Rattle.indexmap.specs.IndexMap.{get};
+ghost use Rattle.std.specs.HashMap.{get};
 ghost use Rattle.image_model.specs.Image.{EntryOf};
 ghost use Rattle.file_model.specs.Places.{method_place, put_again_behind};
 ghost use Rattle.image_draft.specs.Entries.{entry_of};
@@ -11,9 +11,9 @@ ghost use Rattle.draft_orders.specs.Tables.{same_key, stated_key, key_of, IsMeth
 use crate::parts::Parts;
 use crate::places::MethodPlace;
 use image_draft::MethodDraft;
-use indexmap::IndexMap;
 use rb_base::Memory;
 use std::alloc::Global;
+use std::collections::HashMap;
 
 /// What tells a method: the number of the name of its class, its side, and the number of its selector.
 #[derive(Clone, Copy, PartialEq, Eq, Hash)]
@@ -24,7 +24,7 @@ pub struct PlaceKey {
 }
 
 /// Notes a place under the key of its method, in place of an earlier one.
-fn note(table: &mut IndexMap<PlaceKey, usize>, stated: MethodPlace) -> Result<(), Memory>
+fn note(table: &mut HashMap<PlaceKey, usize>, stated: MethodPlace) -> Result<(), Memory>
     ensures { OnOk result ((q : PlaceKey) → get same_key table.new q ≡ (if same_key (stated_key stated) q then Some stated.place else get same_key table.old q)) }
 {
     let key = PlaceKey {
@@ -37,10 +37,10 @@ fn note(table: &mut IndexMap<PlaceKey, usize>, stated: MethodPlace) -> Result<()
 }
 
 /// The last place that is stated for each method.
-fn place_table(alloc: Global, places: &[MethodPlace]) -> Result<IndexMap<PlaceKey, usize>, Memory>
+fn place_table(alloc: Global, places: &[MethodPlace]) -> Result<HashMap<PlaceKey, usize>, Memory>
     ensures { IfOk result (λ table. IsMethodPlaces places.now table) }
 {
-    let mut table = IndexMap::new(alloc);
+    let mut table = HashMap::new(alloc);
     for stated in places {
         note(&mut table, *stated)?;
     }
@@ -48,7 +48,7 @@ fn place_table(alloc: Global, places: &[MethodPlace]) -> Result<IndexMap<PlaceKe
 }
 
 /// The place of a method.
-fn place_of(table: &IndexMap<PlaceKey, usize>, method: &MethodDraft) -> Option<usize>
+fn place_of(table: &HashMap<PlaceKey, usize>, method: &MethodDraft) -> Option<usize>
     ensures { result ≡ get same_key table.now (key_of method.now) }
 {
     let key = PlaceKey {
@@ -62,7 +62,7 @@ fn place_of(table: &IndexMap<PlaceKey, usize>, method: &MethodDraft) -> Option<u
 /// Puts a method at the end of its part.
 fn add(
     parts: &mut Parts<MethodDraft>,
-    table: &IndexMap<PlaceKey, usize>,
+    table: &HashMap<PlaceKey, usize>,
     method: MethodDraft,
 ) -> Result<(), Memory>
     ensures { OnOk result (IsAdded parts.old method.kernel (get same_key table.now (key_of method)) method parts.new) }
@@ -76,7 +76,7 @@ fn add(
 fn split(
     alloc: Global,
     methods: Vec<MethodDraft>,
-    table: &IndexMap<PlaceKey, usize>,
+    table: &HashMap<PlaceKey, usize>,
 ) -> Result<Parts<MethodDraft>, Memory>
     ensures { IfOk result (λ parts. IsSplit (λ (m : MethodDraft). m.kernel) (λ m. get same_key table.now (key_of m)) methods.items parts) }
 {

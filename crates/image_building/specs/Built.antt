@@ -2,7 +2,7 @@
 use Rattle.std.specs.Prelude.{◌≡◌, ℕ, nat_eq}
 use Rattle.std.specs.declared.hash.FoldHasher.{FoldHasher}
 use Rattle.std.specs.declared.hash.BuildHasherDefault.{BuildHasherDefault}
-use Rattle.indexmap.specs.IndexMap.{IndexMap, get}
+use Rattle.std.specs.HashMap.{HashMap, get}
 use Rattle.class_table.specs.Finding.{named_in}
 use Rattle.class_table.specs.Slots.{Slots}
 use Rattle.class_table.specs.Valid.{IsOrderly}
@@ -10,7 +10,7 @@ use Rattle.live_slots.specs.Live.{AllLive}
 
 -- slots of classes by name
 abbrev pub ClassTable : Type 0
-ClassTable = IndexMap ℕ ℕ (BuildHasherDefault FoldHasher)
+ClassTable = HashMap ℕ ℕ (BuildHasherDefault FoldHasher)
 
 -- the image so far is orderly, its slots are live, and a table gives the slot of each of its classes by name
 pub record IsBuilt (table : ClassTable) (s : Slots) : Type 0 where

@@ -11,9 +11,9 @@ use crate::doits::add_doits;
 use crate::methods::add_methods;
 use class_table::Image;
 use image_draft::Draft;
-use indexmap::IndexMap;
 use rb_base::{Memory, Names};
 use std::alloc::Global;
+use std::collections::HashMap;
 
 /// An image of nothing but names.
 fn image_with(alloc: Global, names: Names) -> Image
@@ -41,7 +41,7 @@ fn fill(alloc: Global, image: &mut Image, draft: Draft) -> Result<(), Memory>
     ensures live { OnOk result (AllLive image.new) }
 {
     let parts = draft.into_parts()?;
-    let mut table = IndexMap::new(alloc);
+    let mut table = HashMap::new(alloc);
     add_classes(image, &mut table, parts.classes)?;
     add_methods(image, &table, parts.methods)?;
     add_doits(image, parts.doits)?;

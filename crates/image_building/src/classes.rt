@@ -2,7 +2,7 @@
 ghost use Rattle.std.specs.Prelude.{◌≡◌, ◌<◌, ◌∷◌, ◌++◌, [], ℕ, length, nat_eq, true, false, if◌then◌else◌, Some, OnOk};
 ghost use Rattle.std.specs.List.{AllByRecursion};
 ghost use Rattle.std.specs.Option.{ForSome, option_and_then};
-ghost use Rattle.indexmap.specs.IndexMap.{get};
+ghost use Rattle.std.specs.HashMap.{get};
 ghost use Rattle.image_model.specs.ImageNames.{ClassNames};
 ghost use Rattle.image_model.specs.Valid.{SuperclassesStandBefore};
 ghost use Rattle.class_table.specs.View.{number_image};
@@ -12,18 +12,18 @@ ghost use Rattle.image_building.specs.Built.{IsBuilt};
 
 use class_table::{ClassId, ClassRec, Image};
 use image_draft::ClassDraft;
-use indexmap::IndexMap;
 use rb_base::{Memory, NameId};
+use std::collections::HashMap;
 
 /// The slot of the class of a name, if there is a name and such a class.
-fn slot_named(table: &IndexMap<usize, ClassId>, name: Option<NameId>) -> Option<ClassId>
+fn slot_named(table: &HashMap<usize, ClassId>, name: Option<NameId>) -> Option<ClassId>
     ensures { result ≡ option_and_then (get nat_eq table.now) name }
 {
     table.get(&name?.0).copied()
 }
 
 /// A class with its superclass by slot.
-fn class_rec(table: &IndexMap<usize, ClassId>, class: ClassDraft) -> ClassRec
+fn class_rec(table: &HashMap<usize, ClassId>, class: ClassDraft) -> ClassRec
     ensures { result ≡ record {
       name = class.name;
       superclass = option_and_then (get nat_eq table.now) class.superclass;
@@ -49,7 +49,7 @@ fn class_rec(table: &IndexMap<usize, ClassId>, class: ClassDraft) -> ClassRec
 }
 
 /// Notes the slot of a class under its name.
-fn note(table: &mut IndexMap<usize, ClassId>, name: NameId, slot: ClassId) -> Result<(), Memory>
+fn note(table: &mut HashMap<usize, ClassId>, name: NameId, slot: ClassId) -> Result<(), Memory>
     ensures { OnOk result ((other : ℕ) → get nat_eq table.new other ≡ (if nat_eq name other then Some slot else get nat_eq table.old other)) }
 {
     table.insert(name.0, slot)?;
@@ -59,7 +59,7 @@ fn note(table: &mut IndexMap<usize, ClassId>, name: NameId, slot: ClassId) -> Re
 /// Adds a class behind those that are there, to an image that has no methods.
 fn add_class(
     image: &mut Image,
-    table: &mut IndexMap<usize, ClassId>,
+    table: &mut HashMap<usize, ClassId>,
     class: ClassDraft,
 ) -> Result<(), Memory>
     requires built { IsBuilt table.old image.old }
@@ -81,7 +81,7 @@ fn add_class(
 /// Adds classes, each behind its superclass, to an image that has none.
 pub fn add_classes(
     image: &mut Image,
-    table: &mut IndexMap<usize, ClassId>,
+    table: &mut HashMap<usize, ClassId>,
     classes: Vec<ClassDraft>,
 ) -> Result<(), Memory>
     requires built { IsBuilt table.old image.old }

@@ -1,7 +1,7 @@
 // The methods of an image that is built.
 ghost use Rattle.std.specs.Prelude.{◌≡◌, ◌<◌, ◌∷◌, ◌++◌, [], length, map, nat_eq, is_some, true, Some, OnOk};
 ghost use Rattle.std.specs.List.{AllByRecursion};
-ghost use Rattle.indexmap.specs.IndexMap.{get};
+ghost use Rattle.std.specs.HashMap.{get};
 ghost use Rattle.tree_model.specs.AllNames.{MethodNames};
 ghost use Rattle.st_tree.specs.View.{method_of};
 ghost use Rattle.image_model.specs.ImageNames.{EntryNames};
@@ -14,11 +14,11 @@ ghost use Rattle.image_building.specs.Built.{IsBuilt};
 
 use class_table::{ClassId, Image, MethodRec};
 use image_draft::MethodDraft;
-use indexmap::IndexMap;
 use rb_base::{Memory, NameId};
+use std::collections::HashMap;
 
 /// The slot of the class of a name that a table has.
-fn slot_of(table: &IndexMap<usize, ClassId>, name: NameId) -> ClassId
+fn slot_of(table: &HashMap<usize, ClassId>, name: NameId) -> ClassId
     requires { is_some (get nat_eq table.now name) ≡ true }
     ensures { Some result ≡ get nat_eq table.now name }
 {
@@ -28,7 +28,7 @@ fn slot_of(table: &IndexMap<usize, ClassId>, name: NameId) -> ClassId
 /// Adds a method of a class that is there.
 fn add_method(
     image: &mut Image,
-    table: &IndexMap<usize, ClassId>,
+    table: &HashMap<usize, ClassId>,
     method: MethodDraft,
 ) -> Result<(), Memory>
     requires built { IsBuilt table.now image.old }
@@ -55,7 +55,7 @@ fn add_method(
 /// Adds methods of classes that are there to an image that has none: those of the slots that are not empty, in order.
 pub fn add_methods(
     image: &mut Image,
-    table: &IndexMap<usize, ClassId>,
+    table: &HashMap<usize, ClassId>,
     methods: Vec<Option<MethodDraft>>,
 ) -> Result<(), Memory>
     requires built { IsBuilt table.now image.old }

@@ -3,7 +3,7 @@ use Rattle.std.proofs.Common.{◌≡◌, ℕ, Bool, true, false, not, cond, ◌&
 use Rattle.std.specs.Option.{option_map_or, option_and_then}
 use Rattle.std.proofs.lemmas.List.{map-append}
 use Rattle.image_model.proofs.Lists.{length-map}
-use Rattle.indexmap.specs.IndexMap.{get}
+use Rattle.std.specs.HashMap.{get}
 use Rattle.st_tree.specs.View.{method_of}
 use Rattle.image_model.specs.Image.{EntryOf}
 use Rattle.image_model.specs.Lookup.{is_method}

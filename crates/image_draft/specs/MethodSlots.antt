@@ -5,7 +5,7 @@ use Rattle.std.specs.List.{filter_map}
 use Rattle.std.specs.Option.{option_map_or}
 use Rattle.std.specs.declared.hash.FoldHasher.{FoldHasher}
 use Rattle.std.specs.declared.hash.BuildHasherDefault.{BuildHasherDefault}
-use Rattle.indexmap.specs.IndexMap.{IndexMap, get}
+use Rattle.std.specs.HashMap.{HashMap, get}
 use Rattle.image_draft.specs.declared.method_draft.MethodDraft.{MethodDraft}
 use Rattle.image_draft.specs.declared.method_slots.MethodKey.{MethodKey}
 use Rattle.image_draft.specs.declared.method_slots.MethodSlots.{MethodSlots}
@@ -20,7 +20,7 @@ key_of m = record { class = m.class; meta = m.meta; selector = m.tree.selector }
 
 -- places by keys
 abbrev pub PlaceTable : Type 0
-PlaceTable = IndexMap MethodKey ℕ (BuildHasherDefault FoldHasher)
+PlaceTable = HashMap MethodKey ℕ (BuildHasherDefault FoldHasher)
 
 -- the methods that are there
 abbrev pub those_there : List (Option MethodDraft) → List MethodDraft

@@ -1,6 +1,6 @@
 // Methods in slots.
 ghost use Rattle.std.specs.Prelude.{◌≡◌, ◌+◌, ◌<◌, ◌∷◌, ◌++◌, [], filter, if◌then◌else◌, length, map, not, nat_eq, is_some, option_copied, slice_get, slice_set, vec_len, Option, None, Some, IfNone, IfSome, IfOk, OnErr, OnOk};
-ghost use Rattle.indexmap.specs.IndexMap.{get};
+ghost use Rattle.std.specs.HashMap.{get};
 ghost use Rattle.image_model.specs.Lookup as lookup;
 ghost use Rattle.st_tree.specs.View.{method_of};
 ghost use Rattle.file_model.specs.Causes.{first_cause};
@@ -15,9 +15,9 @@ ghost use Rattle.std.specs.Option.{option_and_then};
 
 use crate::method_draft::MethodDraft;
 use file_faults::ImageCause;
-use indexmap::IndexMap;
 use rb_base::{Memory, NameId};
 use std::alloc::Global;
+use std::collections::HashMap;
 
 /// How many methods there may be, those of the kernel among them.
 const METHOD_LIMIT: usize = 200_000;
@@ -55,7 +55,7 @@ fn key_of(method: &MethodDraft) -> MethodKey
 pub struct MethodSlots {
     pub(crate) slots: Vec<Option<MethodDraft>>,
     /// The place of each method that is there.
-    pub(crate) places: IndexMap<MethodKey, usize>,
+    pub(crate) places: HashMap<MethodKey, usize>,
     /// How many methods are there.
     pub(crate) count: usize,
 }
@@ -68,7 +68,7 @@ impl MethodSlots {
     {
         MethodSlots {
             slots: Vec::new(alloc),
-            places: IndexMap::new(alloc),
+            places: HashMap::new(alloc),
             count: 0,
         }
     }
@@ -195,7 +195,7 @@ impl MethodSlots {
         ensures unlisted { (q : MethodKey) → get same_key self.new.places q ≡ (if same_key key q then None else get same_key self.old.places q) }
         ensures rest { self.new ≡ record self.old { places = self.new.places } }
     {
-        self.places.swap_remove(&key)
+        self.places.remove(&key)
     }
 
     /// Takes the method of a key away, if there is one.

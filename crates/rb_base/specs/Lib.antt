@@ -1,4 +1,5 @@
 pub mod Names
+pub mod NameTable
 pub mod Doubling
 pub mod Outside
 pub mod OutputInMemory

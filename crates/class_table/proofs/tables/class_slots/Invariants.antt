@@ -1,6 +1,6 @@
 use Rattle.std.proofs.Common.{take, None}
 use Rattle.std.specs.Prelude.{nat_eq}
-use Rattle.indexmap.specs.IndexMap.{get}
+use Rattle.std.specs.HashMap.{get}
 use Rattle.class_table.specs.View.{class_name}
 use Rattle.class_table.specs.Tables.{HoldsSlots}
 use Rattle.class_table.proofs.tables.class_slots.Given as goal

@@ -1,6 +1,6 @@
 use Rattle.std.proofs.Common.{◌≡◌, ℕ, List, true, is_some, None, Some, sym, ap, subst, ◌∙◌, arith, nat_eq}
 use Rattle.std.specs.List.{list_any}
-use Rattle.indexmap.specs.IndexMap.{get}
+use Rattle.std.specs.HashMap.{get}
 use Rattle.class_table.specs.Finding.{same_key}
 use Rattle.class_table.proofs.Walks.{none-from_is_some}
 use Rattle.class_table.proofs.Held.{take-whole, Some-one}

@@ -1,5 +1,5 @@
 use Rattle.std.proofs.Common.{take, None}
-use Rattle.indexmap.specs.IndexMap.{get}
+use Rattle.std.specs.HashMap.{get}
 use Rattle.class_table.specs.Finding.{same_key, key_in}
 use Rattle.class_table.specs.Tables.{HoldsSlots}
 use Rattle.class_table.proofs.tables.method_slots.Given as goal

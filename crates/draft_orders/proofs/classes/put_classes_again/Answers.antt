@@ -1,5 +1,5 @@
 use Rattle.std.proofs.Common.{◌≡◌, ℕ, Option, reverse, nat_eq, ap, ◌∙◌}
-use Rattle.indexmap.specs.IndexMap.{get}
+use Rattle.std.specs.HashMap.{get}
 use Rattle.image_model.specs.Image.{ClassOf}
 use Rattle.file_model.specs.Places.{class_place, put_again_behind}
 use Rattle.draft_orders.proofs.Split.{if_ok_more, joined_is}

@@ -1,6 +1,6 @@
 use Rattle.std.proofs.Common.{◌≡◌, ℕ, List, ◌∷◌, nat_eq, subst, rules}
 use Rattle.std.specs.Vec.Iter.{into_iter_items}
-use Rattle.indexmap.specs.IndexMap.{get}
+use Rattle.std.specs.HashMap.{get}
 use Rattle.image_model.specs.Image.{ClassOf}
 use Rattle.draft_orders.proofs.Split.{Splits, split_more}
 use Rattle.draft_orders.proofs.classes.split.Goals as goal

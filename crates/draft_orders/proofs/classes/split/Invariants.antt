@@ -1,5 +1,5 @@
 use Rattle.std.proofs.Common.{ℕ, nat_eq}
-use Rattle.indexmap.specs.IndexMap.{get}
+use Rattle.std.specs.HashMap.{get}
 use Rattle.image_model.specs.Image.{ClassOf}
 use Rattle.std.specs.Vec.Iter.{into_iter_items}
 use Rattle.draft_orders.proofs.Split.{Splits}

@@ -1,5 +1,5 @@
 use Rattle.std.proofs.Common.{◌≡◌, ℕ, Option, map, reverse, nat_eq, ap, ◌∙◌}
-use Rattle.indexmap.specs.IndexMap.{get}
+use Rattle.std.specs.HashMap.{get}
 use Rattle.image_model.specs.Image.{EntryOf}
 use Rattle.file_model.specs.Places.{method_place, put_again_behind}
 use Rattle.image_draft.specs.declared.method_draft.MethodDraft.{MethodDraft}

@@ -1,6 +1,6 @@
 use Rattle.std.proofs.Common.{◌≡◌, List, ◌∷◌, subst, rules}
 use Rattle.std.specs.Vec.Iter.{into_iter_items}
-use Rattle.indexmap.specs.IndexMap.{get}
+use Rattle.std.specs.HashMap.{get}
 use Rattle.image_draft.specs.declared.method_draft.MethodDraft.{MethodDraft}
 use Rattle.draft_orders.specs.Tables.{same_key, key_of}
 use Rattle.draft_orders.proofs.Split.{Splits, split_more}

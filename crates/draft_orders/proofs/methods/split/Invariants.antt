@@ -1,4 +1,4 @@
-use Rattle.indexmap.specs.IndexMap.{get}
+use Rattle.std.specs.HashMap.{get}
 use Rattle.std.specs.Vec.Iter.{into_iter_items}
 use Rattle.image_draft.specs.declared.method_draft.MethodDraft.{MethodDraft}
 use Rattle.draft_orders.specs.Tables.{same_key, key_of}

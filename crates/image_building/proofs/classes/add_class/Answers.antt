@@ -1,6 +1,6 @@
 use Rattle.std.proofs.Common.{◌≡◌, ℕ, ◌∷◌, [], ◌++◌, Some, Result, sym, ap, subst}
 use Rattle.std.specs.Prelude.{nat_eq, if◌then◌else◌, OnOk}
-use Rattle.indexmap.specs.IndexMap.{get}
+use Rattle.std.specs.HashMap.{get}
 use Rattle.image_model.specs.Image.{ClassOf}
 use Rattle.rb_base.specs.declared.memory.Memory.{Memory}
 use Rattle.class_table.specs.View.{number_image}

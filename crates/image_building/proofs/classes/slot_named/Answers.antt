@@ -1,7 +1,7 @@
 use Rattle.std.proofs.Common.{sym, ap, ◌∙◌}
 use Rattle.std.specs.Prelude.{nat_eq}
 use Rattle.std.specs.Option.{option_and_then}
-use Rattle.indexmap.specs.IndexMap.{get}
+use Rattle.std.specs.HashMap.{get}
 use Rattle.image_building.proofs.classes.slot_named.Goals as goal
 
 pub returns : goal.returns

@@ -1,5 +1,5 @@
 use Rattle.std.proofs.Common.{ℕ, List, None, nat_eq, sym, ap, subst, ◌∙◌}
-use Rattle.indexmap.specs.IndexMap.{get}
+use Rattle.std.specs.HashMap.{get}
 use Rattle.class_table.specs.declared.record.ClassRec.{ClassRec}
 use Rattle.class_table.specs.declared.record.MethodRec.{MethodRec}
 use Rattle.class_table.specs.Order.{OrderOf}

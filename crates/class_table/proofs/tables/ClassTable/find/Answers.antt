@@ -1,5 +1,5 @@
 use Rattle.std.proofs.Common.{◌∙◌, nat_eq}
-use Rattle.indexmap.specs.IndexMap.{get}
+use Rattle.std.specs.HashMap.{get}
 use Rattle.class_table.proofs.Known.{class_found}
 use Rattle.class_table.proofs.tables.ClassTable.find.Goals as goal
 

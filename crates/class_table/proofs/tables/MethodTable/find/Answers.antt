@@ -1,5 +1,5 @@
 use Rattle.std.proofs.Common.{sym, ◌∙◌}
-use Rattle.indexmap.specs.IndexMap.{get}
+use Rattle.std.specs.HashMap.{get}
 use Rattle.class_table.specs.Finding.{same_key}
 use Rattle.class_table.proofs.Known.{method_found, lent_found}
 use Rattle.class_table.proofs.tables.MethodTable.find.Goals as goal

@@ -1,5 +1,5 @@
 use Rattle.std.proofs.Common.{◌≡◌, ◌+◌, false, cond, length, Some, Result, Ok, Err, OnOk, is_err, sym, ap, ◌∙◌, arith, true≢false}
-use Rattle.indexmap.specs.IndexMap.{get}
+use Rattle.std.specs.HashMap.{get}
 use Rattle.image_draft.specs.declared.method_slots.MethodSlots.{MethodSlots}
 use Rattle.image_draft.specs.MethodSlots.{same_key, those_there}
 use Rattle.image_draft.proofs.SlotLists.{there-last}

@@ -1,6 +1,6 @@
 use Rattle.std.proofs.Common.{Bool, cond, Some, None, is_some, sym, ap, ◌∙◌}
 use Rattle.std.proofs.lemmas.Bool.{le-leb, lt-leb}
-use Rattle.indexmap.specs.IndexMap.{get}
+use Rattle.std.specs.HashMap.{get}
 use Rattle.file_model.specs.Causes.{TooMany}
 use Rattle.file_model.specs.Refusals.{method_limit}
 use Rattle.image_draft.specs.MethodSlots.{same_key, key_of, those_there}
