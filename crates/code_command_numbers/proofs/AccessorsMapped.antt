@@ -11,13 +11,13 @@ use Rattle.command_model.specs.Walk.{rebuilt_sequence, rebuilt_method}
 use Rattle.command_model.specs.MethodEffects.{new_method, method_added}
 use Rattle.command_model.specs.Accessors.{getter, setter_of, accessing, made, is_meant, method_made, doit_made, variable_abstracted}
 use Rattle.command_numbers.specs.KeepsAsked.{KeepsWriting}
-use Rattle.code_command_numbers.proofs.Lists.{chosen, map-total}
-use Rattle.code_command_numbers.proofs.Everywhere.{Every}
-use Rattle.code_command_numbers.proofs.NodesAsked.{is_variable-map}
-use Rattle.code_command_numbers.proofs.Classes.{same-map}
-use Rattle.code_command_numbers.proofs.UsesAsked.{means-there, means_in_doit-there}
-use Rattle.code_command_numbers.proofs.ChangedAtPlaces.{method_text, doit_text, some_use}
-use Rattle.code_command_numbers.proofs.TreesRebuilt.{IsMadeAlike, rebuilt_sequence-map, rebuilt_method-map}
+use Rattle.command_numbers.proofs.Lists.{chosen, map-total}
+use Rattle.command_numbers.proofs.Everywhere.{Every}
+use Rattle.command_numbers.proofs.NodesAsked.{is_variable-map}
+use Rattle.command_numbers.proofs.Classes.{same-map}
+use Rattle.command_numbers.proofs.UsesAsked.{means-there, means_in_doit-there}
+use Rattle.command_numbers.proofs.ChangedAtPlaces.{method_text, doit_text, some_use}
+use Rattle.command_numbers.proofs.TreesRebuilt.{IsMadeAlike, rebuilt_sequence-map, rebuilt_method-map}
 
 -- an image with one more method
 method_added-map : {M N : Type 0} (f : M → N) (c : M) (meta : Bool) (protocol text : List ℕ) (tree : MethodOf M) (i : ImageOf M)

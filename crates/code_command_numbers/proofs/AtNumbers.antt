@@ -20,13 +20,14 @@ use Rattle.command_model.specs.Judged.{first_false, judged}
 use Rattle.command_numbers.specs.MappedCommands.{map_command, map_condition}
 use Rattle.command_numbers.specs.CommandNames.{CommandNames, ConditionNames}
 use Rattle.command_numbers.specs.WithoutMove.{IsWithoutMove}
+use Rattle.command_numbers.proofs.CommandsMapped.{map_command-id, map_condition-id, list-same, option-same, result-same}
+use Rattle.command_numbers.proofs.Tables.{KeepsWriting-number_writing, KeepsWriting-more}
 use Rattle.code_command_numbers.specs.SelfNumber.{IsNumberOfSelf}
-use Rattle.code_command_numbers.proofs.CommandsMapped.{map_command-id, map_condition-id, list-same, option-same, result-same}
 use Rattle.code_command_numbers.proofs.MovesCode.{moves_or_not, of_move_or_not}
 use Rattle.code_command_numbers.proofs.MovedNamed.{moved_needs-named, moved_holds-named, moved_effect-named}
 use Rattle.code_command_numbers.proofs.AllNamed.{first_by, judged_by, all_needs-named, all_holds-named, all_effect-named}
 use Rattle.code_command_numbers.proofs.PartsUnasked.{no_move-mapped, without_move-mapped, needs-parts, holds-parts, effect-parts}
-use Rattle.code_command_numbers.proofs.Tables.{KeepsMoves-number_asked, KeepsWriting-number_writing, KeepsMoves-more, KeepsWriting-more}
+use Rattle.code_command_numbers.proofs.Tables.{KeepsMoves-number_asked, KeepsMoves-more}
 
 -- over their texts, by what is known of the commands that move no code
 module _ (names : List (List ℕ)) (self_number : ℕ) (part_of : Locating) (distinct : HasNoTwice names) (is_self : IsNumberOfSelf names self_number) (i : ImageOf ℕ) (p : ImageNames (λ n. n < length names) i) where

@@ -21,11 +21,11 @@ use Rattle.command_model.specs.Places.{is_local}
 use Rattle.command_model.specs.Sequences.{single, put_in, with_tree}
 use Rattle.command_model.specs.Extracted.{put_behind_last, statements_of_part, part_replaced, names_in, free_temporaries, call_of, method_of, method_extracted}
 use Rattle.command_numbers.specs.KeepsAsked.{KeepsAsked, KeepsWriting}
-use Rattle.code_command_numbers.proofs.Lists.{chosen, any-total, filter-total, made-total}
-use Rattle.code_command_numbers.proofs.Everywhere.{Every, every_tree, every_statements}
-use Rattle.code_command_numbers.proofs.Classes.{is_method_of-map}
-use Rattle.code_command_numbers.proofs.ChangedAtPlaces.{method_text}
-use Rattle.code_command_numbers.proofs.TemporariesMapped.{local_in-there, with_tree-map}
+use Rattle.command_numbers.proofs.Lists.{chosen, any-total, filter-total, made-total}
+use Rattle.command_numbers.proofs.Everywhere.{Every, every_tree, every_statements}
+use Rattle.command_numbers.proofs.Classes.{is_method_of-map}
+use Rattle.command_numbers.proofs.ChangedAtPlaces.{method_text}
+use Rattle.command_numbers.proofs.TemporariesMapped.{local_in-there, with_tree-map}
 use Rattle.code_command_numbers.proofs.ScopesMapped.{statements_at-map}
 use Rattle.code_command_numbers.proofs.SequencesMapped.{run_of-map, put_in-map, sequence_changed-map}
 

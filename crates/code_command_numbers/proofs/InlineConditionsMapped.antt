@@ -20,39 +20,22 @@ use Rattle.rename_model.specs.Conditions.{stands_below}
 use Rattle.command_model.specs.SameMethods.{same_meaning}
 use Rattle.command_model.specs.Asked.{AskedOf}
 use Rattle.command_model.specs.Places.{is_return, is_of_block, innermost, sequence_round, whole_statement, stands_in_closure, SendOf}
-use Rattle.command_model.specs.Plain.{is_plain}
 use Rattle.command_model.specs.Inlined.{answered, unfolded, passed_for}
 use Rattle.command_model.specs.ParameterConditions.{formal_reads}
 use Rattle.command_model.specs.PartConditions.{is_assigned_in_the_open}
-use Rattle.command_model.specs.InlineConditions.{makes_control, is_self_send, is_one_target, is_inlinable, are_actuals_plain, captures_nothing, makes_no_control}
+use Rattle.command_model.specs.InlineConditions.{is_name_that, answers_last, is_statement_between, makes_control, is_self_send, is_one_target, is_inlinable, is_actual_plain, are_actuals_plain, captures_nothing, makes_no_control}
+use Rattle.command_numbers.proofs.Lists.{some-map, empty-map, enumerate-map, any-same, any-total, all-total, or-total}
+use Rattle.command_numbers.proofs.Everywhere.{Every, every_tree}
+use Rattle.command_numbers.proofs.NodesAsked.{mapped_node, used-total, any_node, same_meaning-map}
+use Rattle.command_numbers.proofs.Classes.{same-map, own_method-there, is_method_of-map, stands_below-map}
+use Rattle.command_numbers.proofs.UsesAsked.{means-there}
+use Rattle.command_numbers.proofs.MethodConditionsMapped.{lookup-there, has_super-map}
+use Rattle.command_numbers.proofs.ParameterConditionsMapped.{formal_reads-map}
 use Rattle.code_command_numbers.specs.KeepsMoves.{KeepsMoves}
-use Rattle.code_command_numbers.proofs.Lists.{some-map, empty-map, enumerate-map, any-same, any-total, all-total, or-total}
-use Rattle.code_command_numbers.proofs.Everywhere.{Every, every_tree}
-use Rattle.code_command_numbers.proofs.NodesAsked.{mapped_node, used-total, any_node, same_meaning-map}
-use Rattle.code_command_numbers.proofs.Classes.{same-map, own_method-there, is_method_of-map, stands_below-map}
-use Rattle.code_command_numbers.proofs.UsesAsked.{means-there}
-use Rattle.code_command_numbers.proofs.MethodConditionsMapped.{lookup-there, has_super-map}
-use Rattle.code_command_numbers.proofs.ParameterConditionsMapped.{formal_reads-map}
 use Rattle.code_command_numbers.proofs.ScopesMapped.{is_control-map}
 use Rattle.code_command_numbers.proofs.PlacesMapped.{map_send, innermost-map, sequence_round-map, whole_statement-map, is_return-map, stands_in_closure-map}
 use Rattle.code_command_numbers.proofs.InlinedMapped.{answered-map, passed_for-map, unfolded-map}
 use Rattle.code_command_numbers.proofs.PartConditionsMapped.{local, count_at-map, local-map, is_assigned_in_the_open-map, is_self-map, is_plain-map}
-
--- whether a node is a name that passes a test
-abbrev is_name_that : {N : Type 0} → (N → Bool) → TreeOf N → Bool
-is_name_that test (var n) = test n
-is_name_that test t = false
-
--- no statement but the last one is a return
-abbrev answers_last : {N : Type 0} → StatementsOf N → Bool
-answers_last no_statements = true
-answers_last (more_statements c t no_statements) = true
-answers_last (more_statements c t ss) = not (is_return t) && answers_last ss
-
--- whether a path leads to a whole statement that does not end a block
-abbrev is_statement_between : {N : Type 0} → MethodOf N → List ℕ → Bool
-is_statement_between m path =
-    option_map_or (λ k. innermost m path == 0 || nat_lt (suc k) (count (statement_trees (statements_at m.body (sequence_round m path))))) (whole_statement m path) false
 
 module _ {M N : Type 0} (f : M → N) where
   is_name_that-map : (p : M → Bool) (q : N → Bool) → ((n : M) → q (f n) ≡ p n) → (t : TreeOf M) → is_name_that q (map_names f t) ≡ is_name_that p t
@@ -65,12 +48,12 @@ module _ {M N : Type 0} (f : M → N) where
   is_name_that-map p q e (brace ts) = refl
   is_name_that-map p q e (return t) = refl
 
-  answers_last-map : (ss : StatementsOf M) → answers_last (map_statements f ss) ≡ answers_last ss
+  pub answers_last-map : (ss : StatementsOf M) → answers_last (map_statements f ss) ≡ answers_last ss
   answers_last-map no_statements = refl
   answers_last-map (more_statements c t no_statements) = refl
   answers_last-map (more_statements c t (more_statements d u ss)) = λ i. not (is_return-map f t i) && answers_last-map (more_statements d u ss) i
 
-  is_statement_between-map : (m : MethodOf M) (path : List ℕ) → is_statement_between (map_method f m) path ≡ is_statement_between m path
+  pub is_statement_between-map : (m : MethodOf M) (path : List ℕ) → is_statement_between (map_method f m) path ≡ is_statement_between m path
   is_statement_between-map m path =
       (λ i. option_map_or (λ k. innermost-map f m path i == 0 || nat_lt (suc k) (count (statement_trees (statements_at (map_sequence f m.body) (sequence_round-map f m path i))))) (whole_statement-map f m path i) false)
       ∙ ap (λ (c : ℕ). option_map_or (λ k. innermost m path == 0 || nat_lt (suc k) c) (whole_statement m path) false) (count_at-map f m.body (sequence_round m path))
@@ -147,9 +130,8 @@ module _ {M N : Type 0} (f : M → N) (a : AskedOf M) (b : AskedOf N) (keeps : K
     by-map n transcript = refl
     by-map n undeclared = refl
 
-    actual-map : (t : TreeOf M) → is_plain b (map_image f i) (map_entry f m) e.path (map_names f t) || is_name_that (λ n. by_there n (means b.words (map_image f i) (map_entry f m) e.path n)) (map_names f t)
-        ≡ is_plain a i m e.path t || is_name_that (λ n. by n (means a.words i m e.path n)) t
-    actual-map t =
+    pub is_actual_plain-map : (t : TreeOf M) → is_actual_plain b (map_image f i) (map_entry f m) (map_send f e) (map_entry f target) (f formal) (map_names f t) ≡ is_actual_plain a i m e target formal t
+    is_actual_plain-map t =
         λ j. is_plain-map f a b keeps i m e.path t j
         || is_name_that-map f (λ n. by n (means a.words i m e.path n)) (λ n. by_there n (means b.words (map_image f i) (map_entry f m) e.path n))
         (λ n. ap (by_there (f n)) (means-there f a.words b.words keeps.asked.words i m e.path n) ∙ by-map n (means a.words i m e.path n)) t j
@@ -159,20 +141,11 @@ module _ {M N : Type 0} (f : M → N) (a : AskedOf M) (b : AskedOf N) (keeps : K
       ap (list_all passes_there) (enumerate-map f 0 target.tree.arguments)
       ∙ all-total (λ (x : ℕ × M). (x.0, f x.1)) passes passes_there same_answer (enumerate_from 0 target.tree.arguments)
     where
-      actual : M → TreeOf M → Bool
-      actual formal t = is_plain a i m e.path t || is_name_that (λ n. by m e target formal n (means a.words i m e.path n)) t
-
       passes : ℕ × M → Bool
-      passes x = option_map_or (actual x.1) (nth e.arguments x.0) false
+      passes x = option_map_or (is_actual_plain a i m e target x.1) (nth e.arguments x.0) false
 
       is_plain_there : N → TreeOf N → Bool
-      is_plain_there formal t = is_plain b (map_image f i) (map_entry f m) e.path t || is_name_that (λ n. held formal n (means b.words (map_image f i) (map_entry f m) e.path n)) t
-        where
-          held : N → N → MeaningOf N → Bool
-          held formal n (temporary scope) =
-              is_assigned_in_the_open b (map_method f m.tree) e.path scope n
-              && not (list_any (stands_in_closure b.words.tests.form (map_method f target.tree) 1) (formal_reads b (map_method f target.tree) formal))
-          held formal n meaning = false
+      is_plain_there formal t = is_actual_plain b (map_image f i) (map_entry f m) (map_send f e) (map_entry f target) formal t
 
       passes_there : ℕ × N → Bool
       passes_there x = option_map_or (is_plain_there x.1) (nth (map_trees f e.arguments) x.0) false
@@ -180,7 +153,7 @@ module _ {M N : Type 0} (f : M → N) (a : AskedOf M) (b : AskedOf N) (keeps : K
       same_answer : (x : ℕ × M) → passes_there (x.0, f x.1) ≡ passes x
       same_answer x =
           ap (λ (o : Option (TreeOf N)). option_map_or (is_plain_there (f x.1)) o false) (nth-map_trees f e.arguments x.0)
-          ∙ or-total (map_names f) (actual x.1) (is_plain_there (f x.1)) false (actual-map m e target x.1) (nth e.arguments x.0)
+          ∙ or-total (map_names f) (is_actual_plain a i m e target x.1) (is_plain_there (f x.1)) false (is_actual_plain-map m e target x.1) (nth e.arguments x.0)
 
   -- names that mean the same where a body stands
   captured_by : (m : EntryOf M) (path : List ℕ) (t : TreeOf M) → list_any (λ x. is_of_block (local b (map_method f m.tree) path x)) (free_names b.words.tests.same b.words.tests.is_pseudo (map_names f t))

@@ -10,11 +10,11 @@ use Rattle.command_model.specs.Places.{is_formal, SendOf, sequence_round, whole_
 use Rattle.command_model.specs.Sequences.{put_for, sequence_changed}
 use Rattle.command_model.specs.Inlined.{answered, last_unanswered, passed_as, passed_for, filled, unfolded, tree_inlined}
 use Rattle.command_numbers.specs.KeepsAsked.{KeepsAsked}
-use Rattle.code_command_numbers.proofs.Lists.{chosen}
-use Rattle.code_command_numbers.proofs.Everywhere.{Every}
-use Rattle.code_command_numbers.proofs.Classes.{same-map}
-use Rattle.code_command_numbers.proofs.TreesRebuilt.{IsMadeAlike, rebuilt_sequence-map}
-use Rattle.code_command_numbers.proofs.TemporariesMapped.{local_in-there}
+use Rattle.command_numbers.proofs.Lists.{chosen}
+use Rattle.command_numbers.proofs.Everywhere.{Every}
+use Rattle.command_numbers.proofs.Classes.{same-map}
+use Rattle.command_numbers.proofs.TreesRebuilt.{IsMadeAlike, rebuilt_sequence-map}
+use Rattle.command_numbers.proofs.TemporariesMapped.{local_in-there}
 use Rattle.code_command_numbers.proofs.PlacesMapped.{map_send, sequence_round-map, whole_statement-map}
 use Rattle.code_command_numbers.proofs.SequencesMapped.{put_for-map, sequence_changed-map}
 

@@ -1,5 +1,5 @@
 -- The conditions of a temporary that is replaced by what is assigned to it have the same answer once names are changed one to one.
-use Rattle.std.proofs.Common.{◌≡◌, ℕ, suc, ◌==◌, Bool, false, not, ◌&&◌, ◌||◌, nat_lt, nat_eq, List, [], ◌∷◌, ◌++◌, length, slice_get, ap, ◌∙◌}
+use Rattle.std.proofs.Common.{◌≡◌, ℕ, suc, ◌==◌, Bool, false, not, ◌&&◌, ◌||◌, nat_lt, nat_eq, List, length, slice_get, ap, ◌∙◌}
 use Rattle.std.specs.List.{list_any, list_all}
 use Rattle.std.specs.Option.{option_map_or}
 use Rattle.tree_model.specs.Tree.{map_names, map_method}
@@ -13,19 +13,16 @@ use Rattle.command_model.specs.Asked.{AskedOf}
 use Rattle.command_model.specs.Places.{innermost}
 use Rattle.command_model.specs.Temporaries.{LetOf, only, reads_of}
 use Rattle.command_model.specs.PartConditions.{is_first_evaluated}
-use Rattle.command_model.specs.LetConditions.{is_let_form, is_value_kept, is_value_no_control}
+use Rattle.command_model.specs.LetConditions.{let_path, is_let_form, is_value_kept, is_value_no_control}
+use Rattle.command_numbers.proofs.Lists.{all-total}
+use Rattle.command_numbers.proofs.Everywhere.{Every, every_tree}
 use Rattle.code_command_numbers.specs.KeepsMoves.{KeepsMoves}
-use Rattle.code_command_numbers.proofs.Lists.{all-total}
-use Rattle.code_command_numbers.proofs.Everywhere.{Every, every_tree}
 use Rattle.code_command_numbers.proofs.PlacesMapped.{innermost-map}
 use Rattle.code_command_numbers.proofs.LetsMapped.{map_let, reads_of-map}
 use Rattle.code_command_numbers.proofs.PartConditionsMapped.{count_at-map, is_plain-map, is_first_evaluated-map}
 use Rattle.code_command_numbers.proofs.InlineConditionsMapped.{makes_control-map, means_alike}
 
--- the path of the assignment, and where a place stands by it
-abbrev let_path : {N : Type 0} → LetOf N → List ℕ
-let_path e = e.sequence ++ e.number ∷ []
-
+-- where a place stands by an assignment
 abbrev is_before : {N : Type 0} → LetOf N → List ℕ → Bool
 is_before e path = option_map_or (λ k. nat_lt k e.number) (slice_get path (length e.sequence)) false
 

@@ -14,12 +14,12 @@ use Rattle.command_model.specs.Walk.{rebuilt_method}
 use Rattle.command_model.specs.Sequences.{single, put_in, put_for, sequence_changed}
 use Rattle.command_model.specs.Temporaries.{LetOf, only, is_declared_once, reads_of, let_of, temporary_extracted, temporary_inlined}
 use Rattle.command_numbers.specs.KeepsAsked.{KeepsAsked}
-use Rattle.code_command_numbers.proofs.Lists.{chosen, filter-total}
-use Rattle.code_command_numbers.proofs.Everywhere.{Every}
-use Rattle.code_command_numbers.proofs.NodesAsked.{mapped_node}
-use Rattle.code_command_numbers.proofs.Classes.{same-map}
-use Rattle.code_command_numbers.proofs.TreesRebuilt.{rebuilt_method-map}
-use Rattle.code_command_numbers.proofs.TemporariesMapped.{local_in-there, is_declared_once-map}
+use Rattle.command_numbers.proofs.Lists.{chosen, filter-total}
+use Rattle.command_numbers.proofs.Everywhere.{Every}
+use Rattle.command_numbers.proofs.NodesAsked.{mapped_node}
+use Rattle.command_numbers.proofs.Classes.{same-map}
+use Rattle.command_numbers.proofs.TreesRebuilt.{rebuilt_method-map}
+use Rattle.command_numbers.proofs.TemporariesMapped.{local_in-there, is_declared_once-map}
 use Rattle.code_command_numbers.proofs.PlacesMapped.{sequence_round-map, statement_round-map}
 use Rattle.code_command_numbers.proofs.SequencesMapped.{put_in-map, put_for-map, sequence_changed-map}
 

@@ -1,34 +1,19 @@
--- lemmas that `command_numbers` has for itself alone, as far as they are needed here
-mod Lists
-mod Everywhere
-mod NodesAsked
-mod Classes
-mod UsesAsked
-mod MethodConditionsMapped
-mod ChangedAtPlaces
-mod TreesRebuilt
-mod TemporariesMapped
-mod ParameterConditionsMapped
-mod Restricted
-mod RestrictedCommands
-mod CommandsMapped
-mod Tables
--- what holds of commands that move code, and of all commands
-mod ScopesMapped
-mod PlacesMapped
-mod SequencesMapped
-mod LetsMapped
-mod ExtractedMapped
-mod InlinedMapped
-mod AccessorsMapped
-mod PartConditionsMapped
-mod InlineConditionsMapped
-mod LetConditionsMapped
-mod MovesCode
-mod MovedEffects
-mod MovedHeights
-mod MovedConditions
-mod MovedNamed
-mod AllNamed
-mod PartsUnasked
-mod AtNumbers
+pub mod Tables
+pub mod ScopesMapped
+pub mod PlacesMapped
+pub mod SequencesMapped
+pub mod LetsMapped
+pub mod ExtractedMapped
+pub mod InlinedMapped
+pub mod AccessorsMapped
+pub mod PartConditionsMapped
+pub mod InlineConditionsMapped
+pub mod LetConditionsMapped
+pub mod MovesCode
+pub mod MovedEffects
+pub mod MovedHeights
+pub mod MovedConditions
+pub mod MovedNamed
+pub mod AllNamed
+pub mod PartsUnasked
+pub mod AtNumbers

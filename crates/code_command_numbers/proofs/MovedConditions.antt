@@ -22,10 +22,10 @@ use Rattle.command_model.specs.Holds.{holds}
 use Rattle.command_model.specs.Effects.{effect}
 use Rattle.command_numbers.specs.MappedCommands.{map_command, map_condition}
 use Rattle.command_numbers.specs.KeepsAsked.{KeepsWriting}
+use Rattle.command_numbers.proofs.Lists.{or-total, made-total}
+use Rattle.command_numbers.proofs.Everywhere.{Every}
+use Rattle.command_numbers.proofs.TemporariesMapped.{users_method-map}
 use Rattle.code_command_numbers.specs.KeepsMoves.{KeepsMoves}
-use Rattle.code_command_numbers.proofs.Lists.{or-total, made-total}
-use Rattle.code_command_numbers.proofs.Everywhere.{Every}
-use Rattle.code_command_numbers.proofs.TemporariesMapped.{users_method-map}
 use Rattle.code_command_numbers.proofs.PlacesMapped.{map_send}
 use Rattle.code_command_numbers.proofs.LetsMapped.{map_let, let_of-map}
 use Rattle.code_command_numbers.proofs.ExtractedMapped.{free_temporaries-map}

@@ -15,11 +15,11 @@ use Rattle.command_model.specs.Temporaries.{let_of, temporary_extracted, tempora
 use Rattle.command_model.specs.CodeEffects.{path_of_expression, part_at, send_at, target_of, tree_inlining, tree_extracting, tree_without, tree_made, retreed, code_effect}
 use Rattle.command_numbers.specs.MappedCommands.{map_command}
 use Rattle.command_numbers.specs.KeepsAsked.{KeepsWriting}
+use Rattle.command_numbers.proofs.Everywhere.{Every}
+use Rattle.command_numbers.proofs.MethodConditionsMapped.{lookup-there}
+use Rattle.command_numbers.proofs.TemporariesMapped.{users_method-map, with_tree-map}
 use Rattle.code_command_numbers.specs.KeepsMoves.{KeepsMoves}
-use Rattle.code_command_numbers.proofs.Everywhere.{Every}
 use Rattle.code_command_numbers.proofs.MovesCode.{MovesCode}
-use Rattle.code_command_numbers.proofs.MethodConditionsMapped.{lookup-there}
-use Rattle.code_command_numbers.proofs.TemporariesMapped.{users_method-map, with_tree-map}
 use Rattle.code_command_numbers.proofs.PlacesMapped.{map_send, sent_by-map}
 use Rattle.code_command_numbers.proofs.LetsMapped.{map_let, let_of-map, temporary_extracted-map, temporary_inlined-map}
 use Rattle.code_command_numbers.proofs.ExtractedMapped.{method_extracted-map}

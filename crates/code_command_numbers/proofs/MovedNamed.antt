@@ -18,11 +18,10 @@ use Rattle.command_model.specs.Effects.{effect}
 use Rattle.command_numbers.specs.MappedCommands.{map_command, map_condition}
 use Rattle.command_numbers.specs.CommandNames.{CommandNames, ConditionNames}
 use Rattle.command_numbers.specs.KeepsAsked.{KeepsWriting}
+use Rattle.command_numbers.proofs.Everywhere.{Every, every_item, every_sequence, every_method, every_image}
+use Rattle.command_numbers.proofs.Restricted.{Restricted, plain, condition_names, by_restricted, by_restricted_condition}
+use Rattle.command_numbers.proofs.CommandsMapped.{map_command-map_command, map_condition-map_condition, list-twice}
 use Rattle.code_command_numbers.specs.KeepsMoves.{KeepsMoves}
-use Rattle.code_command_numbers.proofs.Everywhere.{Every, every_item, every_sequence, every_method, every_image}
-use Rattle.code_command_numbers.proofs.Restricted.{Restricted, plain}
-use Rattle.code_command_numbers.proofs.RestrictedCommands.{condition_names, by_restricted, by_restricted_condition}
-use Rattle.code_command_numbers.proofs.CommandsMapped.{map_command-map_command, map_condition-map_condition, list-twice}
 use Rattle.code_command_numbers.proofs.MovesCode.{MovesCode, IsOfMove}
 use Rattle.code_command_numbers.proofs.MovedConditions.{moved_needs-map, moved_holds-map, moved_effect-map}
 
@@ -42,7 +41,7 @@ of_move-unmapped f command Shallow moves = moves-unmapped f command moves
 of_move-unmapped f command condition moves = moves
 
 -- what is asked of names that have a fact, as of any others, where `self` has it
-abbrev restricted : {M : Type 0} (P : M → Type 0) (a : AskedOf M) → P a.self_name → AskedOf (Restricted P)
+abbrev pub restricted : {M : Type 0} (P : M → Type 0) (a : AskedOf M) → P a.self_name → AskedOf (Restricted P)
 restricted P a is_known = record {
   words = record {
     tests = record { same = λ x y. a.words.tests.same x.0 y.0; is_pseudo = λ x. a.words.tests.is_pseudo x.0; form = λ x. a.words.tests.form x.0 };
@@ -75,7 +74,7 @@ restricted_writing P writing = record {
 
 module _ {M : Type 0} (P : M → Type 0) (a : AskedOf M) (is_known : P a.self_name) where
   -- names that stay answer the same
-  as_plain : KeepsMoves Every (plain P) (restricted P a is_known) a
+  pub as_plain : KeepsMoves Every (plain P) (restricted P a is_known) a
   as_plain = record {
     asked = record {
       words = record {
@@ -123,10 +122,10 @@ module _ {M : Type 0} (P : M → Type 0) (a : AskedOf M) (is_known : P a.self_na
 
 module _ {M N : Type 0} (P : M → Type 0) (f : M → N) (a : AskedOf M) (b : AskedOf N) (keeps : KeepsMoves P f a b) where
   -- such a name, changed
-  abbrev changed : Restricted P → N
+  abbrev pub changed : Restricted P → N
   changed x = f x.0
 
-  kept : KeepsMoves Every changed (restricted P a keeps.self_known) b
+  pub kept : KeepsMoves Every changed (restricted P a keeps.self_known) b
   kept = record {
     asked = record {
       words = record {

@@ -17,63 +17,23 @@ use Rattle.image_model.specs.Means.{MeaningOf, pseudo, argument, temporary, vari
 use Rattle.command_model.specs.SameMethods.{is_super_node}
 use Rattle.command_model.specs.Asked.{AskedOf}
 use Rattle.command_model.specs.Parts.{Part, Expression, Run, inside_from}
-use Rattle.command_model.specs.Places.{part_nodes, is_return, is_in_place, stands_in_closure, innermost}
+use Rattle.command_model.specs.Places.{part_nodes, is_return, is_in_place, innermost}
 use Rattle.command_model.specs.Plain.{is_plain_name, is_plain}
-use Rattle.command_model.specs.PartConditions.{is_expression_that, has_no_return, is_value_unused, is_part, assigns_no_outer, is_assigned_in_the_open, are_temporaries_steady, is_first_evaluated}
+use Rattle.command_model.specs.PartConditions.{is_expression_that, has_no_return, is_value_unused, is_before_sends, is_part, is_declared_outside, assigns_outer, assigns_no_outer, is_assigned_in_the_open, is_steady, is_node_steady, are_temporaries_steady, are_first_plain, is_plain_before, is_first_evaluated}
+use Rattle.command_numbers.proofs.Lists.{any-total, all-total, or-total}
+use Rattle.command_numbers.proofs.Everywhere.{Every, every_method}
+use Rattle.command_numbers.proofs.NodesAsked.{mapped_node, is_super_node-map}
+use Rattle.command_numbers.proofs.Classes.{same-map}
+use Rattle.command_numbers.proofs.UsesAsked.{means-there}
+use Rattle.command_numbers.proofs.TemporariesMapped.{local_in-there}
+use Rattle.command_numbers.proofs.ParameterConditionsMapped.{is_atom_literal-map}
 use Rattle.code_command_numbers.specs.KeepsMoves.{KeepsMoves}
-use Rattle.code_command_numbers.proofs.Lists.{any-total, all-total, or-total}
-use Rattle.code_command_numbers.proofs.Everywhere.{Every, every_method}
-use Rattle.code_command_numbers.proofs.NodesAsked.{mapped_node, is_super_node-map}
-use Rattle.code_command_numbers.proofs.Classes.{same-map}
-use Rattle.code_command_numbers.proofs.UsesAsked.{means-there}
-use Rattle.code_command_numbers.proofs.TemporariesMapped.{local_in-there}
-use Rattle.code_command_numbers.proofs.ParameterConditionsMapped.{is_atom_literal-map}
 use Rattle.code_command_numbers.proofs.ScopesMapped.{statements_at-map, is_in_place-map}
 use Rattle.code_command_numbers.proofs.PlacesMapped.{innermost-map, part_nodes-map, is_return-map, stands_in_closure-map}
 
--- where a node steps into a cascade
-abbrev is_before_sends : {N : Type 0} → TreeOf N → ℕ → Bool
-is_before_sends (cascade r (more_messages s args ms)) k = nat_lt k (suc (count args))
-is_before_sends t k = true
-
--- whether a name is declared in a scope to which fewer steps lead
-abbrev is_declared_outside : ℕ → Local → Bool
-is_declared_outside inside (Argument scope) = nat_lt scope inside
-is_declared_outside inside (Temporary scope) = nat_lt scope inside
-is_declared_outside inside NotLocal = false
-
-module _ {N : Type 0} (a : AskedOf N) where
-  -- what a name at a place is in a method
-  abbrev pub local : MethodOf N → List ℕ → N → Local
-  local m path n = local_in a.words.tests.same a.words.tests.is_pseudo m path n
-
-  -- whether a node assigns what is declared outside
-  abbrev assigns_outer : MethodOf N → ℕ → Placed N → Bool
-  assigns_outer m inside (path, assign n t) = is_declared_outside inside (local m path n)
-  assigns_outer m inside (path, t) = false
-
-  -- whether a name or a node is steady
-  abbrev is_steady : MethodOf N → ℕ → List ℕ → N → (is_read : Bool) → Local → Bool
-  is_steady m inside path n is_read (Temporary scope) =
-      not (nat_lt scope inside)
-      || (is_assigned_in_the_open a m path scope n && not (is_read && stands_in_closure a.words.tests.form m inside path))
-  is_steady m inside path n is_read l = true
-
-  abbrev is_node_steady : MethodOf N → ℕ → Placed N → Bool
-  is_node_steady m inside (path, var n) = is_steady m inside path n true (local m path n)
-  is_node_steady m inside (path, assign n t) = is_steady m inside path n false (local m path n)
-  is_node_steady m inside (path, t) = true
-
-  -- whether the first trees are plain, and what is evaluated before a part
-  abbrev are_first_plain : ImageOf N → EntryOf N → List ℕ → ℕ → TreesOf N → Bool
-  are_first_plain i m path zero ts = true
-  are_first_plain i m path (suc k) no_trees = true
-  are_first_plain i m path (suc k) (more_trees t ts) = is_plain a i m path t && are_first_plain i m path k ts
-
-  abbrev is_plain_before : ImageOf N → EntryOf N → List ℕ → TreeOf N → List ℕ → Bool
-  is_plain_before i m path t [] = true
-  is_plain_before i m path t (k ∷ ks) =
-      is_before_sends t k && (are_first_plain i m path k (children t) && option_map_or (λ c. is_plain_before i m path c ks) (child t k) false)
+-- what a name at a place is in a method
+abbrev pub local : {N : Type 0} → AskedOf N → MethodOf N → List ℕ → N → Local
+local a m path n = local_in a.words.tests.same a.words.tests.is_pseudo m path n
 
 module _ {M N : Type 0} (f : M → N) where
   -- an expression that passes a test
@@ -100,7 +60,7 @@ module _ {M N : Type 0} (f : M → N) where
   is_value_unused-map m (Run [] first n) = refl
   is_value_unused-map m (Run (k ∷ ks) first n) = ap (nat_lt (first + n)) (count_at-map m.body (k ∷ ks))
 
-  is_before_sends-map : (t : TreeOf M) (k : ℕ) → is_before_sends (map_names f t) k ≡ is_before_sends t k
+  pub is_before_sends-map : (t : TreeOf M) (k : ℕ) → is_before_sends (map_names f t) k ≡ is_before_sends t k
   is_before_sends-map (var n) k = refl
   is_before_sends-map (literal l) k = refl
   is_before_sends-map (send r s args) k = refl
@@ -123,12 +83,12 @@ module _ {M N : Type 0} (f : M → N) (a : AskedOf M) (b : AskedOf N) (keeps : K
   local-map m path n = local_in-there f a.words b.words keeps.asked.words m path n
 
   -- what a part assigns
-  assigns_outer-map : (m : MethodOf M) (inside : ℕ) (e : Placed M) → assigns_outer b (map_method f m) inside (mapped_node f e) ≡ assigns_outer a m inside e
+  pub assigns_outer-map : (m : MethodOf M) (inside : ℕ) (e : Placed M) → assigns_outer b (map_method f m) inside (mapped_node f e) ≡ assigns_outer a m inside e
   assigns_outer-map m inside (path, var n) = refl
   assigns_outer-map m inside (path, literal l) = refl
   assigns_outer-map m inside (path, send r s args) = refl
   assigns_outer-map m inside (path, cascade r ms) = refl
-  assigns_outer-map m inside (path, assign n t) = ap (is_declared_outside inside) (local-map m path n)
+  assigns_outer-map m inside (path, assign n t) = ap (is_declared_outside b inside) (local-map m path n)
   assigns_outer-map m inside (path, block ps ts ss d) = refl
   assigns_outer-map m inside (path, brace ts) = refl
   assigns_outer-map m inside (path, return t) = refl
@@ -153,7 +113,7 @@ module _ {M N : Type 0} (f : M → N) (a : AskedOf M) (b : AskedOf N) (keeps : K
   steady_here : (m : MethodOf M) (inside : ℕ) (path : List ℕ) (n : M) (is_read : Bool) → is_steady b (map_method f m) inside path (f n) is_read (local b (map_method f m) path (f n)) ≡ is_steady a m inside path n is_read (local a m path n)
   steady_here m inside path n is_read = ap (is_steady b (map_method f m) inside path (f n) is_read) (local-map m path n) ∙ is_steady-map m inside path n is_read (local a m path n)
 
-  is_node_steady-map : (m : MethodOf M) (inside : ℕ) (e : Placed M) → is_node_steady b (map_method f m) inside (mapped_node f e) ≡ is_node_steady a m inside e
+  pub is_node_steady-map : (m : MethodOf M) (inside : ℕ) (e : Placed M) → is_node_steady b (map_method f m) inside (mapped_node f e) ≡ is_node_steady a m inside e
   is_node_steady-map m inside (path, var n) = steady_here m inside path n true
   is_node_steady-map m inside (path, literal l) = refl
   is_node_steady-map m inside (path, send r s args) = refl

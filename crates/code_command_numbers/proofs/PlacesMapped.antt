@@ -11,9 +11,9 @@ use Rattle.scope_model.specs.Scope.{PlacedScope, method_scope, scopes_round}
 use Rattle.image_model.specs.Words.{WordsOf, KeepsWords}
 use Rattle.command_model.specs.Parts.{Part, Expression, Run, is_within}
 use Rattle.command_model.specs.Places.{part_nodes, is_return, innermost, sequence_round, statement_round, whole_statement, is_closure_in, stands_in_closure, SendOf, as_send, sent_by}
-use Rattle.code_command_numbers.proofs.Lists.{get-map, any-total, filter-total, or-total}
-use Rattle.code_command_numbers.proofs.Everywhere.{Every}
-use Rattle.code_command_numbers.proofs.NodesAsked.{mapped_node}
+use Rattle.command_numbers.proofs.Lists.{get-map, any-total, filter-total, or-total}
+use Rattle.command_numbers.proofs.Everywhere.{Every}
+use Rattle.command_numbers.proofs.NodesAsked.{mapped_node}
 use Rattle.code_command_numbers.proofs.ScopesMapped.{map_placed_scope, scopes_round-map, is_closure_in-map}
 
 module _ {M N : Type 0} (f : M → N) where

@@ -12,8 +12,8 @@ use Rattle.scope_model.specs.FreeNames.{statements_at}
 use Rattle.scope_model.proofs.Changed.{map_scope, is_control-map_names}
 use Rattle.image_model.specs.Words.{WordsOf, KeepsWords}
 use Rattle.command_model.specs.Places.{is_closure_in, is_in_place}
-use Rattle.code_command_numbers.proofs.Lists.{or-total}
-use Rattle.code_command_numbers.proofs.Everywhere.{Every, every_tree}
+use Rattle.command_numbers.proofs.Lists.{or-total}
+use Rattle.command_numbers.proofs.Everywhere.{Every, every_tree}
 
 module _ {M N : Type 0} (f : M → N) where
   -- a placed scope with each name changed

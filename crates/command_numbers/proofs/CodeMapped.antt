@@ -5,7 +5,7 @@ use Rattle.image_model.specs.Image.{EntryOf, ImageOf, map_entry, map_image}
 use Rattle.rename_model.specs.NamesThere.{is_named_in_method}
 use Rattle.rename_model.specs.ClassRenamed.{WritingOf}
 use Rattle.command_model.specs.Asked.{AskedOf}
-use Rattle.command_model.specs.Commands.{CommandOf, AddParameter, RemoveParameter, AbstractInstVar, ExtractMethod, InlineMethod, ExtractTemp, InlineTemp, RenameTemp, MovesNoCode}
+use Rattle.command_model.specs.Commands.{CommandOf, AddParameter, AbstractInstVar, ExtractMethod, InlineMethod, ExtractTemp, InlineTemp, MovesNoCode}
 use Rattle.command_model.specs.Conditions.{ConditionOf, AtomLiteral, Declared, NotIn, Shallow}
 use Rattle.command_model.specs.Places.{users_method}
 use Rattle.command_model.specs.Sequences.{with_tree}

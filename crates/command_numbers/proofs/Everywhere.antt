@@ -36,7 +36,7 @@ module _ {N : Type 0} (P : N → Type 0) (h : (n : N) → P n) where
     every_literals (more_literals l ls) = (every_literal l, every_literals ls)
 
   mutual
-    every_tree : (t : TreeOf N) → AllNames P t
+    pub every_tree : (t : TreeOf N) → AllNames P t
     every_tree (var n) = h n
     every_tree (literal l) = every_literal l
     every_tree (send r s args) = (every_tree r, h s, every_trees args)
@@ -46,7 +46,7 @@ module _ {N : Type 0} (P : N → Type 0) (h : (n : N) → P n) where
     every_tree (brace ts) = every_trees ts
     every_tree (return t) = every_tree t
 
-    every_trees : (ts : TreesOf N) → TreesNames P ts
+    pub every_trees : (ts : TreesOf N) → TreesNames P ts
     every_trees no_trees = tt
     every_trees (more_trees t ts) = (every_tree t, every_trees ts)
 
@@ -54,7 +54,7 @@ module _ {N : Type 0} (P : N → Type 0) (h : (n : N) → P n) where
     every_messages no_messages = tt
     every_messages (more_messages s args ms) = (h s, every_trees args, every_messages ms)
 
-    every_statements : (ss : StatementsOf N) → StatementsNames P ss
+    pub every_statements : (ss : StatementsOf N) → StatementsNames P ss
     every_statements no_statements = tt
     every_statements (more_statements c t ss) = (every_tree t, every_statements ss)
 

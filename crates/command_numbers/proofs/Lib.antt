@@ -1,26 +1,26 @@
-mod Tables
-mod Lists
-mod Everywhere
-mod NodesAsked
-mod Classes
-mod NamesAsked
-mod UsesAsked
-mod MethodEffectsMapped
-mod ClassEffectsMapped
-mod VariableConditionsMapped
-mod MethodConditionsMapped
-mod TreesRenamed
-mod ChangedAtPlaces
-mod TreesRebuilt
-mod ParametersMapped
-mod TemporariesMapped
-mod ParameterConditionsMapped
-mod CodeMapped
-mod ClassRenamedMapped
-mod VariableRenamedMapped
-mod SelectorRenamedMapped
-mod JudgedMapped
+pub mod Tables
+pub mod Lists
+pub mod Everywhere
+pub mod NodesAsked
+pub mod Classes
+pub mod NamesAsked
+pub mod UsesAsked
+pub mod MethodEffectsMapped
+pub mod ClassEffectsMapped
+pub mod VariableConditionsMapped
+pub mod MethodConditionsMapped
+pub mod TreesRenamed
+pub mod ChangedAtPlaces
+pub mod TreesRebuilt
+pub mod ParametersMapped
+pub mod TemporariesMapped
+pub mod ParameterConditionsMapped
+pub mod CodeMapped
+pub mod ClassRenamedMapped
+pub mod VariableRenamedMapped
+pub mod SelectorRenamedMapped
+pub mod JudgedMapped
 pub mod Restricted
-mod CommandsMapped
-mod Named
-mod AtNumbers
+pub mod CommandsMapped
+pub mod Named
+pub mod AtNumbers

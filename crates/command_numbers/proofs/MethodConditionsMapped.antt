@@ -27,10 +27,10 @@ use Rattle.command_numbers.proofs.UsesAsked.{means-there, senders-map, class_use
 
 module _ {M N : Type 0} (f : M → N) (w : WordsOf M) (v : WordsOf N) (keeps : KeepsWords Every f w v) where
   -- look-ups
-  lookup-there : (i : ImageOf M) (c : Option M) (meta : Bool) (s : M) → lookup v (map_image f i) (option_map f c) meta (f s) ≡ option_map (map_entry f) (lookup w i c meta s)
+  pub lookup-there : (i : ImageOf M) (c : Option M) (meta : Bool) (s : M) → lookup v (map_image f i) (option_map f c) meta (f s) ≡ option_map (map_entry f) (lookup w i c meta s)
   lookup-there i c meta s = lookup-map_image Every f w v keeps i (every_image Every (λ k. tt) i) c meta s (every_option Every (λ k. tt) c) tt
 
-  super_lookup-there : (i : ImageOf M) (c : Option M) (meta : Bool) (s : M) → super_lookup v (map_image f i) (option_map f c) meta (f s) ≡ option_map (map_entry f) (super_lookup w i c meta s)
+  pub super_lookup-there : (i : ImageOf M) (c : Option M) (meta : Bool) (s : M) → super_lookup v (map_image f i) (option_map f c) meta (f s) ≡ option_map (map_entry f) (super_lookup w i c meta s)
   super_lookup-there i c meta s = super_lookup-map_image Every f w v keeps i (every_image Every (λ k. tt) i) c meta s (every_option Every (λ k. tt) c) tt
 
   -- names mean the same in two methods
@@ -55,10 +55,10 @@ module _ {M N : Type 0} (f : M → N) (w : WordsOf M) (v : WordsOf N) (keeps : K
   code-map m n = code_mapped f v.tests.same m n ∙ (λ k. same_code (λ x y. same-map f w v keeps x y k) m n)
 
   module _ (p : M → Bool) (q : N → Bool) (e : (n : M) → q (f n) ≡ p n) where
-    has_super-map : (m : EntryOf M) → has_super q (map_entry f m) ≡ has_super p m
+    pub has_super-map : (m : EntryOf M) → has_super q (map_entry f m) ≡ has_super p m
     has_super-map m = any_node f (λ x. is_super_node p x.1) (λ x. is_super_node q x.1) (λ x. is_super_node-map f p q e x.1) m.tree.body
 
-    is_same_method-map : (i j : ImageOf M) (m n : EntryOf M) → is_same_method v q (map_image f i) (map_image f j) (map_entry f m) (map_entry f n) ≡ is_same_method w p i j m n
+    pub is_same_method-map : (i j : ImageOf M) (m n : EntryOf M) → is_same_method v q (map_image f i) (map_image f j) (map_entry f m) (map_entry f n) ≡ is_same_method w p i j m n
     is_same_method-map i j m n =
         λ k. code-map m.tree n.tree k
         && ((not (has_super-map m k || has_super-map n k) || are_of_one_side-map m n k) && means_same_in-map i m j n k)
@@ -77,7 +77,7 @@ module _ {M N : Type 0} (f : M → N) (w : WordsOf M) (v : WordsOf N) (keeps : K
     lacks_method-map c meta s =
         λ j. is_class-map f w v keeps i c j && (ap is_none (own_method-there f w v keeps i.methods c meta s) ∙ none-map (map_entry f) (own_method w.tests.same i.methods c meta s)) j
 
-    is_sent_nowhere-map : (s : M) → is_sent_nowhere v (map_image f i) (f s) ≡ is_sent_nowhere w i s
+    pub is_sent_nowhere-map : (s : M) → is_sent_nowhere v (map_image f i) (f s) ≡ is_sent_nowhere w i s
     is_sent_nowhere-map s = ap is_empty (senders-map f w v keeps i s)
 
     module _ (p : M → Bool) (q : N → Bool) (e : (n : M) → q (f n) ≡ p n) where
@@ -101,7 +101,7 @@ module _ {M N : Type 0} (f : M → N) (w : WordsOf M) (v : WordsOf N) (keeps : K
           && asked_of_method f w v keeps i.methods c meta s (λ m. means_same_in w i m i (of_class_named m d)) (λ m. means_same_in v (map_image f i) m (map_image f i) (of_class_named m (f d))) (λ m. means_same_in-map i m i (of_class_named m d)) j
 
       -- a class whose superclass is that of a name
-      is_above : (c : M) (o : Option M)
+      pub is_above : (c : M) (o : Option M)
           → option_map_or (λ d. option_map_or (v.tests.same (f c)) (superclass_name v.tests.same (map_image f i) d) false) (option_map f o) false ≡ option_map_or (λ d. option_map_or (w.tests.same c) (superclass_name w.tests.same i d) false) o false
       is_above c o =
           or-total f (λ d. option_map_or (w.tests.same c) (superclass_name w.tests.same i d) false) (λ d. option_map_or (v.tests.same (f c)) (superclass_name v.tests.same (map_image f i) d) false) false
@@ -115,12 +115,12 @@ module _ {M N : Type 0} (f : M → N) (w : WordsOf M) (v : WordsOf N) (keeps : K
       begins_in-map : (c s : M) (m : EntryOf M) → begins_in v q (map_image f i) (f c) (f s) (map_entry f m) ≡ begins_in w p i c s m
       begins_in-map c s m = λ j. is_above c m.class j && sends_to_super s m j
 
-      is_reached-map : (c s : M) → is_reached v q (map_image f i) (f c) (f s) ≡ is_reached w p i c s
+      pub is_reached-map : (c s : M) → is_reached v q (map_image f i) (f c) (f s) ≡ is_reached w p i c s
       is_reached-map c s =
           λ j. not (is_empty (class_uses-map f w v keeps i c j))
           || any-total (map_entry f) (begins_in w p i c s) (begins_in v q (map_image f i) (f c) (f s)) (begins_in-map c s) i.methods j
 
-      finds_another-map : (after : ImageOf M) (c : M) (meta : Bool) (s : M) → finds_another v q (map_image f i) (map_image f after) (f c) meta (f s) ≡ finds_another w p i after c meta s
+      pub finds_another-map : (after : ImageOf M) (c : M) (meta : Bool) (s : M) → finds_another v q (map_image f i) (map_image f after) (f c) meta (f s) ≡ finds_another w p i after c meta s
       finds_another-map after c meta s =
           ap not ((λ j. is_same_found v q (map_image f i) (map_image f after) (lookup-there i (Some c) meta s j) (lookup-there after (Some c) meta s j))
           ∙ is_same_found-map p q e i after (lookup w i (Some c) meta s) (lookup w after (Some c) meta s))

@@ -38,7 +38,7 @@ reads a m x (path, t) = false
 
 module _ {M N : Type 0} (f : M → N) where
   -- literals that are atoms, and meanings that declare
-  is_atom_literal-map : (l : LiteralOf M) → is_atom_literal (map_literal f l) ≡ is_atom_literal l
+  pub is_atom_literal-map : (l : LiteralOf M) → is_atom_literal (map_literal f l) ≡ is_atom_literal l
   is_atom_literal-map (number t) = refl
   is_atom_literal-map l = refl
 
@@ -55,7 +55,7 @@ module _ {M N : Type 0} (f : M → N) where
         (map_trees f args ∷ passed_by v.tests.same (f s) (cascade (map_names f r) (map_messages f ms))) (passed_by v.tests.same (f s) (cascade (map_names f r) (map_messages f ms)))
         (same-map f w v keeps s t) (ap (λ (others : List (TreesOf N)). map_trees f args ∷ others) (passed_by_cascade s r ms)) (passed_by_cascade s r ms)
 
-    passed_by-map : (s : M) (t : TreeOf M) → passed_by v.tests.same (f s) (map_names f t) ≡ map (map_trees f) (passed_by w.tests.same s t)
+    pub passed_by-map : (s : M) (t : TreeOf M) → passed_by v.tests.same (f s) (map_names f t) ≡ map (map_trees f) (passed_by w.tests.same s t)
     passed_by-map s (var n) = refl
     passed_by-map s (literal l) = refl
     passed_by-map s (send r t args) =
@@ -116,7 +116,7 @@ module _ {M N : Type 0} (f : M → N) (a : AskedOf M) (b : AskedOf N) (keeps : K
             ap (λ o. option_map_or (λ x. is_empty (formal_reads b (map_method f m.tree) x)) o false) (get-map f m.tree.arguments (k - 1))
             ∙ or-total f (λ x. is_empty (formal_reads a m.tree x)) (λ x. is_empty (formal_reads b (map_method f m.tree) x)) false (λ x. ap is_empty (formal_reads-map m.tree x)) (slice_get m.tree.arguments (k - 1))
 
-    may_be_dropped-map : (e : NodeOf M) (t : TreeOf M) → may_be_dropped b (map_image f i) (map_node f e) (map_names f t) ≡ may_be_dropped a i e t
+    pub may_be_dropped-map : (e : NodeOf M) (t : TreeOf M) → may_be_dropped b (map_image f i) (map_node f e) (map_names f t) ≡ may_be_dropped a i e t
     may_be_dropped-map e (var n) =
         ap is_declared (means_in-map f a.words b.words keeps.words i e.use_of.place e.use_of.path n) ∙ is_declared-map f (means_in a.words i e.use_of.place e.use_of.path n)
     may_be_dropped-map e (literal l) = is_atom_literal-map f l
