@@ -1,0 +1,30 @@
+use Rattle.std.proofs.Common.{◌≡◌, ◌++◌, ℕ, List, OnOk, ap, sym, subst, ◌∙◌}
+use Rattle.std.specs.Prelude.{nat_eq}
+use Rattle.std.proofs.lemmas.List.{append-nil}
+use Rattle.refusal_witnesses.specs.Witnesses.{WitnessOf}
+use Rattle.refusal_witnesses.specs.NameWitnesses.{namings_in_method}
+use Rattle.witness_lists.specs.declared.code.Whose.TheVariants as whose
+use Rattle.witness_lists.specs.declared.nodes.Sought.TheVariants as sought
+use Rattle.witness_lists.specs.Views.{shown}
+use Rattle.witness_lists.specs.Walks.{method_found}
+use Rattle.method_witnesses.proofs.Own.{none-gathered, own-gathered, own-users}
+use Rattle.method_witnesses.proofs.methods.namings_in_method.Goals as goal
+
+pub returns-in-None : goal.returns-in-None
+returns-in-None g c =
+    let s = c.args.image.now in
+    let m = c.args.method in
+    let old = shown s c.args.found.now.items in
+    sym (append-nil old)
+    ∙ ap (λ (ws : List (WitnessOf ℕ)). old ++ ws)
+    (none-gathered s c.requires m.class m.meta m.selector (method_found s.names whose.Users (sought.Name c.args.name)) (sym c.own_method.ensures ∙ c.in-None.is)
+    ∙ own-users s c.requires m.class m.meta m.selector (namings_in_method nat_eq c.args.name))
+
+pub returns-in-Some : goal.returns-in-Some
+returns-in-Some g c =
+    let s = c.args.image.now in
+    let m = c.args.method in
+    subst (λ (ws : List (WitnessOf ℕ)). OnOk c.slot_witnesses.result (shown s c.slot_witnesses.new.found.items ≡ shown s c.args.found.now.items ++ ws))
+    (own-gathered s c.requires m.class m.meta m.selector (method_found s.names whose.Users (sought.Name c.args.name)) c.in-Some.slot (sym c.own_method.ensures ∙ c.in-Some.is)
+    ∙ own-users s c.requires m.class m.meta m.selector (namings_in_method nat_eq c.args.name))
+    c.slot_witnesses.ensures

@@ -1,0 +1,4 @@
+pub mod Views
+pub mod Sought
+pub mod Walks
+pub mod Classes

@@ -1,0 +1,12 @@
+mod Gathered
+mod NamesMapped
+mod ClassesMapped
+mod MethodsMapped
+mod ParametersMapped
+mod Found
+mod HeightsMapped
+mod PartsMapped
+mod InlinesMapped
+mod TemporariesMapped
+mod AllMapped
+mod Named

@@ -1,0 +1,2 @@
+pub mod OwnerLines
+pub mod StartLines
