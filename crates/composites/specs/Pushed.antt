@@ -14,6 +14,8 @@ use Rattle.commands.specs.declared.command.Command.TheVariants as command
 use Rattle.commands.specs.declared.command.VariableMove.TheVariants as move
 use Rattle.class_table.specs.declared.record.ClassRec.{ClassRec}
 use Rattle.class_table.specs.declared.record.MethodRec.{MethodRec}
+use Rattle.class_table.specs.declared.record.Place.{Place}
+use Rattle.class_table.specs.declared.record.Place.TheVariants as place
 use Rattle.class_table.specs.Slots.{Slots}
 use Rattle.class_table.specs.View.{live_at, number_image}
 
@@ -28,6 +30,11 @@ have_all s cs x = list_all (λ c. has_variable nat_eq (number_image s) of_instan
 -- whether a slot holds a live class of a name
 abbrev pub has_name : Slots → (n k : ℕ) → Bool
 has_name s n k = option_map_or (λ (c : ClassRec). nat_eq n c.name) (live_at s.classes s.class_order k) false
+
+-- the slot at a place, if it holds a live instance method of the class c
+abbrev pub own_at : Slots → (c : ℕ) → Place → Option ℕ
+own_at s c (place.Method k) = option_and_then (λ (m : MethodRec). if m.meta then None else if has_name s c m.class then Some k else None) (live_at s.methods s.method_order k)
+own_at s c (place.DoIt n) = None
 
 -- whether one of some nodes reads or assigns a name
 abbrev pub is_used : ℕ → List (TreeOf ℕ) → Bool

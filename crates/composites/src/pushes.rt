@@ -1,14 +1,13 @@
 // The commands by which variables and methods go up.
 ghost use Rattle.std.specs.Prelude.{◌≡◌, ◌++◌, ◌∷◌, [], false, nat_eq, map, filter, option_map, IfOk, OnOk};
-ghost use Rattle.std.specs.List.{filter_map, list_any};
+ghost use Rattle.std.specs.List.{filter_map};
 ghost use Rattle.session_model.specs.Steps.{shared_pushes};
 ghost use Rattle.mentions.specs.Listing.{pointed};
 ghost use Rattle.commands.specs.Views.{command_of};
 ghost use Rattle.commands.specs.declared.command.Command.TheVariants as kinds;
 ghost use Rattle.class_table.specs.View.{number_image};
-ghost use Rattle.class_table.specs.declared.record.Place.TheVariants as place;
-ghost use Rattle.reference_index.specs.Mentioned.{IsIndexOf, same_place};
-ghost use Rattle.composites.specs.Pushed.{variable_push, have_all, has_name, is_used, slot_push};
+ghost use Rattle.reference_index.specs.Mentioned.{IsIndexOf};
+ghost use Rattle.composites.specs.Pushed.{variable_push, have_all, has_name, is_used, own_at, slot_push};
 
 use class_questions::has_variable;
 use class_table::{ClassId, Image, MethodSlot, Place};
@@ -21,6 +20,7 @@ use reference_index::Index;
 use st_tree::Node;
 use std::alloc::Global;
 use std::sync::ledger::Ledger;
+use users_methods::is_listed;
 
 /// Puts a command at the end.
 pub(crate) fn put(command: Command, commands: &mut Vec<Command>) -> Result<(), Memory>
@@ -112,40 +112,55 @@ fn is_used(nodes: &[&Node], name: NameId) -> bool
     false
 }
 
-/// Whether the slot of a method is one of the places.
-fn is_listed(places: &[Place], slot: MethodSlot) -> bool
-    ensures { result ≡ list_any (same_place (place.Method slot)) places.now }
+/// The slot at a place, if it holds a live instance method of the class.
+fn own_at(image: &Image, class: NameId, place: Place) -> Option<MethodSlot>
+    ensures { result ≡ own_at image.now class place }
 {
-    for place in places {
-        if let Place::Method(other) = place {
-            if slot == *other {
-                return true;
+    match place {
+        Place::Method(slot) => {
+            let Some(info) = image.method_info(slot) else {
+                return None;
+            };
+            if info.meta || !has_name(image, info.class, class) {
+                return None;
             }
+            Some(slot)
         }
+        Place::DoIt(_) => None,
     }
-    false
+}
+
+/// The slots at the places that do.
+fn own_slots(
+    alloc: Global,
+    image: &Image,
+    class: NameId,
+    places: &[Place],
+) -> Result<Vec<MethodSlot>, Memory>
+    ensures { IfOk result (λ found. found.items ≡ filter_map (own_at image.now class) places.now) }
+{
+    let found = places
+        .iter()
+        .filter_map(|place| own_at(image, class, *place))
+        .collect(alloc)?;
+    Ok(found)
 }
 
 /// The selector of the method in a slot, if it goes up as a live instance method of the class that names the variable.
 fn pushed_selector<L: Ledger>(
     alloc: Global,
     image: &Image,
-    index: &Index,
     class: NameId,
     variable: NameId,
     slot: MethodSlot,
     steps: &mut Steps<L>,
 ) -> Result<Option<NameId>, Memory>
-    requires { IsIndexOf image.now index.now }
     ensures { IfOk result (λ found. option_map (λ selector. kinds.PushUpMethod (record { class = class; meta = false; selector = selector })) found ≡ slot_push image.now class variable slot) }
 {
     let Some(info) = image.method_info(slot) else {
         return Ok(None);
     };
     if info.meta || !has_name(image, info.class, class) {
-        return Ok(None);
-    }
-    if !is_listed(index.listed(variable), slot) {
         return Ok(None);
     }
     let Some(tree) = image.open_body(slot, steps) else {
@@ -158,8 +173,8 @@ fn pushed_selector<L: Ledger>(
     Ok(Some(info.selector))
 }
 
-/// Puts the commands at the end by which the instance methods of the class that name the variable go up. Opens only those
-/// that mention it.
+/// Puts the commands at the end by which the instance methods of the class that name the variable go up. Looks only at those that
+/// mention it, and opens each of them once.
 pub(crate) fn put_method_pushes<L: Ledger>(
     alloc: Global,
     image: &Image,
@@ -172,8 +187,13 @@ pub(crate) fn put_method_pushes<L: Ledger>(
     requires { IsIndexOf image.now index.now }
     ensures { OnOk result (commands.new.items ≡ commands.old.items ++ filter_map (slot_push image.now class variable) image.now.method_order) }
 {
+    let slots = own_slots(alloc, image, class, index.listed(variable))?;
+    let own = slots.as_slice();
     for slot in image.methods() {
-        let found = pushed_selector(alloc, image, index, class, variable, *slot, steps)?;
+        if !is_listed(own, *slot) {
+            continue;
+        }
+        let found = pushed_selector(alloc, image, class, variable, *slot, steps)?;
         if let Some(selector) = found {
             let method = MethodName {
                 class,

@@ -4,9 +4,20 @@ use Rattle.std.proofs.lemmas.List.{append-nil}
 use Rattle.commands.specs.declared.command.Command.{Command}
 use Rattle.commands.specs.declared.command.Command.TheVariants as command
 use Rattle.composites.specs.Pushed.{slot_push}
+use Rattle.composites.proofs.Listed.{missing-same}
 use Rattle.composites.proofs.Lists.{found-more}
 use Rattle.composites.proofs.pushes.put_method_pushes.Goals as goal
 use Rattle.composites.proofs.pushes.put_method_pushes.Goals.{in-Some+in_ok-put, in_default}
+
+pub loop-slot-preserved-then-not-is_listed : goal.loop-slot-preserved-then-not-is_listed
+loop-slot-preserved-then-not-is_listed g c =
+    let s = c.args.image.now in
+    let k = c.slot-item.result in
+    let before = c.loop-slot.commands.items in
+    found-more (slot_push s c.args.class c.args.variable) c.methods-slot-items.result.now c.loop-slot.slot-index k c.args.commands.now.items before before
+    c.loop-slot-test.true c.slot-item.is c.loop-slot.invariant
+    (missing-same s c.args.index.now c.requires c.args.class c.args.variable k c.listed.result.now c.listed.ensures before c.as_slice-own.result.now c.in_ok-slots.slots.items c.is_listed.result
+    c.as_slice-own.ensures.value c.in_ok-slots.ensures c.is_listed.ensures c.if-not-is_listed.true)
 
 pub loop-slot-preserved : goal.loop-slot-preserved
 loop-slot-preserved g c =
