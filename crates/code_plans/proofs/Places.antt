@@ -1,5 +1,5 @@
 -- The place behind the last item that passes, and lists with an item put in there.
-use Rattle.std.proofs.Common.{◌≡◌, ℕ, zero, suc, ◌+◌, ◌<◌, ◌≤◌, ◌||◌, Bool, true, false, cond, not, List, [], ◌∷◌, ◌++◌, length, take, map, find, Option, None, Some, slice_get, refl, sym, ap, ◌∙◌, true≢false, arith}
+use Rattle.std.proofs.Common.{◌≡◌, ℕ, zero, suc, ◌+◌, ◌-◌, ◌<◌, ◌≤◌, ◌||◌, Bool, true, false, cond, not, List, [], ◌∷◌, ◌++◌, length, take, map, find, Option, None, Some, slice_get, refl, sym, ap, ◌∙◌, true≢false, arith}
 use Rattle.std.specs.Prelude.{◌&&◌, if◌then◌else◌, insert, is_some}
 use Rattle.std.specs.List.{list_any}
 use Rattle.std.specs.Option.{option_map_or}
@@ -37,7 +37,7 @@ module _ {X : Type 0} (p : X → Bool) where
       by false = refl
 
   -- with one more item of those that are looked at
-  pub behind_last-step : (order : List X) (i : ℕ) (x : X) → slice_get order i ≡ Some x → behind_last p (take (i + 1) order) ≡ (if p x then Some (i + 1) else behind_last p (take i order))
+  behind_last-step : (order : List X) (i : ℕ) (x : X) → slice_get order i ≡ Some x → behind_last p (take (i + 1) order) ≡ (if p x then Some (i + 1) else behind_last p (take i order))
   behind_last-step order i x at =
       ap (behind_last p) (take-at order i x at)
       ∙ behind_last-more (take i order) x
@@ -48,6 +48,16 @@ module _ {X : Type 0} (p : X → Bool) where
 
       within : i ≤ length order
       within = let h : i < length order = less in omega arith
+
+  -- from the last item that is looked at to the one before it
+  pub behind_last-down : (order : List X) (n : ℕ) (x : X) → 0 < n → slice_get order (n - 1) ≡ Some x → behind_last p (take n order) ≡ (if p x then Some n else behind_last p (take (n - 1) order))
+  behind_last-down order n x some at =
+      ap (λ (k : ℕ). behind_last p (take k order)) (sym whole)
+      ∙ behind_last-step order (n - 1) x at
+      ∙ ap (λ (k : ℕ). if p x then Some k else behind_last p (take (n - 1) order)) whole
+    where
+      whole : n - 1 + 1 ≡ n
+      whole = let h : 0 < n = some in omega arith
 
   -- it is no further than the end
   pub behind_last-within : (xs : List X) (n : ℕ) → behind_last p xs ≡ Some n → n ≤ length xs

@@ -20,18 +20,18 @@ fn is_beside(image: &Image, class: NameId, meta: bool, slot: MethodSlot) -> bool
     class == rec.name && meta == info.meta
 }
 
-/// The place behind the last method of the class on the side, if there is one.
+/// The place behind the last method of the class on the side, if there is one. Looks at none before that one.
 pub(crate) fn place_behind(image: &Image, class: NameId, meta: bool) -> Option<usize>
     requires { IsOrderly image.now }
     ensures { result ≡ behind.behind_last (behind.is_beside image.now class meta) image.now.method_order }
 {
-    let mut found = None;
-    let mut place = 0;
-    for slot in image.methods() {
-        place += 1;
-        if is_beside(image, class, meta, *slot) {
-            found = Some(place);
+    let methods = image.methods();
+    let mut place = methods.len();
+    while place > 0 {
+        if is_beside(image, class, meta, methods[place - 1]) {
+            return Some(place);
         }
+        place -= 1;
     }
-    found
+    None
 }

@@ -9,6 +9,7 @@ ghost use Rattle.command_model.specs.CodeEffects as model;
 ghost use Rattle.commands.specs.Views.{asked_by, code_command, self_in};
 ghost use Rattle.commands.specs.declared.command.CodeMove.TheVariants as code;
 ghost use Rattle.code_plans.specs.Extractions.{IsExtraction};
+ghost use Rattle.part_lookup.specs.Kept.{IsKept};
 ghost use Rattle.plans.specs.Plan.{IsPlan};
 ghost use Rattle.reference_index.specs.Mentioned.{IsIndexOf};
 
@@ -17,7 +18,7 @@ use class_table::{Image, MethodRec};
 use commands::MethodPart;
 use extracted_code::extract;
 use method_plans::put_live;
-use part_lookup::users_part;
+use part_lookup::{KeptPart, kept_part};
 use plans::Plan;
 use rb_base::{Memory, NameId, Steps, Text};
 use reference_index::Index;
@@ -46,16 +47,18 @@ fn extracted<L: Ledger>(
     part: &MethodPart,
     to: NameId,
     self_name: NameId,
+    kept: &Option<KeptPart>,
     steps: &mut Steps<L>,
 ) -> Result<Option<Extraction>, Memory>
     requires orderly { IsOrderly image.now }
+    requires kept { ForSome kept.now (IsKept image.now) }
     requires self_is { self_name ≡ self_in image.now.names }
     requires self_known { self_name < length image.now.names }
     requires known { to < length image.now.names }
     ensures some { IfOk result (λ found. ForSome found (λ (e : Extraction). IsExtraction image.now part.now to e)) }
     ensures none { IfOk result (λ found. found ≡ None → model.part_at (asked_by image.now.names) (number_image image.now) part.now.method.class part.now.method.meta part.now.method.selector part.now.from part.now.to ≡ None) }
 {
-    let Some(found) = users_part(alloc, image, part, steps)? else {
+    let Some(found) = kept_part(alloc, image, part, kept, steps)? else {
         return Ok(None);
     };
     let user = found.method;
@@ -81,7 +84,8 @@ fn extracted<L: Ledger>(
 }
 
 /// Room for the new method, and the changes by which the part becomes a message of `to` and a method. Where there is no such
-/// part, there is no change. `self_name` is the name `self`. On want of memory the image shows the same.
+/// part, there is no change. `self_name` is the name `self`. Reads no source if the part is kept. On want of memory the image shows
+/// the same.
 #[tactic(auto, using(method_plans::proofs::Added::wider_same))]
 pub fn plan_extraction<L: Ledger>(
     alloc: Global,
@@ -90,11 +94,13 @@ pub fn plan_extraction<L: Ledger>(
     part: &MethodPart,
     to: NameId,
     self_name: NameId,
+    kept: &Option<KeptPart>,
     steps: &mut Steps<L>,
 ) -> Result<Plan, Memory>
     requires closed { IsClosed image.old }
     requires orderly { IsOrderly image.old }
     requires index { IsIndexOf image.old index.now }
+    requires kept { ForSome kept.now (IsKept image.old) }
     requires self_is { self_name ≡ self_in image.old.names }
     requires self_known { self_name < length image.old.names }
     requires known { to < length image.old.names }
@@ -104,7 +110,7 @@ pub fn plan_extraction<L: Ledger>(
 {
     let users = users_slots(alloc, image, index, &part.method)?;
     let own = users.as_slice();
-    let Some(found) = extracted(alloc, image, part, to, self_name, steps)? else {
+    let Some(found) = extracted(alloc, image, part, to, self_name, kept, steps)? else {
         return Ok(no_changes(alloc));
     };
     let Extraction { sender, rec, place } = found;

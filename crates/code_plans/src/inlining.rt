@@ -1,11 +1,13 @@
 // The change by which a message becomes the body of the method that it finds.
 ghost use Rattle.std.specs.Prelude.{◌≡◌, ℕ, Some, option_map, IfOk};
+ghost use Rattle.std.specs.Option.{ForSome};
 ghost use Rattle.tree_model.specs.Normal.{normal};
 ghost use Rattle.st_tree.specs.View.{method_of};
 ghost use Rattle.class_table.specs.Valid.{IsLive, IsOrderly};
 ghost use Rattle.class_table.specs.View.{class_name};
 ghost use Rattle.commands.specs.Views.{code_command};
 ghost use Rattle.commands.specs.declared.command.CodeMove.TheVariants as code_move;
+ghost use Rattle.part_lookup.specs.Kept.{IsKept};
 ghost use Rattle.part_questions.specs.Parts.{part_of};
 ghost use Rattle.plans.specs.Plan.{IsPlan};
 ghost use Rattle.reference_index.specs.Mentioned.{IsIndexOf};
@@ -15,7 +17,7 @@ use class_table::Image;
 use commands::MethodPart;
 use inline_questions::target_of;
 use inlined_code::{sent_by, tree_inlined};
-use part_lookup::users_part;
+use part_lookup::{KeptPart, kept_part};
 use part_questions::MethodCode;
 use plans::Plan;
 use rb_base::{Memory, Steps};
@@ -60,19 +62,21 @@ fn with_body<L: Ledger>(
 
 /// The change by which a message, the part of a user's method, becomes the body of the method that its class finds for it.
 /// Where the user has no such method, the part is no message, it finds no method, or that one's body has no place there, there
-/// is no change. Want of memory, if there is not enough of it for the change.
+/// is no change. Reads no source if the part is kept. Want of memory, if there is not enough of it for the change.
 pub fn plan_inlined_message<L: Ledger>(
     alloc: Global,
     image: &Image,
     index: &Index,
     part: &MethodPart,
+    kept: &Option<KeptPart>,
     steps: &mut Steps<L>,
 ) -> Result<Plan, Memory>
     requires orderly { IsOrderly image.now }
     requires index { IsIndexOf image.now index.now }
+    requires kept { ForSome kept.now (IsKept image.now) }
     ensures { IfOk result (λ plan. IsPlan image.now (code_command (code_move.InlineMethod part.now)) plan.changes plan.touched.items) }
 {
-    let Some(found) = users_part(alloc, image, part, steps)? else {
+    let Some(found) = kept_part(alloc, image, part, kept, steps)? else {
         return Ok(no_changes(alloc));
     };
     let code = MethodCode {

@@ -1,5 +1,6 @@
 // The changes by which code moves.
 ghost use Rattle.std.specs.Prelude.{◌≡◌, ◌<◌, length, None, IfOk};
+ghost use Rattle.std.specs.Option.{ForSome};
 ghost use Rattle.class_table.specs.Valid.{IsOrderly};
 ghost use Rattle.class_table.specs.View.{number_image};
 ghost use Rattle.wider_slots.specs.Closed.{IsClosed};
@@ -9,6 +10,7 @@ ghost use Rattle.command_numbers.specs.CommandNames.{CommandNames};
 ghost use Rattle.commands.specs.Views.{asked_by, code_command, HasSelf};
 ghost use Rattle.commands.specs.declared.command.CodeMove.TheVariants as code;
 ghost use Rattle.reference_index.specs.Mentioned.{IsIndexOf};
+ghost use Rattle.part_lookup.specs.Kept.{IsKept};
 ghost use Rattle.plans.specs.Plan.{IsPlan};
 
 use abstract_plans::plan_abstraction;
@@ -18,7 +20,7 @@ use code_plans::{
     plan_extracted_temporary, plan_extraction, plan_inlined_message, plan_inlined_temporary,
 };
 use commands::{CodeMove, MethodPart};
-use part_lookup::users_part;
+use part_lookup::{KeptPart, kept_part};
 use plans::Plan;
 use rb_base::{Memory, NameId, Steps};
 use reference_index::Index;
@@ -34,14 +36,16 @@ fn plan_temporary_of<L: Ledger>(
     index: &Index,
     part: MethodPart,
     variable: NameId,
+    kept: &Option<KeptPart>,
     steps: &mut Steps<L>,
 ) -> Result<Plan, Memory>
     requires orderly { IsOrderly image.now }
     requires index { IsIndexOf image.now index.now }
+    requires kept { ForSome kept.now (IsKept image.now) }
     requires known { variable < length image.now.names }
     ensures { IfOk result (λ found. IsPlan image.now (code_command (code.ExtractTemporary part variable)) found.changes found.touched.items) }
 {
-    let Some(found) = users_part(alloc, image, &part, steps)? else {
+    let Some(found) = kept_part(alloc, image, &part, kept, steps)? else {
         return Ok(no_changes(alloc));
     };
     plan_extracted_temporary(alloc, image, index, part, &found.part, variable, steps)
@@ -53,11 +57,13 @@ pub(crate) fn plan_code<L: Ledger>(
     image: &mut Image,
     index: &Index,
     change: &CodeMove,
+    kept: &Option<KeptPart>,
     steps: &mut Steps<L>,
 ) -> Result<Plan, Memory>
     requires closed { IsClosed image.old }
     requires orderly { IsOrderly image.old }
     requires index { IsIndexOf image.old index.now }
+    requires kept { ForSome kept.now (IsKept image.old) }
     requires self_known { HasSelf image.old.names }
     requires known { CommandNames (λ n. n < length image.old.names) (code_command change.now) }
     requires holds { first_false (asked_by image.old.names) (number_image image.old) (code_command change.now) ≡ None }
@@ -85,11 +91,13 @@ pub(crate) fn plan_code<L: Ledger>(
             plan_abstraction(alloc, image, index, &abstraction, steps)
         }
         CodeMove::ExtractMethod { part, to } => {
-            plan_extraction(alloc, image, index, &part, to, self_name, steps)
+            plan_extraction(alloc, image, index, &part, to, self_name, kept, steps)
         }
-        CodeMove::InlineMethod(part) => plan_inlined_message(alloc, image, index, &part, steps),
+        CodeMove::InlineMethod(part) => {
+            plan_inlined_message(alloc, image, index, &part, kept, steps)
+        }
         CodeMove::ExtractTemporary { part, variable } => {
-            plan_temporary_of(alloc, image, index, part, variable, steps)
+            plan_temporary_of(alloc, image, index, part, variable, kept, steps)
         }
         CodeMove::InlineTemporary { method, variable } => {
             plan_inlined_temporary(alloc, image, index, method, variable, steps)

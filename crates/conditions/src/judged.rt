@@ -26,7 +26,6 @@ use crate::code::{
     is_known_selector, is_name_unused, is_no_kernel_selector, is_selector_fresh, is_variable_free,
 };
 use crate::code_judged::code_holds;
-use crate::moves::kept_of;
 use crate::needed::{arity_of, is_good_name, needs};
 use crate::reflection::has_no_reflection;
 use class_questions::{has_variable, is_class, is_user_class};
@@ -295,23 +294,24 @@ fn first_false_of<L: Ledger>(
     Ok(None)
 }
 
-/// The first condition of the command that is false in the image. Reads the source of a method at most once, to find the part
-/// that the command names.
+/// The first condition of the command that is false in the image. Reads no source if `kept` is what `kept_of` finds for the
+/// command.
 pub fn first_false<L: Ledger>(
     alloc: Global,
     image: &Image,
     index: &Index,
     command: &Command,
+    kept: &Option<KeptPart>,
     steps: &mut Steps<L>,
 ) -> Result<Option<Condition>, Memory>
     requires orderly { IsOrderly image.now }
     requires index { IsIndexOf image.now index.now }
     requires command { CommandNames (λ n. n < length image.now.names) (command_of command.now) }
+    requires kept { ForSome kept.now (IsKept image.now) }
     ensures first { IfOk result (λ found. option_map condition_of found ≡ judged.first_false (asked_by image.now.names) (number_image image.now) (command_of command.now)) }
     ensures known { IfOk result (λ found. OptionNames (λ c. ConditionNames (λ n. n < length image.now.names) (condition_of c)) found) }
 {
-    let kept = kept_of(alloc, image, command, steps)?;
-    let conditions = needs(alloc, image, command, &kept, steps)?;
+    let conditions = needs(alloc, image, command, kept, steps)?;
     let conditions = conditions.as_slice();
-    first_false_of(alloc, image, index, command, conditions, &kept, steps)
+    first_false_of(alloc, image, index, command, conditions, kept, steps)
 }

@@ -11,4 +11,5 @@ mod parameters;
 mod reflection;
 
 pub use judged::first_false;
+pub use moves::kept_of;
 pub use reflection::has_no_reflection;

@@ -28,8 +28,9 @@ use rb_base::{Memory, NameId, Steps};
 use std::alloc::Global;
 use std::sync::ledger::Ledger;
 
-/// The part that the command names, looked for once; nothing, if it names none.
-pub(crate) fn kept_of<L: Ledger>(
+/// The part that the command names, looked for once; nothing, if it names none. Counts at most one step. The error is want of
+/// memory to read the source.
+pub fn kept_of<L: Ledger>(
     alloc: Global,
     image: &Image,
     command: &Command,

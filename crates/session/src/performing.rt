@@ -27,7 +27,7 @@ use code_command_numbers::all_verdicts_by_numbers;
 use command_plans::plan;
 use commands::{Action, Command, NewClass};
 use composites::{first_own_false, steps_of};
-use conditions::first_false;
+use conditions::{first_false, kept_of};
 use plans::Plan;
 use rb_base::{Memory, Steps};
 use reference_index::Index;
@@ -98,11 +98,12 @@ fn judge_and_carry_out<L: Ledger>(
     ensures { IsCarriedOut image.old index.old done.old (map_command (name_at image.old.names) (command_of command.now) ∷ []) image.new index.new done.new result }
 {
     all_verdicts_by_numbers();
-    if let Some(condition) = first_false(alloc, image, index, command, steps)? {
+    let kept = kept_of(alloc, image, command, steps)?;
+    if let Some(condition) = first_false(alloc, image, index, command, &kept, steps)? {
         return Err(StepRefusal::Condition(condition));
     }
     let renames = renames_of(image, command);
-    let planned = plan(alloc, image, index, command, steps)?;
+    let planned = plan(alloc, image, index, command, &kept, steps)?;
     carry_out(image, index, planned, renames, done, steps)?;
     Ok(())
 }
