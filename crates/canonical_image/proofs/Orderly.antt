@@ -13,7 +13,7 @@ use Rattle.class_table.specs.Changing.{changed_at}
 use Rattle.class_table.specs.View.{live, class_name, entry_of, doit_of}
 use Rattle.class_table.specs.Valid.{IsLive, IsOrderly}
 use Rattle.class_table.proofs.Live.{live-fact, IsLive-first, IsLive-rest}
-use Rattle.canonical_image.specs.Sources.{canonical_rec, canonical_doit_rec, KnowsMethod, KnowsDoIt}
+use Rattle.canonical_image.specs.Sources.{canonical_rec, canonical_doit_rec, first_changed, KnowsMethod, KnowsDoIt}
 use Rattle.canonical_image.proofs.Slots.{get_changed, length-changed}
 
 -- what holds of each live record holds of the list of them
@@ -69,11 +69,11 @@ doit_known names [] k d a e = absurd (cc)
 doit_known names (x ∷ xs) zero d a e = let same : x ≡ d = cc in subst (λ (y : DoIt). KnowsDoIt names y) same a.0
 doit_known names (x ∷ xs) (suc k) d a e = doit_known names xs k d a.1 e
 
--- the sources of all do-its are changed
-pub orderly_doits : (s : Slots) → IsOrderly s → IsOrderly (record s { doits = map (canonical_doit_rec s.names) s.doits })
-orderly_doits s o = record {
+-- the sources of the first do-its are changed
+pub orderly_first : (s : Slots) (n : ℕ) → IsOrderly s → IsOrderly (record s { doits = first_changed (canonical_doit_rec s.names) n s.doits })
+orderly_first s n o = record {
   names_distinct = o.names_distinct;
-  names_known = record { classes = o.names_known.classes; methods = o.names_known.methods; doits = all s.doits o.names_known.doits };
+  names_known = record { classes = o.names_known.classes; methods = o.names_known.methods; doits = all n s.doits o.names_known.doits };
   class_order = o.class_order;
   method_order = o.method_order;
   class_names_distinct = o.class_names_distinct;
@@ -81,6 +81,8 @@ orderly_doits s o = record {
   method_classes_live = o.method_classes_live;
 }
   where
-    all : (ds : List DoIt) → AllByRecursion (DoItNames (λ n. n < length s.names)) (map doit_of ds) → AllByRecursion (DoItNames (λ n. n < length s.names)) (map doit_of (map (canonical_doit_rec s.names) ds))
-    all [] a = tt
-    all (d ∷ ds) a = (a.0, all ds a.1)
+    all : (n : ℕ) (ds : List DoIt) → AllByRecursion (DoItNames (λ n. n < length s.names)) (map doit_of ds)
+        → AllByRecursion (DoItNames (λ n. n < length s.names)) (map doit_of (first_changed (canonical_doit_rec s.names) n ds))
+    all zero ds a = a
+    all (suc n) [] a = tt
+    all (suc n) (d ∷ ds) a = (a.0, all n ds a.1)

@@ -1,12 +1,11 @@
 -- What slots hold when sources are changed.
-use Rattle.std.proofs.Common.{◌≡◌, ◌≢◌, ◌⊎◌, inl, inr, ℕ, zero, suc, ◌+◌, ◌<◌, ◌≤◌, ◌||◌, drop, Bool, true, false, not, List, [], ◌∷◌, length, map, Option, None, Some, option_map, slice_get, set, get_or, refl, sym, ap, subst, ◌∙◌, arith, true≢false}
+use Rattle.std.proofs.Common.{◌≡◌, ◌≢◌, ◌⊎◌, inl, inr, ℕ, zero, suc, ◌+◌, ◌<◌, ◌≤◌, ◌||◌, Bool, true, false, not, List, [], ◌∷◌, length, map, Option, None, Some, option_map, slice_get, set, get_or, take, ◌++◌, refl, sym, ap, subst, ◌∙◌, arith, true≢false}
 use Rattle.std.specs.Prelude.{if◌then◌else◌}
 use Rattle.std.specs.List.{list_any}
 use Rattle.std.specs.Option.{option_map_or}
 use Rattle.std.proofs.Math.Dec.{eqb}
-use Rattle.std.proofs.Math.Seq.{drop-cons}
 use Rattle.std.proofs.lemmas.Bool.Decides.{eqb_tells}
-use Rattle.std.proofs.lemmas.List.{set-get_or, length-set}
+use Rattle.std.proofs.lemmas.List.{set-get_or, length-set, take_more}
 use Rattle.std.proofs.lemmas.Option.{slice_get_within, get_or_from_slice_get}
 use Rattle.class_table.specs.declared.record.MethodRec.{MethodRec}
 use Rattle.class_table.specs.declared.record.DoIt.{DoIt}
@@ -171,8 +170,12 @@ pub untold : (o : Option MethodRec) → IsInfoOf None o → o ≡ None
 untold None h = refl
 untold (Some m) h = absurd h
 
--- the slot at a place of an order, and those behind it
-pub next_slot : (xs ys : List ℕ) (p k : ℕ) → ys ≡ xs → p < length ys → k ≡ get_or ys p k → drop p xs ≡ k ∷ drop (p + 1) xs
+-- the slot at a place of an order, after those before it
+pub next_slot : (xs ys : List ℕ) (p k : ℕ) → ys ≡ xs → p < length ys → k ≡ get_or ys p k → take p xs ++ k ∷ [] ≡ take (p + 1) xs
 next_slot xs ys p k same there is =
-    let next : suc p ≡ p + 1 = omega arith in
-    subst (λ (zs : List ℕ). drop p zs ≡ k ∷ drop (p + 1) zs) same (drop-cons ys p k there ∙ ap (λ (j : ℕ). j ∷ drop (suc p) ys) (sym is) ∙ ap (λ (n : ℕ). k ∷ drop n ys) next)
+    subst (λ (zs : List ℕ). take p zs ++ k ∷ [] ≡ take (p + 1) zs) same (ap (λ (j : ℕ). take p ys ++ j ∷ []) is ∙ sym (take_more ys p k there))
+
+-- one more slot of an order is changed
+pub all_more : (f : MethodRec → MethodRec) (xs : List MethodRec) (ks : List ℕ) (k : ℕ) → changed_at f (all_changed f xs ks) k ≡ all_changed f xs (ks ++ k ∷ [])
+all_more f xs [] k = refl
+all_more f xs (j ∷ ks) k = all_more f (changed_at f xs j) ks k

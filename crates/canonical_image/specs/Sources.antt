@@ -1,5 +1,5 @@
 -- Slots with canonical sources.
-use Rattle.std.specs.Prelude.{ℕ, zero, suc, ◌<◌, List, [], ◌∷◌, length, Bool, false, not, if◌then◌else◌, Option}
+use Rattle.std.specs.Prelude.{ℕ, zero, suc, ◌<◌, List, [], ◌∷◌, length, take, Bool, false, not, if◌then◌else◌, Option}
 use Rattle.std.specs.Option.{option_map_or}
 use Rattle.rb_base.specs.Names.{name_at}
 use Rattle.tree_model.specs.Tree.{map_sequence, map_method}
@@ -8,6 +8,7 @@ use Rattle.st_tree.specs.View.{sequence_of, method_of}
 use Rattle.text_model.specs.Whole.{canonical_method, canonical_doit}
 use Rattle.class_table.specs.declared.record.MethodRec.{MethodRec}
 use Rattle.class_table.specs.declared.record.DoIt.{DoIt}
+use Rattle.class_table.specs.Slots.{Slots}
 use Rattle.class_table.specs.Changing.{changed_at}
 
 -- the canonical text of a method of the program
@@ -36,6 +37,10 @@ abbrev pub first_changed : (DoIt → DoIt) → ℕ → List DoIt → List DoIt
 first_changed f zero xs = xs
 first_changed f (suc n) [] = []
 first_changed f (suc n) (x ∷ xs) = f x ∷ first_changed f n xs
+
+-- the slots with the first live methods, so many, and the first do-its changed
+abbrev pub formatted_to : Slots → (methods doits : ℕ) → Slots
+formatted_to s p n = record s { methods = all_changed (canonical_rec s.names) s.methods (take p s.method_order); doits = first_changed (canonical_doit_rec s.names) n s.doits }
 
 -- whether there is a method, and it is one of the user
 abbrev pub is_user : Option MethodRec → Bool

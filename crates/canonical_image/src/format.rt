@@ -1,11 +1,11 @@
 // The sources of an image made canonical.
-ghost use Rattle.std.specs.Prelude.{◌≡◌, ◌<◌, length, map, slice_get, IfOk, OnOk};
+ghost use Rattle.std.specs.Prelude.{◌≡◌, ◌<◌, length, map, slice_get, take, ℕ, IfOk, OnOk, OnErr};
 ghost use Rattle.std.specs.Option.{ForSome};
 ghost use Rattle.class_table.specs.Changing.{changed_at};
 ghost use Rattle.class_table.specs.View.{live_at, image_of};
 ghost use Rattle.class_table.specs.Valid.{IsLive, IsOrderly};
 ghost use Rattle.canonical_image.specs.Formatted.{formatted};
-ghost use Rattle.canonical_image.specs.Sources.{method_text, doit_text, canonical_rec, canonical_doit_rec, all_changed, is_user, KnowsMethod, KnowsDoIt};
+ghost use Rattle.canonical_image.specs.Sources.{method_text, doit_text, canonical_rec, canonical_doit_rec, all_changed, first_changed, formatted_to, is_user, KnowsMethod, KnowsDoIt};
 
 use class_table::{Image, MethodSlot, Place};
 use rb_base::{Memory, Steps, Text};
@@ -50,7 +50,8 @@ fn format_slot<L: Ledger>(
 ) -> Result<(), Memory>
     requires orderly { IsOrderly image.old }
     requires live { IsLive image.old.method_order slot }
-    ensures { OnOk result (image.new ≡ record image.old { methods = changed_at (canonical_rec image.old.names) image.old.methods slot }) }
+    ensures methods { OnOk result (image.new ≡ record image.old { methods = changed_at (canonical_rec image.old.names) image.old.methods slot }) }
+    ensures kept { OnErr result (image.new ≡ image.old) }
 {
     if is_user(image, slot) {
         let mut source = method_text(alloc, image, slot, steps)?;
@@ -66,8 +67,9 @@ fn format_methods<L: Ledger>(
     steps: &mut Steps<L>,
 ) -> Result<(), Memory>
     requires { IsOrderly image.old }
-    ensures orderly { OnOk result (IsOrderly image.new) }
+    ensures orderly { IsOrderly image.new }
     ensures methods { OnOk result (image.new ≡ record image.old { methods = all_changed (canonical_rec image.old.names) image.old.methods image.old.method_order }) }
+    ensures part { OnErr result ((p : ℕ) × (image.new ≡ record image.old { methods = all_changed (canonical_rec image.old.names) image.old.methods (take p image.old.method_order) })) }
 {
     let mut place = 0;
     while place < image.methods().len() {
@@ -104,7 +106,8 @@ fn format_number<L: Ledger>(
 ) -> Result<(), Memory>
     requires known { ForSome (slice_get image.old.doits number) (KnowsDoIt image.old.names) }
     requires there { number < length image.old.doits }
-    ensures { OnOk result (image.new ≡ record image.old { doits = changed_at (canonical_doit_rec image.old.names) image.old.doits number }) }
+    ensures doits { OnOk result (image.new ≡ record image.old { doits = changed_at (canonical_doit_rec image.old.names) image.old.doits number }) }
+    ensures kept { OnErr result (image.new ≡ image.old) }
 {
     let mut source = doit_text(alloc, image, number, steps)?;
     image.swap_source(Place::DoIt(number), &mut source);
@@ -118,8 +121,9 @@ fn format_doits<L: Ledger>(
     steps: &mut Steps<L>,
 ) -> Result<(), Memory>
     requires { IsOrderly image.old }
-    ensures orderly { OnOk result (IsOrderly image.new) }
+    ensures orderly { IsOrderly image.new }
     ensures doits { OnOk result (image.new ≡ record image.old { doits = map (canonical_doit_rec image.old.names) image.old.doits }) }
+    ensures part { OnErr result ((n : ℕ) × (image.new ≡ record image.old { doits = first_changed (canonical_doit_rec image.old.names) n image.old.doits })) }
 {
     let mut number = 0;
     while number < image.doits() {
@@ -136,7 +140,8 @@ fn format_counted<L: Ledger>(alloc: Global, image: &mut Image, blank: Blank) -> 
     requires parts { blank.parts ≡ L.parts }
     requires some { 0 < L.parts }
     ensures formatted { OnOk result (image_of image.new ≡ formatted (image_of image.old)) }
-    ensures orderly { OnOk result (IsOrderly image.new) }
+    ensures orderly { IsOrderly image.new }
+    ensures part { OnErr result ((p : ℕ) × (n : ℕ) × (image.new ≡ formatted_to image.old p n)) }
 {
     let mut steps = Steps::<L>::new(blank);
     format_methods(alloc, image, &mut steps)?;
@@ -144,12 +149,13 @@ fn format_counted<L: Ledger>(alloc: Global, image: &mut Image, blank: Blank) -> 
 }
 
 /// Gives each method and each do-it of the user the canonical text of its tree as source; methods of the kernel, classes,
-/// names and the order of all stay as they are. On want of memory some sources are canonical and the others are as they
-/// were.
+/// names and the order of all stay as they are. On want of memory the sources of the first methods and of the first do-its are
+/// canonical, as many as there was memory for, and the others are as they were.
 pub fn format_image(alloc: Global, image: &mut Image) -> Result<(), Memory>
     requires { IsOrderly image.old }
     ensures formatted { OnOk result (image_of image.new ≡ formatted (image_of image.old)) }
-    ensures orderly { OnOk result (IsOrderly image.new) }
+    ensures orderly { IsOrderly image.new }
+    ensures part { OnErr result ((p : ℕ) × (n : ℕ) × (image.new ≡ formatted_to image.old p n)) }
 {
     format_counted::<Brand>(alloc, image, Blank::new(1))
 }

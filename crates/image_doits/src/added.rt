@@ -1,5 +1,5 @@
 // A do-it that is put behind those of an image.
-ghost use Rattle.std.specs.Prelude.{◌≡◌, ◌<◌, length, IfOk, IfErr, OnOk};
+ghost use Rattle.std.specs.Prelude.{◌≡◌, ◌<◌, length, IfOk, IfErr, OnOk, OnErr};
 ghost use Rattle.token_model.specs.declared.kind.Dialect.TheVariants.{Second};
 ghost use Rattle.tree_model.specs.Tree.{map_sequence};
 ghost use Rattle.tree_model.specs.AllNames.{SequenceNames};
@@ -42,6 +42,7 @@ fn parse_in(alloc: Global, text: &[u8], image: &mut Image) -> Result<Sequence, P
 pub fn read_doit(alloc: Global, text: &[u8], image: &mut Image) -> Result<Sequence, ParseFault>
     requires { IsOrderly image.old }
     ensures image { image_of image.new ≡ image_of image.old }
+    ensures grows { Grows image.old.names image.new.names }
     ensures orderly { IsOrderly image.new }
     ensures live { AllLive image.old → AllLive image.new }
     ensures tree { IfOk result (λ body. SpellsDoIt Second text.now (map_sequence (name_at image.new.names) (sequence_of body))) }
@@ -53,13 +54,15 @@ pub fn read_doit(alloc: Global, text: &[u8], image: &mut Image) -> Result<Sequen
     body
 }
 
-/// Puts a do-it behind those that are there. The error is want of memory.
+/// Puts a do-it behind those that are there. The error is want of memory; the image is then as it was.
 fn put(image: &mut Image, doit: DoIt) -> Result<(), ParseFault>
     requires orderly { IsOrderly image.old }
     requires known { SequenceNames (λ n. n < length image.old.names) (sequence_of doit.body) }
     ensures image { OnOk result (image_of image.new ≡ plus (image_of image.old) (map_doit (name_at image.old.names) (doit_of doit))) }
-    ensures orderly { OnOk result (IsOrderly image.new) }
-    ensures live { OnOk result (AllLive image.old → AllLive image.new) }
+    ensures names { image.new.names ≡ image.old.names }
+    ensures orderly { IsOrderly image.new }
+    ensures live { AllLive image.old → AllLive image.new }
+    ensures kept { OnErr result (image.new ≡ image.old) }
     ensures fault { IfErr result (λ fault. fault ≡ ParseFault.Memory) }
 {
     match image.add_doit(doit) {
@@ -73,13 +76,15 @@ fn put(image: &mut Image, doit: DoIt) -> Result<(), ParseFault>
 ///
 /// # Errors
 ///
-/// The first fault of the text, at an offset in bytes from its start, or want of memory; the image then has the do-its that
-/// it had.
+/// The first fault of the text, at an offset in bytes from its start, or want of memory; the image is then as it was, but for
+/// further names.
 pub fn add_doit(alloc: Global, text: &[u8], image: &mut Image) -> Result<(), ParseFault>
     requires { IsOrderly image.old }
     ensures added { OnOk result (IsWithDoIt text.now (image_of image.old) (image_of image.new)) }
-    ensures orderly { OnOk result (IsOrderly image.new) }
-    ensures live { OnOk result (AllLive image.old → AllLive image.new) }
+    ensures grows { Grows image.old.names image.new.names }
+    ensures orderly { IsOrderly image.new }
+    ensures live { AllLive image.old → AllLive image.new }
+    ensures kept { OnErr result (image_of image.new ≡ image_of image.old) }
     ensures fault { IfErr result (IsRefused whole.DoIt text.now) }
 {
     let body = read_doit(alloc, text, image)?;

@@ -1,5 +1,5 @@
 // The image: its classes, and then its methods.
-ghost use Rattle.std.specs.Prelude.{◌≡◌, ◌++◌, OnOk};
+ghost use Rattle.std.specs.Prelude.{◌≡◌, ◌++◌, OnOk, OnErr};
 ghost use Rattle.image_maker.specs.Generated.{pieces, numbered, superclass_name, definition_text, body_text, source_text, run_text, image_text};
 
 use rb_base::{Memory, Text};
@@ -93,10 +93,17 @@ fn push_runs(alloc: Global, count: u32, out: &mut Text) -> Result<(), Memory>
 }
 
 /// Appends the image of so many classes, each with one method, which adds its number to what the method of half its number
-/// answers. On want of memory `out` may hold a part of it.
+/// answers.
+///
+/// # Errors
+///
+/// `Memory` where there is no memory for the image; `out` is then as it was.
 pub fn make_image(alloc: Global, count: u32, out: &mut Text) -> Result<(), Memory>
-    ensures { OnOk result (out.new ≡ out.old ++ image_text count) }
+    ensures made { OnOk result (out.new ≡ out.old ++ image_text count) }
+    ensures kept { OnErr result (out.new ≡ out.old) }
 {
-    push_definitions(alloc, count, out)?;
-    push_runs(alloc, count, out)
+    let mut image = Text::new(alloc);
+    push_definitions(alloc, count, &mut image)?;
+    push_runs(alloc, count, &mut image)?;
+    out.push_slice(image.as_slice())
 }

@@ -1,5 +1,5 @@
 // The script that renames classes and methods of the image, and the expression that runs the last method.
-ghost use Rattle.std.specs.Prelude.{◌≡◌, ◌++◌, OnOk};
+ghost use Rattle.std.specs.Prelude.{◌≡◌, ◌++◌, OnOk, OnErr};
 ghost use Rattle.image_maker.specs.Generated.{pieces, renaming_line, command_lines, script_text, expression_text};
 
 use crate::image::push_numbered;
@@ -42,19 +42,31 @@ fn push_all_commands(alloc: Global, count: u32, out: &mut Text) -> Result<(), Me
     Ok(())
 }
 
-/// Appends the script for the image of so many classes, which renames the first hundred classes and methods. On want of
-/// memory `out` may hold a part of it.
+/// Appends the script for the image of so many classes, which renames the first hundred classes and methods.
+///
+/// # Errors
+///
+/// `Memory` where there is no memory for the script; `out` is then as it was.
 pub fn make_script(alloc: Global, count: u32, out: &mut Text) -> Result<(), Memory>
-    ensures { OnOk result (out.new ≡ out.old ++ script_text count) }
+    ensures made { OnOk result (out.new ≡ out.old ++ script_text count) }
+    ensures kept { OnErr result (out.new ≡ out.old) }
 {
-    push_all_commands(alloc, count.min(MOST_RENAMED), out)
+    let mut script = Text::new(alloc);
+    push_all_commands(alloc, count.min(MOST_RENAMED), &mut script)?;
+    out.push_slice(script.as_slice())
 }
 
 /// Appends the expression that sends the last method of the image of so many classes to a new object of its last class.
-/// On want of memory `out` may hold a part of it.
+///
+/// # Errors
+///
+/// `Memory` where there is no memory for the expression; `out` is then as it was.
 pub fn make_expression(alloc: Global, count: u32, out: &mut Text) -> Result<(), Memory>
-    ensures { OnOk result (out.new ≡ out.old ++ expression_text count) }
+    ensures made { OnOk result (out.new ≡ out.old ++ expression_text count) }
+    ensures kept { OnErr result (out.new ≡ out.old) }
 {
-    push_numbered(alloc, "C", count, out)?;
-    push_numbered(alloc, " new m", count, out)
+    let mut expression = Text::new(alloc);
+    push_numbered(alloc, "C", count, &mut expression)?;
+    push_numbered(alloc, " new m", count, &mut expression)?;
+    out.push_slice(expression.as_slice())
 }

@@ -1,5 +1,5 @@
 // An image in which a rule is applied.
-ghost use Rattle.std.specs.Prelude.{◌≡◌, ◌<◌, length, OnOk};
+ghost use Rattle.std.specs.Prelude.{◌≡◌, ◌<◌, length, OnOk, OnErr};
 ghost use Rattle.rb_base.specs.Names.{name_at};
 ghost use Rattle.class_table.specs.View.{image_of};
 ghost use Rattle.class_table.specs.Valid.{IsOrderly};
@@ -30,7 +30,8 @@ fn rewrite_counted<L: Ledger>(
     requires parts { blank.parts ≡ L.parts }
     requires some { 0 < L.parts }
     ensures image { OnOk result (image_of image.new ≡ rewritten_image (rule_of image.old.names rule.now) (image_of image.old)) }
-    ensures orderly { OnOk result (IsOrderly image.new) }
+    ensures orderly { IsOrderly image.new }
+    ensures kept { OnErr result (image_of image.new ≡ image_of image.old) }
 {
     let mut steps = Steps::<L>::new(blank);
     let mut plan = plan_rule(alloc, image, rule, &mut steps)?;
@@ -39,7 +40,8 @@ fn rewrite_counted<L: Ledger>(
 }
 
 /// Applies the rule in each method of a user and in each do-it. Where the tree changes, comments counted, the source is its
-/// canonical text then; all else keeps its bytes. The error is want of memory; then nothing is rewritten.
+/// canonical text then; all else keeps its bytes. The error is want of memory; the image is then as it was, but for further
+/// names.
 pub fn rewrite_image(alloc: Global, image: &mut Image, rule: &Rule) -> Result<(), Memory>
     requires orderly { IsOrderly image.old }
     requires pattern { PatternNames (λ n. n < length image.old.names) rule.now.pattern }
@@ -47,7 +49,8 @@ pub fn rewrite_image(alloc: Global, image: &mut Image, rule: &Rule) -> Result<()
     ensures image { OnOk result (image_of image.new ≡ rewritten_image
         (record { pattern = map_pattern (name_at image.old.names) rule.now.pattern; replacement = map_pattern (name_at image.old.names) rule.now.replacement })
         (image_of image.old)) }
-    ensures orderly { OnOk result (IsOrderly image.new) }
+    ensures orderly { IsOrderly image.new }
+    ensures kept { OnErr result (image_of image.new ≡ image_of image.old) }
 {
     rewrite_counted::<Brand>(alloc, image, rule, Blank::new(1))
 }

@@ -1,5 +1,5 @@
 // The lines of the nodes that a pattern matches.
-ghost use Rattle.std.specs.Prelude.{◌≡◌, ◌<◌, ◌++◌, ℕ, List, length, IfOk, OnOk};
+ghost use Rattle.std.specs.Prelude.{◌≡◌, ◌<◌, ◌++◌, ℕ, List, length, IfOk, OnOk, OnErr};
 ghost use Rattle.rb_base.specs.Names.{name_at};
 ghost use Rattle.class_table.specs.View.{image_of};
 ghost use Rattle.class_table.specs.Valid.{IsOrderly};
@@ -79,7 +79,7 @@ fn all_lines<L: Ledger>(
 
 /// Appends a line for each node that the pattern matches in the methods of users and the do-its, in the order of the image
 /// and then of the search: the method or do-it, and where the node begins and ends in its source. The error is want of
-/// memory; then some of the lines may be there.
+/// memory; then `out` is as it was.
 pub fn write_matches(
     alloc: Global,
     image: &Image,
@@ -89,7 +89,8 @@ pub fn write_matches(
     requires orderly { IsOrderly image.now }
     requires spelled { AreSpelled (image_of image.now) }
     requires known { PatternNames (λ n. n < length image.now.names) pattern.now }
-    ensures { OnOk result ((text : List ℕ) × (out.new ≡ out.old ++ text) × AreLines (image_of image.now) (matches (map_pattern (name_at image.now.names) pattern.now) (image_of image.now)) text) }
+    ensures written { OnOk result ((text : List ℕ) × (out.new ≡ out.old ++ text) × AreLines (image_of image.now) (matches (map_pattern (name_at image.now.names) pattern.now) (image_of image.now)) text) }
+    ensures kept { OnErr result (out.new ≡ out.old) }
 {
     let found = all_lines::<Brand>(alloc, image, pattern, Blank::new(1))?;
     out.push_slice(found.as_slice())

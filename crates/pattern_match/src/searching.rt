@@ -1,5 +1,5 @@
 // Where a pattern matches in code.
-ghost use Rattle.std.specs.Prelude.{◌≡◌, ◌<◌, ◌++◌, ◌∷◌, [], ℕ, List, IfOk, OnOk, map};
+ghost use Rattle.std.specs.Prelude.{◌≡◌, ◌<◌, ◌++◌, ◌∷◌, [], ℕ, List, IfOk, OnOk, OnErr, map};
 ghost use Rattle.tree_model.specs.Tree.{trees_of};
 ghost use Rattle.tree_model.specs.Path.{all_arguments, statement_trees};
 ghost use Rattle.tree_model.specs.Measure.{height};
@@ -211,8 +211,8 @@ fn search_parts(
     Ok(())
 }
 
-/// Appends the paths of the matches in the body of a method or a do-it, in preorder. After an error some of them may be
-/// there.
+/// Appends the paths of the matches in the body of a method or a do-it, in preorder. The error is want of memory; then `out`
+/// has the paths that it had.
 pub fn all_matches(
     alloc: Global,
     names: &Names,
@@ -220,9 +220,13 @@ pub fn all_matches(
     body: &Sequence,
     out: &mut Vec<Path>,
 ) -> Result<(), Memory>
-    ensures { OnOk result (out.new.items ≡ out.old.items ++ all_matches (number_words names.now) pattern.now (sequence_of body.now)) }
+    ensures matches { OnOk result (out.new.items ≡ out.old.items ++ all_matches (number_words names.now) pattern.now (sequence_of body.now)) }
+    ensures kept { OnErr result (out.new.items ≡ out.old.items) }
 {
     let mut parts = Vec::new(alloc);
     put_statements(alloc, body.statements.as_slice(), &mut parts)?;
-    search_parts(alloc, names, pattern, &parts, &[], out)
+    let mut paths = Vec::new(alloc);
+    search_parts(alloc, names, pattern, &parts, &[], &mut paths)?;
+    out.append(&mut paths)?;
+    Ok(())
 }

@@ -5,6 +5,7 @@ ghost use Rattle.text_model.specs.Pieces.{pieces_behind};
 ghost use Rattle.command_numbers.specs.MappedCommands.{map_condition};
 ghost use Rattle.commands.specs.Views.{condition_of};
 ghost use Rattle.apply_model.specs.Lines.{code_words, condition_words};
+ghost use Rattle.refusal_lines.specs.Begun.{BeginsWith};
 
 use crate::words::{
     push_counted, push_local, push_method, push_named, push_pair, push_part, push_spot, push_title,
@@ -15,7 +16,8 @@ use rb_base::{Memory, Names, Text};
 /// Appends the number of a condition that only commands have which change code, its name and its arguments, each behind a
 /// blank; of any other condition nothing.
 fn push_code_condition(condition: Condition, names: &Names, out: &mut Text) -> Result<(), Memory>
-    ensures { OnOk result (out.new ≡ out.old ++ pieces_behind (codes " ") (code_words (map_condition (name_at names.now) (condition_of condition)))) }
+    ensures told { OnOk result (out.new ≡ out.old ++ pieces_behind (codes " ") (code_words (map_condition (name_at names.now) (condition_of condition)))) }
+    ensures begins { BeginsWith out.new out.old }
 {
     match condition {
         Condition::ParameterUnused { selector, argument } => {
@@ -55,9 +57,10 @@ fn push_code_condition(condition: Condition, names: &Names, out: &mut Text) -> R
     }
 }
 
-/// The same of any condition. On want of memory a part of it may be appended.
+/// The same of any condition. On want of memory some bytes may be appended.
 pub fn push_condition(condition: Condition, names: &Names, out: &mut Text) -> Result<(), Memory>
-    ensures { OnOk result (out.new ≡ out.old ++ pieces_behind (codes " ") (condition_words (map_condition (name_at names.now) (condition_of condition)))) }
+    ensures told { OnOk result (out.new ≡ out.old ++ pieces_behind (codes " ") (condition_words (map_condition (name_at names.now) (condition_of condition)))) }
+    ensures begins { BeginsWith out.new out.old }
 {
     match condition {
         Condition::NoReflection => push_title(b"C1", b"NoReflection", out),

@@ -7,6 +7,7 @@ ghost use Rattle.text_model.specs.Pieces.{pieces_behind};
 ghost use Rattle.command_numbers.specs.MappedCommands.{map_spot};
 ghost use Rattle.commands.specs.Views.{spot_of};
 ghost use Rattle.apply_model.specs.Lines.{method_words, part_words, spot_words};
+ghost use Rattle.refusal_lines.specs.Begun.{BeginsWith};
 
 use commands::{MethodName, MethodPart, Spot};
 use itoa::Buffer;
@@ -25,7 +26,8 @@ fn text_of(names: &Names, name: NameId) -> &[u8]
 
 /// Appends the words, each behind a blank.
 fn push_words(words: &[&[u8]], out: &mut Text) -> Result<(), Memory>
-    ensures { OnOk result (out.new ≡ out.old ++ flat_map (λ (w : Bor (List ℕ)). codes " " ++ w.now) words.now) }
+    ensures told { OnOk result (out.new ≡ out.old ++ flat_map (λ (w : Bor (List ℕ)). codes " " ++ w.now) words.now) }
+    ensures begins { BeginsWith out.new out.old }
 {
     for word in words {
         out.push_slice(b" ")?;
@@ -36,7 +38,8 @@ fn push_words(words: &[&[u8]], out: &mut Text) -> Result<(), Memory>
 
 /// Appends the number of a condition and its name.
 pub(crate) fn push_title(number: &[u8], title: &[u8], out: &mut Text) -> Result<(), Memory>
-    ensures { OnOk result (out.new ≡ out.old ++ pieces_behind (codes " ") (number.now ∷ title.now ∷ [])) }
+    ensures told { OnOk result (out.new ≡ out.old ++ pieces_behind (codes " ") (number.now ∷ title.now ∷ [])) }
+    ensures begins { BeginsWith out.new out.old }
 {
     push_words(&[number, title], out)
 }
@@ -49,7 +52,8 @@ pub(crate) fn push_named(
     names: &Names,
     out: &mut Text,
 ) -> Result<(), Memory>
-    ensures { OnOk result (out.new ≡ out.old ++ pieces_behind (codes " ") (number.now ∷ title.now ∷ name_at names.now name ∷ [])) }
+    ensures told { OnOk result (out.new ≡ out.old ++ pieces_behind (codes " ") (number.now ∷ title.now ∷ name_at names.now name ∷ [])) }
+    ensures begins { BeginsWith out.new out.old }
 {
     push_words(&[number, title, text_of(names, name)], out)
 }
@@ -63,7 +67,8 @@ pub(crate) fn push_counted(
     names: &Names,
     out: &mut Text,
 ) -> Result<(), Memory>
-    ensures { OnOk result (out.new ≡ out.old ++ pieces_behind (codes " ") (number.now ∷ title.now ∷ name_at names.now selector ∷ decimal count ∷ [])) }
+    ensures told { OnOk result (out.new ≡ out.old ++ pieces_behind (codes " ") (number.now ∷ title.now ∷ name_at names.now selector ∷ decimal count ∷ [])) }
+    ensures begins { BeginsWith out.new out.old }
 {
     push_named(number, title, selector, names, out)?;
     out.push_slice(b" ")?;
@@ -79,7 +84,8 @@ pub(crate) fn push_pair(
     names: &Names,
     out: &mut Text,
 ) -> Result<(), Memory>
-    ensures { OnOk result (out.new ≡ out.old ++ pieces_behind (codes " ") (number.now ∷ title.now ∷ name_at names.now first ∷ name_at names.now second ∷ [])) }
+    ensures told { OnOk result (out.new ≡ out.old ++ pieces_behind (codes " ") (number.now ∷ title.now ∷ name_at names.now first ∷ name_at names.now second ∷ [])) }
+    ensures begins { BeginsWith out.new out.old }
 {
     push_words(
         &[number, title, text_of(names, first), text_of(names, second)],
@@ -95,7 +101,8 @@ pub(crate) fn push_method(
     names: &Names,
     out: &mut Text,
 ) -> Result<(), Memory>
-    ensures { OnOk result (out.new ≡ out.old ++ pieces_behind (codes " ") (number.now ∷ title.now ∷ method_words (name_at names.now method.class) method.meta (name_at names.now method.selector))) }
+    ensures told { OnOk result (out.new ≡ out.old ++ pieces_behind (codes " ") (number.now ∷ title.now ∷ method_words (name_at names.now method.class) method.meta (name_at names.now method.selector))) }
+    ensures begins { BeginsWith out.new out.old }
 {
     let side: &[u8] = if method.meta { b"class" } else { b"instance" };
     push_words(
@@ -119,7 +126,8 @@ pub(crate) fn push_local(
     names: &Names,
     out: &mut Text,
 ) -> Result<(), Memory>
-    ensures { OnOk result (out.new ≡ out.old ++ pieces_behind (codes " ") (number.now ∷ title.now ∷ method_words (name_at names.now method.class) method.meta (name_at names.now method.selector) ++ name_at names.now name ∷ [])) }
+    ensures told { OnOk result (out.new ≡ out.old ++ pieces_behind (codes " ") (number.now ∷ title.now ∷ method_words (name_at names.now method.class) method.meta (name_at names.now method.selector) ++ name_at names.now name ∷ [])) }
+    ensures begins { BeginsWith out.new out.old }
 {
     push_method(number, title, method, names, out)?;
     push_words(&[text_of(names, name)], out)
@@ -133,13 +141,19 @@ pub(crate) fn push_part(
     names: &Names,
     out: &mut Text,
 ) -> Result<(), Memory>
-    ensures { OnOk result (out.new ≡ out.old ++ pieces_behind (codes " ") (number.now ∷ title.now ∷ part_words (name_at names.now part.method.class) part.method.meta (name_at names.now part.method.selector) part.from part.to)) }
+    ensures told { OnOk result (out.new ≡ out.old ++ pieces_behind (codes " ") (number.now ∷ title.now ∷ part_words (name_at names.now part.method.class) part.method.meta (name_at names.now part.method.selector) part.from part.to)) }
+    ensures begins { BeginsWith out.new out.old }
 {
     push_method(number, title, part.method, names, out)?;
-    out.push_slice(b" ")?;
-    push_number(part.from, out)?;
-    out.push_slice(b" ")?;
-    push_number(part.to, out)
+    let mut from = Buffer::new();
+    let mut to = Buffer::new();
+    push_words(
+        &[
+            from.format(part.from).as_bytes(),
+            to.format(part.to).as_bytes(),
+        ],
+        out,
+    )
 }
 
 /// The same of a condition on a place in a method.
@@ -151,7 +165,8 @@ pub(crate) fn push_spot(
     names: &Names,
     out: &mut Text,
 ) -> Result<(), Memory>
-    ensures { OnOk result (out.new ≡ out.old ++ pieces_behind (codes " ") (number.now ∷ title.now ∷ spot_words (name_at names.now method.class) method.meta (name_at names.now method.selector) (map_spot (name_at names.now) (spot_of spot)))) }
+    ensures told { OnOk result (out.new ≡ out.old ++ pieces_behind (codes " ") (number.now ∷ title.now ∷ spot_words (name_at names.now method.class) method.meta (name_at names.now method.selector) (map_spot (name_at names.now) (spot_of spot)))) }
+    ensures begins { BeginsWith out.new out.old }
 {
     match spot {
         Spot::Part { from, to } => {
@@ -163,7 +178,8 @@ pub(crate) fn push_spot(
 
 /// Appends a number in decimal.
 pub(crate) fn push_number(number: usize, out: &mut Text) -> Result<(), Memory>
-    ensures { OnOk result (out.new ≡ out.old ++ decimal number) }
+    ensures told { OnOk result (out.new ≡ out.old ++ decimal number) }
+    ensures begins { BeginsWith out.new out.old }
 {
     let mut buffer = Buffer::new();
     out.push_slice(buffer.format(number).as_bytes())

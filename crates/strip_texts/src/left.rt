@@ -1,5 +1,5 @@
 // Images without what an expression cannot reach.
-ghost use Rattle.std.specs.Prelude.{◌≡◌, ◌<◌, length, IfOk, IfErr, OnOk};
+ghost use Rattle.std.specs.Prelude.{◌≡◌, ◌<◌, length, IfOk, IfErr, OnOk, OnErr};
 ghost use Rattle.rb_base.specs.Names.{text_eq, name_at};
 ghost use Rattle.tree_model.specs.AllNames.{SequenceNames};
 ghost use Rattle.grammar_model.specs.Whole as whole;
@@ -43,13 +43,15 @@ fn reached<L: Ledger>(
     reach(alloc, image, start, &mut steps)
 }
 
-/// Takes out of the image what its do-its and the expression do not reach. Classes and methods are found by tables.
+/// Takes out of the image what its do-its and the expression do not reach. Classes and methods are found by tables. On want of
+/// memory the image is as it was.
 fn strip_from(alloc: Global, image: &mut Image, start: &Sequence) -> Result<(), Memory>
     requires orderly { IsOrderly image.old }
     requires once { HasMethodsOnce image.old }
     requires known { SequenceNames (λ n. n < length image.old.names) (sequence_of start.now) }
     ensures image { OnOk result (image_of image.new ≡ strip text_eq (reach text_words (plus (image_of image.old) (map_doit (name_at image.old.names) (start_of start.now)))) (image_of image.old)) }
-    ensures orderly { OnOk result (IsOrderly image.new) }
+    ensures orderly { IsOrderly image.new }
+    ensures kept { OnErr result (image.new ≡ image.old) }
 {
     image.reindex()?;
     let found = reached::<Brand>(alloc, image, start, Blank::new(1))?;
@@ -62,12 +64,14 @@ fn strip_from(alloc: Global, image: &mut Image, start: &Sequence) -> Result<(), 
 ///
 /// # Errors
 ///
-/// The first fault of the expression, at an offset in bytes from its start, or want of memory.
+/// The first fault of the expression, at an offset in bytes from its start, or want of memory; the image is then as it was, but
+/// for further names.
 pub fn strip_for(alloc: Global, expression: &[u8], image: &mut Image) -> Result<(), ParseFault>
     requires orderly { IsOrderly image.old }
     requires once { HasMethodsOnce image.old }
     ensures left { OnOk result (IsLeftFor expression.now (image_of image.old) (image_of image.new)) }
-    ensures orderly { OnOk result (IsOrderly image.new) }
+    ensures orderly { IsOrderly image.new }
+    ensures kept { OnErr result (image_of image.new ≡ image_of image.old) }
     ensures fault { IfErr result (IsRefused whole.DoIt expression.now) }
 {
     let start = read_doit(alloc, expression, image)?;

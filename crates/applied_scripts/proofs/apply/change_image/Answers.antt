@@ -15,4 +15,4 @@ returns-in-Ok-clause-changed c =
 
 pub returns-in_ok-push_script_line-in-Err-clause-changed : goal.returns-in_ok-push_script_line-in-Err-clause-changed
 returns-in_ok-push_script_line-in-Err-clause-changed c =
-    wrong (image_of c.args.image.now) (image_of c.script_lines.new.image) c.args.script.now c.push_script_line.new.out c.in-Err.fault c.in-Err.ensures.fault (rw c.requires.empty at c.in_ok-push_script_line-in-Err.ensures)
+    wrong (image_of c.args.image.now) (image_of c.script_lines.new.image) c.args.script.now c.push_script_line.new.out c.in-Err.fault c.in-Err.ensures.fault (rw c.requires.empty at c.in_ok-push_script_line-in-Err.ensures.told)

@@ -14,11 +14,11 @@ pub returns-in-Ok : goal.returns-in-Ok
 returns-in-Ok c =
     IfOk-weaker c.demo_change.result _ _
     (λ status changes. Shown (image_of c.add_doit.new.image)
-    (subst (λ (t : List ℕ). IsWithDoIt t (image_of c.args.image.now) (image_of c.add_doit.new.image)) (c.as_slice.ensures ∙ c.in_ok-make_expression.ensures ∙ ap (λ (t : List ℕ). t ++ expression_text c.args.classes) c.new-expression.ensures) c.in-Ok.ensures.added)
+    (subst (λ (t : List ℕ). IsWithDoIt t (image_of c.args.image.now) (image_of c.add_doit.new.image)) (c.as_slice.ensures ∙ c.in_ok-make_expression.ensures.made ∙ ap (λ (t : List ℕ). t ++ expression_text c.args.classes) c.new-expression.ensures) c.in-Ok.ensures.added)
     (subst (λ (s : Slots). ChangesIn c.args.classes (image_of s) status c.demo_change.new.out) c.last_line.ensures.same changes)) c.demo_change.ensures
 
 pub returns : goal.returns
 returns c =
-    let refused = subst (λ (t : List ℕ). IsRefused DoIt t c.in-Err.fault) (c.as_slice.ensures ∙ c.in_ok-make_expression.ensures ∙ ap (λ (t : List ℕ). t ++ expression_text c.args.classes) c.new-expression.ensures) c.in-Err.ensures.fault in
+    let refused = subst (λ (t : List ℕ). IsRefused DoIt t c.in-Err.fault) (c.as_slice.ensures ∙ c.in_ok-make_expression.ensures.made ∙ ap (λ (t : List ℕ). t ++ expression_text c.args.classes) c.new-expression.ensures) c.in-Err.ensures.fault in
     let told = fault_told _ c.in-Err.fault c.push_expression_refusal.new.out refused c.in_ok-push_expression_refusal-in-Err.ensures in
     NoExpression told.0 told.1 refl told.2

@@ -18,7 +18,7 @@ write_matches-requires-clause-spelled c = subst AreSpelled (sym c.pattern_in.ens
 pub returns-in_ok-write_matches-in-Ok : goal.returns-in_ok-write_matches-in-Ok
 returns-in_ok-write_matches-in-Ok c =
     let p = map_pattern (name_at c.pattern_in.new.image.names) c.in-Ok.pattern in
-    let told = c.in_ok-write_matches-in-Ok.ensures in
+    let told = c.in_ok-write_matches-in-Ok.ensures.written in
     let same : c.write_matches.new.out ≡ told.0 = told.1 ∙ ap (λ (t : List ℕ). t ++ told.0) c.requires.empty in
     Matched p c.in-Ok.ensures.said
     (subst (λ (t : List ℕ). AreLines (image_of c.args.image.now) (matches p (image_of c.args.image.now)) t) (sym same)

@@ -18,7 +18,7 @@ returns-then-is_empty c =
     let paths = c.as_slice-found.result.now in
     let none : length paths ≡ 0 = eqb-true (length paths) 0 (sym c.if-is_empty.ensures) in
     no_paths_told (codes "doit " ++ decimal (c.args.number + 1)) (StandsInDoItText c.args.source.now) paths (all_matches (number_words s.names) p b) c.new.result
-    (paths_found p b paths c.all_matches.new.out.items c.new-paths.result.items c.names.result.now s.names c.as_slice-found.ensures.value c.in_ok-all_matches.ensures c.new-paths.ensures.items c.names.ensures)
+    (paths_found p b paths c.all_matches.new.out.items c.new-paths.result.items c.names.result.now s.names c.as_slice-found.ensures.value c.in_ok-all_matches.ensures.matches c.new-paths.ensures.items c.names.ensures)
     none c.new.ensures
 
 pub returns : goal.returns
@@ -33,6 +33,6 @@ returns c =
     doit_stand (codes "doit " ++ decimal (c.args.number + 1)) c.args.source.now nodes (all_matches (number_words s.names) p b) text c.in_ok-nodes.ensures
     (lines_same c.as_slice.result.now (codes "doit " ++ decimal (c.args.number + 1)) c.as_slice-2.result.now nodes paths (all_matches (number_words s.names) p b) text
     (c.as_slice.ensures ∙ c.in_ok-title.ensures) c.as_slice-2.ensures
-    (paths_found p b paths c.all_matches.new.out.items c.new-paths.result.items c.names.result.now s.names c.as_slice-found.ensures.value c.in_ok-all_matches.ensures c.new-paths.ensures.items c.names.ensures)
+    (paths_found p b paths c.all_matches.new.out.items c.new-paths.result.items c.names.result.now s.names c.as_slice-found.ensures.value c.in_ok-all_matches.ensures.matches c.new-paths.ensures.items c.names.ensures)
     lines))
     c.path_lines.ensures

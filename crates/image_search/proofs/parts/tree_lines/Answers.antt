@@ -17,7 +17,7 @@ returns-then-is_empty c =
     let paths = c.as_slice-found.result.now in
     let none : length paths ≡ 0 = eqb-true (length paths) 0 (sym c.if-is_empty.ensures) in
     no_paths_told (title_of s.names s.classes c.args.info.now.class c.args.info.now.meta c.args.info.now.selector) (StandsInMethodText c.args.info.now.source.now) paths (all_matches (number_words s.names) p b) c.new.result
-    (paths_found p b paths c.all_matches.new.out.items c.new-paths.result.items c.names.result.now s.names c.as_slice-found.ensures.value c.in_ok-all_matches.ensures c.new-paths.ensures.items c.names.ensures)
+    (paths_found p b paths c.all_matches.new.out.items c.new-paths.result.items c.names.result.now s.names c.as_slice-found.ensures.value c.in_ok-all_matches.ensures.matches c.new-paths.ensures.items c.names.ensures)
     none c.new.ensures
 
 pub returns : goal.returns
@@ -32,6 +32,6 @@ returns c =
     method_stand (title_of s.names s.classes c.args.info.now.class c.args.info.now.meta c.args.info.now.selector) c.args.info.now.source.now nodes (all_matches (number_words s.names) p b) text c.in_ok-nodes.ensures
     (lines_same c.as_slice.result.now (title_of s.names s.classes c.args.info.now.class c.args.info.now.meta c.args.info.now.selector) c.as_slice-2.result.now nodes paths (all_matches (number_words s.names) p b) text
     (c.as_slice.ensures ∙ c.in_ok-title.ensures) c.as_slice-2.ensures
-    (paths_found p b paths c.all_matches.new.out.items c.new-paths.result.items c.names.result.now s.names c.as_slice-found.ensures.value c.in_ok-all_matches.ensures c.new-paths.ensures.items c.names.ensures)
+    (paths_found p b paths c.all_matches.new.out.items c.new-paths.result.items c.names.result.now s.names c.as_slice-found.ensures.value c.in_ok-all_matches.ensures.matches c.new-paths.ensures.items c.names.ensures)
     lines))
     c.path_lines.ensures

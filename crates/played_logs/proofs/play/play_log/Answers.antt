@@ -14,4 +14,4 @@ returns-in_ok-play_counted-in-Ok c =
 
 pub returns-in_ok-push_script_line-in-Err : goal.returns-in_ok-push_script_line-in-Err
 returns-in_ok-push_script_line-in-Err c =
-    wrong-log (image_of c.args.image) c.args.log.now c.push_script_line.new.out c.in-Err.fault c.in-Err.ensures.fault (rw c.requires.empty at c.in_ok-push_script_line-in-Err.ensures)
+    wrong-log (image_of c.args.image) c.args.log.now c.push_script_line.new.out c.in-Err.fault c.in-Err.ensures.fault (rw c.requires.empty at c.in_ok-push_script_line-in-Err.ensures.told)

@@ -7,26 +7,26 @@ use Rattle.commands.specs.Views.{condition_of}
 use Rattle.apply_model.specs.Lines.{code_words, condition_words}
 use Rattle.refusal_lines.proofs.conditions.push_condition.Goals as goal
 
-pub returns-in-HasVariable : goal.returns-in-HasVariable
-returns-in-HasVariable c = rw c.in-HasVariable.is c.push_pair.ensures
+pub returns-in-HasVariable-clause-told : goal.returns-in-HasVariable-clause-told
+returns-in-HasVariable-clause-told c = rw c.in-HasVariable.is c.push_pair.ensures.told
 
-pub returns-in-VariableFree : goal.returns-in-VariableFree
-returns-in-VariableFree c = rw c.in-VariableFree.is c.push_pair-in-VariableFree.ensures
+pub returns-in-VariableFree-clause-told : goal.returns-in-VariableFree-clause-told
+returns-in-VariableFree-clause-told c = rw c.in-VariableFree.is c.push_pair-in-VariableFree.ensures.told
 
-pub returns-in-VariableUnused : goal.returns-in-VariableUnused
-returns-in-VariableUnused c = rw c.in-VariableUnused.is c.push_pair-in-VariableUnused.ensures
+pub returns-in-VariableUnused-clause-told : goal.returns-in-VariableUnused-clause-told
+returns-in-VariableUnused-clause-told c = rw c.in-VariableUnused.is c.push_pair-in-VariableUnused.ensures.told
 
-pub returns-in-ParentIsUser : goal.returns-in-ParentIsUser
-returns-in-ParentIsUser c = rw c.in-ParentIsUser.is c.push_named-in-ParentIsUser.ensures
+pub returns-in-ParentIsUser-clause-told : goal.returns-in-ParentIsUser-clause-told
+returns-in-ParentIsUser-clause-told c = rw c.in-ParentIsUser.is c.push_named-in-ParentIsUser.ensures.told
 
-pub returns-in-Unreached : goal.returns-in-Unreached
-returns-in-Unreached c = rw c.in-Unreached.is c.push_named-in-Unreached.ensures
+pub returns-in-Unreached-clause-told : goal.returns-in-Unreached-clause-told
+returns-in-Unreached-clause-told c = rw c.in-Unreached.is c.push_named-in-Unreached.ensures.told
 
-pub returns-in-LacksVariable : goal.returns-in-LacksVariable
-returns-in-LacksVariable c = rw c.in-LacksVariable.is c.push_pair-in-LacksVariable.ensures
+pub returns-in-LacksVariable-clause-told : goal.returns-in-LacksVariable-clause-told
+returns-in-LacksVariable-clause-told c = rw c.in-LacksVariable.is c.push_pair-in-LacksVariable.ensures.told
 
-pub returns-in_default : goal.returns-in_default
-returns-in_default c = rw (by c.args.condition refl) c.push_code_condition.ensures
+pub returns-in_default-clause-told : goal.returns-in_default-clause-told
+returns-in_default-clause-told c = rw (by c.args.condition refl) c.push_code_condition.ensures.told
   where
     -- the words of a condition that only commands have which change code
     by : (x : Condition) → c.args.condition ≡ x → condition_words (map_condition (name_at c.args.names.now) (condition_of x)) ≡ code_words (map_condition (name_at c.args.names.now) (condition_of x))
