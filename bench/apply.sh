@@ -6,9 +6,9 @@
 # The first table has each command on 80,000 methods and on 9,979 classes: the milliseconds of processor time of the first, the second
 # and the twentieth command of a script, then how many commands a long script has and what each of them takes, and the greatest memory
 # in megabytes. Reading and writing the image is taken off: the first command takes what a script of one command takes more than an empty
-# one. Each of these is the best of RUNS, 5 if no number is given; the long script runs once, and has as many commands as the image
-# allows, up to 10,000, but about 60 seconds of them at most. Two commands in one line take turns, so that the first one of the line is
-# the first of the script, and the last one is its twentieth.
+# one. Each of these is the best of RUNS, 5 if no number is given. The long script has as many commands as the image allows, up to
+# 10,000, but about 60 seconds of them at most. Two commands in one line take turns, so that the first one of the line is the first of
+# the script, and the last one is its twentieth. All of it takes some half an hour with five runs.
 #
 # The second table has whole scripts over 1,640,000 nodes and over 4 MB of ordinary code: the status, the seconds of processor time and
 # the greatest memory, and whether the image came out as it was; only the first two leave it so.
@@ -159,7 +159,7 @@ def row(image, forms, most, empty):
     one, two, nineteen, twenty = (best(image, forms, count) for count in (1, 2, 19, 20))
     each = max(twenty - empty, 0.001) / 20
     count = max(20, min(most, int(LONGEST / each)))
-    seconds, memory, refused = run(image, commands(forms, count))
+    seconds, memory, refused = min((run(image, commands(forms, count)) for _ in range(runs)), key=lambda told: told[0])
     if refused:
         return f"{name:66} {refused}"
     single = "".join(f"{1000 * more:9.2f}" for more in (one - empty, two - one, twenty - nineteen))
