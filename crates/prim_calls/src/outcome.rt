@@ -1,5 +1,5 @@
 // What primitives answer, done in a store.
-ghost use Rattle.std.specs.Prelude.{◌≡◌, ◌≤◌, List, IfOk};
+ghost use Rattle.std.specs.Prelude.{◌≡◌, ◌≤◌, List, IfOk, OnErr};
 ghost use Rattle.run_model.specs.Values.{Name, Value as run_value};
 ghost use Rattle.run_model.specs.Acts.{acts};
 ghost use Rattle.run_model.specs.Eval.{Evaluator, follows};
@@ -27,6 +27,7 @@ pub enum PrimResult {
 fn tell_any(store: &mut Store<'_>, told: Option<Event>) -> Result<(), Memory>
     ensures store { IfOk result (λ _. (names : List Name) → store_of names store.new ≡ told_in told (store_of names store.old)) }
     ensures ticks { store.new.ticks ≡ store.old.ticks }
+    ensures rest { store.new ≡ record store.old { events = store.new.events } }
 {
     match told {
         Some(event) => store.tell(event),
@@ -35,7 +36,8 @@ fn tell_any(store: &mut Store<'_>, told: Option<Event>) -> Result<(), Memory>
 }
 
 fn change_heap(heap: &mut Heap, change: Change) -> Result<(), Memory>
-    ensures { IfOk result (λ _. heap.new ≡ changed heap.old change) }
+    ensures changed { IfOk result (λ _. heap.new ≡ changed heap.old change) }
+    ensures kept { OnErr result (heap.new ≡ heap.old) }
 {
     match change {
         Change::Nothing => {}
@@ -54,16 +56,19 @@ fn change_heap(heap: &mut Heap, change: Change) -> Result<(), Memory>
 fn make(store: &mut Store<'_>, change: Change) -> Result<(), Memory>
     ensures store { IfOk result (λ _. (names : List Name) → store_of names store.new ≡ changed_in change (store_of names store.old)) }
     ensures ticks { store.new.ticks ≡ store.old.ticks }
+    ensures kept { OnErr result (store.new ≡ store.old) }
 {
     change_heap(&mut store.heap, change)
 }
 
-/// Takes the ticks that a reply wants, tells its event, and changes the heap.
+/// Takes the ticks that a reply wants, tells its event, and changes the heap. On want of memory the ticks are taken, and the event
+/// may be told; all else is as it was.
 #[tactic(auto, unfolding(run_model::specs::Acts::fails))]
 pub fn perform(store: &mut Store<'_>, reply: Reply) -> Result<PrimResult, Memory>
     ensures done { IfOk result (λ r. (names : List Name) (go : Evaluator acts) (args : List run_value) →
         ends_as go args r (store_of names store.new) ≡ follows acts go args (reply_of store.old.heap reply) (store_of names store.old)) }
     ensures ticks { store.new.ticks ≤ store.old.ticks }
+    ensures kept { OnErr result (store.new ≡ record store.old { events = store.new.events; ticks = store.new.ticks }) }
 {
     match reply {
         Reply::Faults(error) => Ok(PrimResult::Fault(error)),

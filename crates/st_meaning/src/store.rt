@@ -70,6 +70,7 @@ impl<'p> Store<'p> {
     pub fn pay(&mut self, ticks: usize) -> bool
         ensures store { (names : List Name) (a : run_value) → paid result a (store_of names self.new) ≡ pays ticks a (store_of names self.old) }
         ensures ticks { self.new.ticks ≤ self.old.ticks }
+        ensures rest { self.new ≡ record self.old { ticks = self.new.ticks } }
     {
         let left = self.ticks as usize;
         if ticks <= left {
@@ -81,10 +82,11 @@ impl<'p> Store<'p> {
         }
     }
 
-    /// Tells an event.
+    /// Tells an event. On want of memory it is not told.
     pub fn tell(&mut self, event: Event) -> Result<(), Memory>
         ensures store { IfOk result (λ _. (names : List Name) → store_of names self.new ≡ (let s = store_of names self.old in record s { events = s.events ++ event ∷ [] })) }
         ensures ticks { self.new.ticks ≡ self.old.ticks }
+        ensures rest { self.new ≡ record self.old { events = self.new.events } }
     {
         self.events.push(event)?;
         Ok(())

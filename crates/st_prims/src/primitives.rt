@@ -1,5 +1,5 @@
 // The one call of all primitives.
-ghost use Rattle.std.specs.Prelude.{◌≡◌, ◌≤◌, List, IfOk};
+ghost use Rattle.std.specs.Prelude.{◌≡◌, ◌≤◌, List, IfOk, OnErr};
 ghost use Rattle.run_model.specs.Values.{Name};
 ghost use Rattle.run_model.specs.Acts.{acts};
 ghost use Rattle.run_model.specs.Eval.{Evaluator, does_primitive};
@@ -90,7 +90,8 @@ fn reply(
 
 /// Does the primitive of a number, from 0 to 65,535, for a receiver with arguments: takes the ticks that it wants, tells
 /// its event and changes the heap. Where there is no such primitive the receiver is of the wrong kind. A closure is not
-/// run here: it is for the caller to enter it. After want of memory the store is of no more use.
+/// run here: it is for the caller to enter it. On want of memory the ticks may be taken and the event told; all else that the store
+/// holds is as it was.
 pub fn primitive(
     alloc: Global,
     number: u16,
@@ -103,6 +104,7 @@ pub fn primitive(
     ensures done { IfOk result (λ r. (names : List Name) (go : Evaluator acts) →
         ends_as go arguments.now r (store_of names store.new) ≡ does_primitive acts (image_of image.now) go number receiver.now arguments.now (store_of names store.old)) }
     ensures ticks { store.new.ticks ≤ store.old.ticks }
+    ensures kept { OnErr result (store.new ≡ record store.old { events = store.new.events; ticks = store.new.ticks }) }
 {
     let call = Call {
         number,
