@@ -12,7 +12,7 @@ use Rattle.scope_model.specs.FreeNames.{free_in_statements}
 use Rattle.image_model.specs.Means.{MeaningOf, of_instance, pseudo, means_by}
 use Rattle.image_model.specs.Uses.{name_used, is_variable}
 use Rattle.command_model.specs.Places.{is_local}
-use Rattle.use_questions.proofs.Meant.{meaning_at, used-free}
+use Rattle.use_questions.proofs.Meanings.{meaning_at, used-free}
 
 module _ (is_pseudo : ℕ → Bool) (s : ScopeOf ℕ) (outside : ℕ → MeaningOf ℕ) (c x : ℕ) where
   -- what a name stands for in the scope, and whether a meaning is the variable

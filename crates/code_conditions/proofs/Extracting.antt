@@ -31,10 +31,10 @@ module _ (s : Slots) (p : MethodPart) (t : ℕ) (m : EntryOf ℕ) (part : Part) 
   after = normal (extracted.part_replaced m.tree part (extracted.call_of (asked s) t m.tree part))
 
   -- what is made is made of the names of the image
-  method-told : extracted.method_of (number_asked ns k no_parts) t m.tree part ≡ extracted.method_of (asked s) t m.tree part
+  pub method-told : extracted.method_of (number_asked ns k no_parts) t m.tree part ≡ extracted.method_of (asked s) t m.tree part
   method-told = ap (λ (xs : List (List ℕ)). extracted.method_of (number_asked xs k no_parts) t m.tree part) same_names
 
-  sender-told : normal (extracted.part_replaced m.tree part (extracted.call_of (number_asked ns k no_parts) t m.tree part)) ≡ after
+  pub sender-told : normal (extracted.part_replaced m.tree part (extracted.call_of (number_asked ns k no_parts) t m.tree part)) ≡ after
   sender-told = λ j. normal (extracted.part_replaced m.tree part (extracted.call_of (number_asked (same_names j) ((self ∙ ap self_in same_names) j) no_parts) t m.tree part))
 
   found-told : are_low_extracted (asked s) (number_image s) t m part ≡ is_shallow_extracted s p t

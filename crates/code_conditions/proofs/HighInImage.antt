@@ -101,13 +101,13 @@ module _ (s : Slots) (a : Abstraction) where
   node-same at path (return t) = refl
 
   -- whether a method of an image, and a do-it, is low then, if it means the variable
-  abbrev low : EntryOf ℕ → Bool
+  abbrev pub low : EntryOf ℕ → Bool
   low m = m.kernel || (not (is_meant (number_words s.names) no_writing a.self_name a.class a.variable a.setter a.parameter i (in_method s a m) m.tree.body) || is_low (entry_made m).tree.body)
 
-  abbrev low_doit : DoItOf ℕ → Bool
+  abbrev pub low_doit : DoItOf ℕ → Bool
   low_doit d = not (is_meant (number_words s.names) no_writing a.self_name a.class a.variable a.setter a.parameter i (in_doit s a d.body) d.body) || is_low (code_made d).body
 
-  method-low : (m : EntryOf ℕ) → is_method_high s a m ≡ not (low m)
+  pub method-low : (m : EntryOf ℕ) → is_method_high s a m ≡ not (low m)
   method-low m =
       by (means_it s a (in_method s a m) m.tree.body)
       ∙ (λ j. not (m.kernel || (not (means_it s a (in_method s a m) m.tree.body) || is_low (if means_it s a (in_method s a m) m.tree.body then record m { tree = rebuilt_method (λ path t. node-same (in_method s a m) path t j) m.tree; source = [] } else m).tree.body)))
@@ -117,7 +117,7 @@ module _ (s : Slots) (a : Abstraction) where
       by true = sym (neither m.kernel (is_low (rebuilt_method (node_after s a (in_method s a m)) m.tree).body))
       by false = none-kept m.kernel
 
-  doit-low : (d : DoItOf ℕ) → is_doit_high s a d ≡ not (low_doit d)
+  pub doit-low : (d : DoItOf ℕ) → is_doit_high s a d ≡ not (low_doit d)
   doit-low d =
       by (means_it s a (in_doit s a d.body) d.body)
       ∙ (λ j. not (not (means_it s a (in_doit s a d.body) d.body) || is_low (if means_it s a (in_doit s a d.body) d.body then record { body = rebuilt_sequence (λ path t. node-same (in_doit s a d.body) path t j) d.body; source = [] } else d).body))

@@ -23,7 +23,7 @@ use Rattle.code_conditions.proofs.Made.{answer_is}
 use Rattle.code_conditions.proofs.Through.{part-method}
 
 -- what is found passes
-find-passes : {X : Type 0} (test : X → Bool) (xs : List X) (x : X) → find test xs ≡ Some x → test x ≡ true
+pub find-passes : {X : Type 0} (test : X → Bool) (xs : List X) (x : X) → find test xs ≡ Some x → test x ≡ true
 find-passes test [] x e = absurd (cc)
 find-passes test (y ∷ ys) x e = by (test y) refl e (find-passes test ys x)
   where

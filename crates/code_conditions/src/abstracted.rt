@@ -66,7 +66,7 @@ fn is_number_high<L: Ledger>(
 }
 
 /// Whether the code at a place is.
-fn is_place_high<L: Ledger>(
+pub fn is_place_high<L: Ledger>(
     alloc: Global,
     image: &Image,
     place: Place,

@@ -24,7 +24,7 @@ use temporary_code::normalized;
 use users_methods::users_method;
 
 /// The tree in which the part, an expression, is the temporary.
-pub(crate) fn with_temporary<L: Ledger>(
+pub fn with_temporary<L: Ledger>(
     alloc: Global,
     image: &Image,
     part: &MethodPart,
@@ -77,7 +77,7 @@ fn inlined_at<L: Ledger>(
 }
 
 /// The tree in which the part, a message, is the body of the method that it finds.
-pub(crate) fn with_body<L: Ledger>(
+pub fn with_body<L: Ledger>(
     alloc: Global,
     image: &Image,
     part: &MethodPart,
@@ -100,7 +100,7 @@ pub(crate) fn with_body<L: Ledger>(
 }
 
 /// The tree in which the temporary is what is assigned to it.
-pub(crate) fn with_value<L: Ledger>(
+pub fn with_value<L: Ledger>(
     alloc: Global,
     image: &Image,
     method: &MethodName,

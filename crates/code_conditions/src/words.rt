@@ -5,7 +5,7 @@ ghost use Rattle.commands.specs.Views.{self_in};
 use rb_base::{NameId, Names};
 
 /// The name `self`, or that of the number 0, if the table has no `self`.
-pub(crate) fn self_name(names: &Names) -> NameId
+pub fn self_name(names: &Names) -> NameId
     ensures { result ≡ self_in names.now }
 {
     match names.find(b"self") {

@@ -23,7 +23,7 @@ use Rattle.class_table.proofs.Live.{eqb-refl, eqb-equal}
 use Rattle.code_questions.proofs.Witnesses.{same-truth}
 use Rattle.use_questions.proofs.Free.{once-any}
 use Rattle.use_questions.proofs.Tests.{alike, beside}
-use Rattle.use_questions.proofs.Meant.{IsOfGlobals, meaning_at, passes-outside, used-free, class-name}
+use Rattle.use_questions.proofs.Meanings.{IsOfGlobals, meaning_at, passes-outside, used-free, class-name}
 use Rattle.image_strip.specs.Code.{AreMeant}
 use Rattle.image_strip.proofs.Alls.{no-more}
 use Rattle.image_strip.proofs.Marked.{any-flat}

@@ -43,6 +43,16 @@ module _ (s : Slots) (orderly : IsOrderly s) (k : ℕ) (live : IsLive s.class_or
   pub users-found : finds_users s k meta selector ≡ option_map_or (λ (m : EntryOf ℕ). not m.kernel) found false
   users-found = read false (λ (m : EntryOf ℕ). not m.kernel)
 
+  -- the method in that slot, which is live
+  pub held-found : option_and_then (λ j. option_map (entry_of s.classes) (live_at s.methods s.method_order j)) (found_by_lookup s k meta selector) ≡ found
+  held-found = by (found_by_lookup s k meta selector) refl ∙ sym in-slot
+    where
+      by : (o : Option ℕ) → found_by_lookup s k meta selector ≡ o → option_and_then (λ j. option_map (entry_of s.classes) (live_at s.methods s.method_order j)) o ≡ option_and_then (entry_at s) o
+      by None e = refl
+      by (Some j) e =
+          let t = found-there s meta selector k j e in
+          ap (option_map (entry_of s.classes)) (t.1 ∙ sym (live-live_at s.methods s.method_order j t.0 t.1).1)
+
   pub opened-found : option_and_then (opened_at s) (found_by_lookup s k meta selector) ≡ option_map code_alone found
   opened-found = by (found_by_lookup s k meta selector) refl ∙ ap (option_map code_alone) (sym in-slot)
     where

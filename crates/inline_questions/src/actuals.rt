@@ -106,8 +106,9 @@ fn is_open_temporary(
     }
 }
 
-/// Whether what is passed for an argument of the target is plain, or such a temporary.
-fn is_actual_plain(
+/// Whether what is passed for an argument of the target is plain, or is a temporary that no closure assigns, for an argument
+/// that no closure reads. `self_name` is the number of the name `self`. Want of memory, if there is not enough of it to look.
+pub fn is_actual_plain(
     alloc: Global,
     image: &Image,
     call: &Call<'_>,

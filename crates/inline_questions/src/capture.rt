@@ -30,7 +30,7 @@ use st_tree::{Method, Node, NodeKind, Part, Path};
 use std::alloc::Global;
 
 /// Whether the name is declared in a block.
-fn is_of_block(local: Local) -> bool
+pub fn is_of_block(local: Local) -> bool
     ensures { result ≡ places.is_of_block local }
 {
     match local {

@@ -72,7 +72,7 @@ fn is_any_bound(names: &Names, found: &[PlacedNode<'_>], same_class: bool) -> bo
 }
 
 /// Whether the method is one of the class of the name.
-fn is_method_of(image: &Image, class: NameId, method: &MethodCode<'_>) -> bool
+pub fn is_method_of(image: &Image, class: NameId, method: &MethodCode<'_>) -> bool
     requires live { IsLive image.now.class_order method.now.class }
     ensures { result ≡ is_method_of nat_eq class (entry_of image.now method.now) }
 {
@@ -120,8 +120,8 @@ fn is_statement_between(alloc: Global, method: &Method, path: &Path) -> Result<b
 }
 
 /// Whether the body answers one expression, or no statement but its last one is a return and the message is a whole statement
-/// that does not end a block.
-fn is_fit(
+/// that does not end a block. Want of memory, if there is not enough of it for a path.
+pub fn is_fit(
     alloc: Global,
     method: &Method,
     path: &Path,

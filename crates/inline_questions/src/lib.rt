@@ -10,9 +10,9 @@ mod control;
 mod inlinable;
 mod targets;
 
-pub use actuals::are_actuals_plain;
-pub use capture::{captures_nothing, free_names_of, same_meaning};
+pub use actuals::{are_actuals_plain, is_actual_plain};
+pub use capture::{captures_nothing, free_names_of, is_of_block, same_meaning};
 pub use code::{Call, Target, is_self_send, opened, target_of};
 pub use control::{makes_control, makes_no_control};
-pub use inlinable::is_inlinable;
+pub use inlinable::{is_fit, is_inlinable, is_method_of};
 pub use targets::is_one_target;

@@ -21,8 +21,8 @@ use rb_base::{Memory, NameId};
 use st_tree::{Method, Part, Path};
 use std::alloc::Global;
 
-/// The path of the assignment.
-pub(crate) fn let_path(alloc: Global, assignment: &Let<'_>) -> Result<Path, Memory>
+/// The path of the assignment. Want of memory, if there is not enough of it for that path.
+pub fn let_path(alloc: Global, assignment: &Let<'_>) -> Result<Path, Memory>
     ensures { IfOk result (λ path. path ≡ model.let_path (let_as assignment.now)) }
 {
     let mut path = assignment.sequence.try_copy(alloc)?;

@@ -8,6 +8,6 @@ mod kept;
 mod question;
 
 pub use control::is_value_no_control;
-pub use form::is_let_form;
+pub use form::{is_let_form, let_path};
 pub use kept::is_value_kept;
 pub use question::LetCode;

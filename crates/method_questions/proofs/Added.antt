@@ -1,19 +1,13 @@
 -- Which method each class itself has once one has come.
-use Rattle.std.proofs.Common.{◌≡◌, ℕ, Bool, true, false, cond, ◌&&◌, List, [], ◌∷◌, ◌++◌, Option, Some, None, is_some, option_map, slice_get, refl, sym, ap, ◌∙◌}
+use Rattle.std.proofs.Common.{◌≡◌, ℕ, Bool, true, false, cond, ◌&&◌, List, [], ◌∷◌, ◌++◌, Option, Some, None, is_some, option_map, slice_get, refl, sym, ap, subst, ◌∙◌}
 use Rattle.std.specs.Prelude.{nat_eq}
-use Rattle.std.specs.Prelude.{Result, IfOk}
 use Rattle.std.specs.Bool.{beq}
 use Rattle.std.specs.Option.{option_and_then, option_or}
 use Rattle.std.proofs.Math.Bool.{and-true, and-false}
 use Rattle.std.proofs.lemmas.List.Folds.{find-append}
-use Rattle.std.proofs.lemmas.Result.{IfOk-weaker}
-use Rattle.rb_base.specs.declared.memory.Memory.{Memory}
-use Rattle.image_model.specs.Image.{ClassOf, EntryOf, ImageOf}
-use Rattle.image_model.specs.Words.{number_words}
-use Rattle.image_model.specs.Chain.{class_named}
+use Rattle.image_model.specs.Image.{EntryOf, ImageOf}
 use Rattle.image_model.proofs.Lists.{option_map-option_or}
 use Rattle.image_model.specs.Lookup.{is_method, own_method}
-use Rattle.st_tree.specs.declared.tree.Method.{Method}
 use Rattle.st_tree.specs.View.{method_of}
 use Rattle.class_table.specs.declared.record.ClassRec.{ClassRec}
 use Rattle.class_table.specs.Slots.{Slots}
@@ -25,8 +19,6 @@ use Rattle.class_table.proofs.Found.{class_named-named_in}
 use Rattle.class_questions.proofs.ChainLaws.{named-slot}
 use Rattle.command_model.specs.Hierarchy.{is_class}
 use Rattle.command_model.specs.MethodEffects.{new_method, method_added}
-use Rattle.command_model.specs.MethodConditions as model
-use Rattle.commands.specs.Views.{asked_by}
 use Rattle.method_questions.specs.declared.found.Found.{Found}
 use Rattle.method_questions.specs.declared.moves.Way.TheVariants as way
 use Rattle.method_questions.specs.declared.moves.Moved.{Moved}
@@ -35,11 +27,11 @@ use Rattle.method_questions.specs.declared.moves.After.TheVariants as after
 use Rattle.method_questions.specs.Found.{bare_entry, as_entry, own_slot}
 use Rattle.method_questions.specs.Moves as moves
 use Rattle.method_questions.specs.Moves.{own_after, after_entry}
-use Rattle.method_questions.specs.Unreached.{is_unreached}
+use Rattle.method_questions.specs.Unreached.{LeadsTo}
 use Rattle.method_questions.proofs.OwnMethods.{sides-same, own-method, own-holds, opened-holds, own-live}
 use Rattle.method_questions.proofs.Inherited.{or-none}
 use Rattle.method_questions.proofs.AfterFacts.{there-read, first-read}
-use Rattle.method_questions.proofs.MovedImages.{unreached-told}
+use Rattle.method_questions.proofs.MovedImages.{leads}
 use Rattle.method_questions.proofs.Classes.{classes-agree}
 
 module _ (s : Slots) (orderly : IsOrderly s) (found : Found) (protocol text : List ℕ) (c : ClassRec) (live : IsLive s.class_order found.class) (class : slice_get s.classes found.class ≡ Some c) where
@@ -95,33 +87,27 @@ module _ (s : Slots) (orderly : IsOrderly s) (found : Found) (protocol text : Li
       ∙ ap (λ (b : Bool). option_or (own_method nat_eq image.methods n false selector) (cond b (Some new) None)) ((λ i. (nat_eq n c.name && beq false (t i)) && nat_eq selector selector) ∙ ap (λ (x : Bool). x && nat_eq selector selector) (and-false (nat_eq n c.name)))
       ∙ or-none (own_method nat_eq image.methods n false selector)
 
-  pub comes-told : is_unreached s coming ≡ model.is_unreached (number_words s.names) (asked_by s.names).is_super image (method_added c.name found.meta protocol text (method_of found.tree.now) image) found.meta selector
-  comes-told = unreached-told s orderly coming (image.methods ++ new ∷ []) (record { own = own-told; other = other-side })
+  pub comes-leads : LeadsTo s coming (method_added c.name found.meta protocol text (method_of found.tree.now) image) found.meta selector
+  comes-leads = leads s orderly coming (image.methods ++ new ∷ []) (record { own = own-told; other = other-side })
 
-module _ (s : Slots) (n : ℕ) (meta : Bool) (protocol text : List ℕ) (tree : Method) where
-  -- what is asked for where a method comes
-  abbrev pub may_come : Bool
-  may_come =
-      is_class nat_eq (number_image s) n
-      && model.is_unreached (number_words s.names) (asked_by s.names).is_super (number_image s) (method_added n meta protocol text (method_of tree) (number_image s)) meta tree.selector
+module _ (s : Slots) (n : ℕ) where
+  -- whether there is a class of the name
+  pub no-class : named_in s.classes s.class_order n ≡ None → false ≡ is_class nat_eq (number_image s) n
+  no-class e = sym (ap is_some (class_named-named_in s n ∙ ap (option_and_then (class_at s)) e))
 
-  pub no-class : named_in s.classes s.class_order n ≡ None → may_come ≡ false
-  no-class e =
-      ap (λ (o : Option (ClassOf ℕ)). is_some o && model.is_unreached (number_words s.names) (asked_by s.names).is_super (number_image s) (method_added n meta protocol text (method_of tree) (number_image s)) meta tree.selector)
-      (class_named-named_in s n ∙ ap (option_and_then (class_at s)) e)
+  pub class-there : IsOrderly s → (k : ℕ) → named_in s.classes s.class_order n ≡ Some k → true ≡ is_class nat_eq (number_image s) n
+  class-there orderly k e =
+      let h = named-slot s.classes s.class_order n k e in
+      let c = there s.classes k (orderly.class_order.below k h.0) in
+      sym (ap is_some (class_named-named_in s n ∙ ap (option_and_then (class_at s)) e ∙ ap (option_map (class_of s.classes)) c.1))
 
-module _ (s : Slots) (orderly : IsOrderly s) (found : Found) (n : ℕ) (protocol text : List ℕ) where
-  -- a method that comes into a class
-  comes : named_in s.classes s.class_order n ≡ Some found.class → is_unreached s (record { method = found; selector = found.tree.now.selector; way = way.New }) ≡ may_come s n found.meta protocol text found.tree.now
-  comes e =
-      let h = named-slot s.classes s.class_order n found.class e in
-      let c = there s.classes found.class (orderly.class_order.below found.class h.0) in
-      let both : Some c.0.name ≡ Some n = sym (ap (option_map (λ (x : ClassRec). x.name)) c.1) ∙ h.1 in
-      let name : c.0.name ≡ n = cc in
-      let is : class_named nat_eq (number_image s).classes n ≡ Some (class_of s.classes c.0) = class_named-named_in s n ∙ ap (option_and_then (class_at s)) e ∙ ap (option_map (class_of s.classes)) c.1 in
-      comes-told s orderly found protocol text c.0 h.0 c.1
-      ∙ ap (λ (x : ℕ). model.is_unreached (number_words s.names) (asked_by s.names).is_super (number_image s) (method_added x found.meta protocol text (method_of found.tree.now) (number_image s)) found.meta found.tree.now.selector) name
-      ∙ ap (λ (o : Option (ClassOf ℕ)). is_some o && model.is_unreached (number_words s.names) (asked_by s.names).is_super (number_image s) (method_added n found.meta protocol text (method_of found.tree.now) (number_image s)) found.meta found.tree.now.selector) (sym is)
-
-  pub comes-asked : named_in s.classes s.class_order n ≡ Some found.class → (r : Result Bool Memory) → IfOk r (λ (is : Bool). is ≡ is_unreached s (record { method = found; selector = found.tree.now.selector; way = way.New })) → IfOk r (λ (is : Bool). is ≡ may_come s n found.meta protocol text found.tree.now)
-  comes-asked e r h = IfOk-weaker r (λ (is : Bool). is ≡ is_unreached s (record { method = found; selector = found.tree.now.selector; way = way.New })) (λ (is : Bool). is ≡ may_come s n found.meta protocol text found.tree.now) (λ is t. t ∙ comes e) h
+-- a method that comes into a class
+pub new-leads : (s : Slots) (orderly : IsOrderly s) (found : Found) (n : ℕ) (protocol text : List ℕ) → named_in s.classes s.class_order n ≡ Some found.class
+    → LeadsTo s (record { method = found; selector = found.tree.now.selector; way = way.New }) (method_added n found.meta protocol text (method_of found.tree.now) (number_image s)) found.meta found.tree.now.selector
+new-leads s orderly found n protocol text e =
+    let h = named-slot s.classes s.class_order n found.class e in
+    let c = there s.classes found.class (orderly.class_order.below found.class h.0) in
+    let both : Some c.0.name ≡ Some n = sym (ap (option_map (λ (x : ClassRec). x.name)) c.1) ∙ h.1 in
+    let name : c.0.name ≡ n = cc in
+    subst (λ (x : ℕ). LeadsTo s (record { method = found; selector = found.tree.now.selector; way = way.New }) (method_added x found.meta protocol text (method_of found.tree.now) (number_image s)) found.meta found.tree.now.selector) name
+    (comes-leads s orderly found protocol text c.0 h.0 c.1)

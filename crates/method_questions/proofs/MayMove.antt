@@ -24,11 +24,11 @@ use Rattle.commands.specs.Views.{asked_by}
 use Rattle.method_questions.specs.declared.found.Found.{Found}
 use Rattle.method_questions.specs.declared.moves.Way.TheVariants as way
 use Rattle.method_questions.specs.Found.{bare_entry, as_entry, opened_at, own_slot, named_slot, superclass_slot}
-use Rattle.method_questions.specs.Moves.{comes_first}
-use Rattle.method_questions.specs.Unreached.{is_unreached, user_slot}
+use Rattle.method_questions.specs.Moves.{comes_first, finds_another}
+use Rattle.method_questions.specs.Unreached.{LeadsTo, user_slot}
 use Rattle.method_questions.proofs.OwnMethods.{HasKey, keyed, own-keyed, named-entry, named-holds, opened-holds}
 use Rattle.method_questions.proofs.Inherited.{superclass-told}
-use Rattle.method_questions.proofs.MovedImages.{unreached-told}
+use Rattle.method_questions.proofs.MovedImages.{leads}
 use Rattle.method_questions.proofs.PushedUp.{GoesUp, raised, going, is-move}
 use Rattle.method_questions.proofs.PushedDown.{GoesDown, lowered, sinking, is-sunk}
 
@@ -36,6 +36,10 @@ use Rattle.method_questions.proofs.PushedDown.{GoesDown, lowered, sinking, is-su
 some-if : (b : Bool) (y : ℕ) → is_some (cond b (Some y) None) ≡ b
 some-if true y = refl
 some-if false y = refl
+
+-- what is there twice
+pub some-same : {X : Type 0} (x y : X) → Some x ≡ Some y → x ≡ y
+some-same x y e = cc
 
 module _ (s : Slots) (orderly : IsOrderly s) (n : ℕ) where
   abbrev image : ImageOf ℕ
@@ -117,66 +121,73 @@ module _ (s : Slots) (orderly : IsOrderly s) (n : ℕ) where
         by None q h = absurd (cc)
         by (Some k) q h = at k q h
 
-    -- what is asked for where a method goes up
-    abbrev pub may_go_up : Bool
-    may_go_up =
-        (model.implements nat_eq image n meta selector && is_some (superclass_name nat_eq image n))
-        && model.is_unreached (number_words s.names) (asked_by s.names).is_super image (method_pushed_up nat_eq n meta selector image) meta selector
+    -- such a slot is that of a live method
+    pub user-opened : (y : ℕ) → user_slot s n meta selector ≡ Some y → opened_at s y ≡ None → ⊥
+    user-opened y e none =
+        let h = named-holds s orderly meta selector n y (user-named y e) in
+        let both = sym none ∙ opened-holds s orderly meta selector y h in
+        absurd (cc)
 
-    pub no-method : user_slot s n meta selector ≡ None → may_go_up ≡ false
-    no-method e =
-        ap (λ (b : Bool). (b && is_some (superclass_name nat_eq image n)) && model.is_unreached (number_words s.names) (asked_by s.names).is_super image (method_pushed_up nat_eq n meta selector image) meta selector)
-        (implements-told ∙ ap is_some e)
+    -- whether a method may go up
+    abbrev pub is_up_there : Bool
+    is_up_there = model.implements nat_eq image n meta selector && is_some (superclass_name nat_eq image n)
 
-    pub no-superclass : superclass_slot s n ≡ None → may_go_up ≡ false
+    pub no-method : user_slot s n meta selector ≡ None → false ≡ is_up_there
+    no-method e = sym (ap (λ (b : Bool). b && is_some (superclass_name nat_eq image n)) (implements-told ∙ ap is_some e))
+
+    pub no-superclass : superclass_slot s n ≡ None → false ≡ is_up_there
     no-superclass e =
-        ap (λ (b : Bool). b && model.is_unreached (number_words s.names) (asked_by s.names).is_super image (method_pushed_up nat_eq n meta selector image) meta selector)
-        (ap (λ o. model.implements nat_eq image n meta selector && is_some o) (superclass-named ∙ ap (option_and_then (class_name s.classes)) e) ∙ and-false (model.implements nat_eq image n meta selector))
+        sym (ap (λ o. model.implements nat_eq image n meta selector && is_some o) (superclass-named ∙ ap (option_and_then (class_name s.classes)) e) ∙ and-false (model.implements nat_eq image n meta selector))
+
+    above-named : (above : ℕ) → IsLive s.class_order above → superclass_slot s n ≡ Some above → (d : ClassRec) × (slice_get s.classes above ≡ Some d) × (superclass_name nat_eq image n ≡ Some d.name)
+    above-named above live h =
+        let d = there s.classes above (orderly.class_order.below above live) in
+        (d.0, d.1, superclass-named ∙ ap (option_and_then (class_name s.classes)) h ∙ ap (option_map (λ (x : ClassRec). x.name)) d.1)
 
     -- a method that stands in its class goes up to one
-    standing-up : (y above : ℕ) (found : Found) (first : Bool) (t : Stands y found) (d : ClassRec) → (up : GoesUp s found selector above y t.class d) → model.implements nat_eq image n meta selector ≡ true → superclass_name nat_eq image n ≡ Some d.name
-        → first ≡ comes_first s.method_order y (own_slot s above found.meta selector) → is_unreached s (record { method = found; selector = selector; way = way.Up above first }) ≡ may_go_up
-    standing-up y above found first t d up there-is named f =
-        (λ i. is_unreached s (record { method = found; selector = selector; way = way.Up above (f i) }))
-        ∙ unreached-told s orderly (going s orderly found selector above y t.class d up) (map (raised s orderly found selector above y t.class d up) image.methods) (is-move s orderly found selector above y t.class d up)
-        ∙ (λ i. model.is_unreached (number_words s.names) (asked_by s.names).is_super image (record image { methods = map (λ m. cond (is_method nat_eq (t.name i) (t.side i) selector m) (of_class_named m d.name) m) image.methods }) (t.side i) selector)
-        ∙ sym (λ i. (there-is i && is_some (named i))
-        && model.is_unreached (number_words s.names) (asked_by s.names).is_super image
-        (option_map_or (λ p. record image { methods = map (λ m. cond (is_method nat_eq n meta selector m) (of_class_named m p) m) image.methods }) (named i) image) meta selector)
+    standing-up : (y above : ℕ) (found : Found) (first : Bool) (t : Stands y found) (d : ClassRec) → (up : GoesUp s found selector above y t.class d) → superclass_name nat_eq image n ≡ Some d.name
+        → first ≡ comes_first s.method_order y (own_slot s above found.meta selector) → LeadsTo s (record { method = found; selector = selector; way = way.Up above first }) (method_pushed_up nat_eq n meta selector image) meta selector
+    standing-up y above found first t d up named f = record {
+      same_selector = refl;
+      classes = λ k r l e.
+          (λ i. finds_another s (record { method = found; selector = selector; way = way.Up above (f i) }) k)
+          ∙ (leads s orderly (going s orderly found selector above y t.class d up) (map (raised s orderly found selector above y t.class d up) image.methods) (is-move s orderly found selector above y t.class d up)).classes k r l e
+          ∙ (λ i. model.finds_another (number_words s.names) (asked_by s.names).is_super image (record image { methods = map (λ m. cond (is_method nat_eq (t.name i) (t.side i) selector m) (of_class_named m d.name) m) image.methods }) r.name (t.side i) selector)
+          ∙ sym (λ i. model.finds_another (number_words s.names) (asked_by s.names).is_super image
+          (option_map_or (λ p. record image { methods = map (λ m. cond (is_method nat_eq n meta selector m) (of_class_named m p) m) image.methods }) (named i) image) r.name meta selector);
+    }
+
+    pub record GoesTo (y above : ℕ) (found : Found) (first : Bool) : Type 0 where
+      pub is_there : true ≡ is_up_there
+      pub leads : LeadsTo s (record { method = found; selector = selector; way = way.Up above first }) (method_pushed_up nat_eq n meta selector image) meta selector
 
     pub goes-up : (y above : ℕ) (found : Found) (first : Bool) → user_slot s n meta selector ≡ Some y → superclass_slot s n ≡ Some above → IsLive s.class_order found.class → Some (as_entry s.classes found) ≡ opened_at s y
-        → first ≡ comes_first s.method_order y (own_slot s above meta selector) → is_unreached s (record { method = found; selector = selector; way = way.Up above first }) ≡ may_go_up
+        → first ≡ comes_first s.method_order y (own_slot s above meta selector) → GoesTo y above found first
     goes-up y above found first e h live method f = by (stands y found e live method)
       where
-        by : Stands y found → is_unreached s (record { method = found; selector = selector; way = way.Up above first }) ≡ may_go_up
+        by : Stands y found → GoesTo y above found first
         by t =
             let super : t.class.superclass ≡ Some above = sym (superclass-told s orderly n found.class t.class t.named t.there) ∙ h in
             let above_live = orderly.superclasses_live above found.class t.class live t.there super in
-            let d = there s.classes above (orderly.class_order.below above above_live) in
-            standing-up y above found first t d.0 (record { live = live; class = t.there; above_live = above_live; above_class = d.1; own = t.own; method = sym method })
-            (implements-told ∙ ap is_some e) (superclass-named ∙ ap (option_and_then (class_name s.classes)) h ∙ ap (option_map (λ (x : ClassRec). x.name)) d.1)
-            (f ∙ ap (λ b. comes_first s.method_order y (own_slot s above b selector)) (sym t.side))
-
-    -- what is asked for where a method goes down
-    abbrev pub may_go_down : Bool
-    may_go_down =
-        model.implements nat_eq image n meta selector
-        && model.is_unreached (number_words s.names) (asked_by s.names).is_super image (method_pushed_down nat_eq n meta selector image) meta selector
-
-    pub nothing-down : user_slot s n meta selector ≡ None → may_go_down ≡ false
-    nothing-down e =
-        ap (λ (b : Bool). b && model.is_unreached (number_words s.names) (asked_by s.names).is_super image (method_pushed_down nat_eq n meta selector image) meta selector) (implements-told ∙ ap is_some e)
+            let d = above-named above above_live h in
+            record {
+              is_there = sym (λ i. (implements-told ∙ ap is_some e) i && is_some (d.2 i));
+              leads = standing-up y above found first t d.0 (record { live = live; class = t.there; above_live = above_live; above_class = d.1; own = t.own; method = sym method }) d.2
+                  (f ∙ ap (λ b. comes_first s.method_order y (own_slot s above b selector)) (sym t.side));
+            }
 
     -- a method that stands in its class goes down
-    standing-down : (y : ℕ) (found : Found) (t : Stands y found) → (down : GoesDown s found selector y t.class) → model.implements nat_eq image n meta selector ≡ true → is_unreached s (record { method = found; selector = selector; way = way.Down }) ≡ may_go_down
-    standing-down y found t down there-is =
-        unreached-told s orderly (sinking s orderly found selector y t.class down) (flat_map (lowered s orderly found selector y t.class down) image.methods) (is-sunk s orderly found selector y t.class down)
-        ∙ (λ i. model.is_unreached (number_words s.names) (asked_by s.names).is_super image (method_pushed_down nat_eq (t.name i) (t.side i) selector image) (t.side i) selector)
-        ∙ sym (ap (λ (b : Bool). b && model.is_unreached (number_words s.names) (asked_by s.names).is_super image (method_pushed_down nat_eq n meta selector image) meta selector) there-is)
+    standing-down : (y : ℕ) (found : Found) (t : Stands y found) → (down : GoesDown s found selector y t.class) → LeadsTo s (record { method = found; selector = selector; way = way.Down }) (method_pushed_down nat_eq n meta selector image) meta selector
+    standing-down y found t down = record {
+      same_selector = refl;
+      classes = λ k r l e.
+          (leads s orderly (sinking s orderly found selector y t.class down) (flat_map (lowered s orderly found selector y t.class down) image.methods) (is-sunk s orderly found selector y t.class down)).classes k r l e
+          ∙ (λ i. model.finds_another (number_words s.names) (asked_by s.names).is_super image (method_pushed_down nat_eq (t.name i) (t.side i) selector image) r.name (t.side i) selector);
+    }
 
     pub goes-down : (y : ℕ) (found : Found) → user_slot s n meta selector ≡ Some y → IsLive s.class_order found.class → Some (as_entry s.classes found) ≡ opened_at s y
-        → is_unreached s (record { method = found; selector = selector; way = way.Down }) ≡ may_go_down
+        → LeadsTo s (record { method = found; selector = selector; way = way.Down }) (method_pushed_down nat_eq n meta selector image) meta selector
     goes-down y found e live method = by (stands y found e live method)
       where
-        by : Stands y found → is_unreached s (record { method = found; selector = selector; way = way.Down }) ≡ may_go_down
-        by t = standing-down y found t (record { live = live; class = t.there; own = t.own; method = sym method }) (implements-told ∙ ap is_some e)
+        by : Stands y found → LeadsTo s (record { method = found; selector = selector; way = way.Down }) (method_pushed_down nat_eq n meta selector image) meta selector
+        by t = standing-down y found t (record { live = live; class = t.there; own = t.own; method = sym method })

@@ -1,7 +1,7 @@
 -- Whether messages find other methods in an image with other methods of a selector on a side, from what each class itself has.
 use Rattle.std.proofs.Common.{◌≡◌, ℕ, zero, suc, Bool, true, false, cond, not, ◌&&◌, ◌||◌, List, length, find, Option, Some, None, option_map, slice_get, refl, sym, ap, ◌∙◌}
 use Rattle.std.specs.Prelude.{nat_eq}
-use Rattle.std.specs.List.{filter_map, cons_option}
+use Rattle.std.specs.List.{filter_map, cons_option, list_any}
 use Rattle.std.specs.Option.{option_map_or, option_and_then, option_or}
 use Rattle.image_model.specs.Image.{ClassOf, EntryOf, ImageOf}
 use Rattle.image_model.specs.ImageNames.{OptionNames}
@@ -25,7 +25,7 @@ use Rattle.commands.specs.Views.{asked_by}
 use Rattle.method_questions.specs.declared.moves.Moved.{Moved}
 use Rattle.method_questions.specs.Found.{bare_entry, opened_at, object_slot}
 use Rattle.method_questions.specs.Moves.{there, own_after, first_after, found_after, after_entry, finds_another}
-use Rattle.method_questions.specs.Unreached.{is_one_reached, is_unreached}
+use Rattle.method_questions.specs.Unreached.{LeadsTo, is_one_reached, is_unreached}
 use Rattle.method_questions.proofs.OwnMethods.{looked-up, own-live}
 use Rattle.method_questions.proofs.Inherited.{object-found, object-holds}
 use Rattle.method_questions.proofs.AfterFacts.{there-read, first-read, above-live, walk-up, own-there, chain-there}
@@ -111,21 +111,37 @@ module _ (s : Slots) (orderly : IsOrderly s) (v : Moved) (ms : List (EntryOf ℕ
       sym (ap not (bared (lookup (number_words s.names) image (Some c.name) v.method.meta v.selector) (lookup (number_words s.names) moved (Some c.name) v.method.meta v.selector)
       ∙ (λ i. is_same_found (number_words s.names) (asked_by s.names).is_super image image (found-before k c l e i) (found-told k c l e i))))
 
-  abbrev test : ClassOf ℕ → Bool
-  test d = model.finds_another (number_words s.names) (asked_by s.names).is_super image moved d.name v.method.meta v.selector && model.is_reached (number_words s.names) (asked_by s.names).is_super image d.name v.selector
+  -- so the move leads to the image afterwards
+  pub leads : LeadsTo s v moved v.method.meta v.selector
+  leads = record { same_selector = refl; classes = another-told }
 
-  one-told : (k : ℕ) → IsLive s.class_order k → is_one_reached s v k ≡ option_map_or (λ (c : ClassRec). test (class_of s.classes c)) (live_at s.classes s.class_order k) false
+-- a move that leads to an image
+module _ (s : Slots) (v : Moved) (j : ImageOf ℕ) (meta : Bool) (selector : ℕ) (to : LeadsTo s v j meta selector) where
+  -- whether a class is reached that finds another method in the image
+  abbrev test : ClassOf ℕ → Bool
+  test d = model.finds_another (number_words s.names) (asked_by s.names).is_super (number_image s) j d.name meta selector && model.is_reached (number_words s.names) (asked_by s.names).is_super (number_image s) d.name selector
+
+  -- the same of a live class
+  pub one-reached : (k : ℕ) (c : ClassRec) → live_at s.classes s.class_order k ≡ Some c → is_one_reached s v k ≡ test (class_of s.classes c)
   unfolding is_one_reached
-  one-told k l = by (live_at s.classes s.class_order k) refl
+  one-reached k c e =
+      ap (λ (o : Option ClassRec). option_map_or (λ (x : ClassRec). finds_another s v k && model.is_reached (number_words s.names) (asked_by s.names).is_super (number_image s) x.name v.selector) o false) e
+      ∙ (λ i. to.classes k c (live-live_at s.classes s.class_order k c e).0 (live-live_at s.classes s.class_order k c e).1 i && model.is_reached (number_words s.names) (asked_by s.names).is_super (number_image s) c.name (to.same_selector i))
+
+  one-told : (k : ℕ) → is_one_reached s v k ≡ option_map_or (λ (c : ClassRec). test (class_of s.classes c)) (live_at s.classes s.class_order k) false
+  unfolding is_one_reached
+  one-told k = by (live_at s.classes s.class_order k) refl
     where
       by : (o : Option ClassRec) → live_at s.classes s.class_order k ≡ o
-          → option_map_or (λ (c : ClassRec). finds_another s v k && model.is_reached (number_words s.names) (asked_by s.names).is_super image c.name v.selector) o false ≡ option_map_or (λ (c : ClassRec). test (class_of s.classes c)) o false
+          → option_map_or (λ (c : ClassRec). finds_another s v k && model.is_reached (number_words s.names) (asked_by s.names).is_super (number_image s) c.name v.selector) o false ≡ option_map_or (λ (c : ClassRec). test (class_of s.classes c)) o false
       by None q = refl
-      by (Some c) q = ap (λ (b : Bool). b && model.is_reached (number_words s.names) (asked_by s.names).is_super image c.name v.selector) (another-told k c l (live-live_at s.classes s.class_order k c q).1)
+      by (Some c) q =
+          λ i. to.classes k c (live-live_at s.classes s.class_order k c q).0 (live-live_at s.classes s.class_order k c q).1 i && model.is_reached (number_words s.names) (asked_by s.names).is_super (number_image s) c.name (to.same_selector i)
 
   -- whether messages find other methods
-  pub unreached-told : is_unreached s v ≡ model.is_unreached (number_words s.names) (asked_by s.names).is_super image moved v.method.meta v.selector
+  pub unreached-told : is_unreached s v ≡ model.is_unreached (number_words s.names) (asked_by s.names).is_super (number_image s) j meta selector
   unreached-told =
-      ap (λ (b : Bool). model.is_sent_nowhere (number_words s.names) image v.selector || not b)
-      (any-agree (is_one_reached s v) (λ k. option_map_or (λ (c : ClassRec). test (class_of s.classes c)) (live_at s.classes s.class_order k) false) s.class_order one-told
+      (λ i. model.is_sent_nowhere (number_words s.names) (number_image s) (to.same_selector i) || not (list_any (is_one_reached s v) s.class_order))
+      ∙ ap (λ (b : Bool). model.is_sent_nowhere (number_words s.names) (number_image s) selector || not b)
+      (any-agree (is_one_reached s v) (λ k. option_map_or (λ (c : ClassRec). test (class_of s.classes c)) (live_at s.classes s.class_order k) false) s.class_order (λ k l. one-told k)
       ∙ any_live (class_of s.classes) test s.classes s.class_order)

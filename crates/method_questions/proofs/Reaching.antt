@@ -84,7 +84,7 @@ module _ (s : Slots) (name selector : ℕ) where
     image = number_image s
 
     -- the superclass of a live class
-    child-told : (k : ℕ) → IsLive s.class_order k → is_child s k name ≡ option_map_or (λ d. option_map_or (nat_eq name) (superclass_name nat_eq image d) false) (class_name s.classes k) false
+    pub child-told : (k : ℕ) → IsLive s.class_order k → is_child s k name ≡ option_map_or (λ d. option_map_or (nat_eq name) (superclass_name nat_eq image d) false) (class_name s.classes k) false
     child-told k l =
         let c = there s.classes k (orderly.class_order.below k l) in
         ap (λ (o : Option ClassRec). option_map_or (λ (x : ClassRec). option_map_or (λ above. option_map_or (λ (d : ClassRec). nat_eq name d.name) (live_at s.classes s.class_order above) false) x.superclass false) o false) (live_at-live s.classes s.class_order k l ∙ c.1)

@@ -14,10 +14,12 @@ use std::sync::ledger::Ledger;
 
 /// A method as one of a class.
 #[derive(Clone, Copy)]
-pub(crate) struct Found<'a> {
+pub struct Found<'a> {
+    /// The slot of the class.
     pub class: ClassId,
     /// Whether it is a method of the class side.
     pub meta: bool,
+    /// Its tree.
     pub tree: &'a Method,
 }
 
@@ -42,12 +44,7 @@ pub(crate) fn own_slot(
 }
 
 /// The slot of the method of these names, if there is one.
-pub(crate) fn named_slot(
-    image: &Image,
-    class: NameId,
-    meta: bool,
-    selector: NameId,
-) -> Option<MethodSlot>
+pub fn named_slot(image: &Image, class: NameId, meta: bool, selector: NameId) -> Option<MethodSlot>
     ensures { result ≡ named_slot image.now class meta selector }
 {
     let class = image.class_named(class)?;

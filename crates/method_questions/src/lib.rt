@@ -11,7 +11,13 @@ mod same;
 mod supers;
 mod unreached;
 
+pub use found::{Found, named_slot};
 pub use meanings::means_same_in_class;
-pub use removable::is_removable;
+pub use moves::{Moved, Way, owners};
+pub use reached::is_child;
+pub use removable::{are_same, inherited_slot, is_removable, is_sent_nowhere, object_slot};
 pub use supers::is_without_super;
-pub use unreached::{is_unreached_down, is_unreached_new, is_unreached_up};
+pub use unreached::{
+    is_one_reached, is_unreached_down, is_unreached_new, is_unreached_up, moved_down, moved_new,
+    moved_up,
+};

@@ -11,11 +11,12 @@ use std::alloc::Global;
 
 /// How a method moves.
 #[derive(Clone, Copy)]
-pub(crate) enum Way {
+pub enum Way {
     /// It is one more method of the class, the last.
     New,
     /// It leaves the class for the one above it.
     Up {
+        /// The slot of that class.
         above: ClassId,
         /// Whether it stands before the method that the class above has itself, if that has one.
         first: bool,
@@ -26,10 +27,12 @@ pub(crate) enum Way {
 
 /// A method that moves.
 #[derive(Clone, Copy)]
-pub(crate) struct Moved<'a> {
+pub struct Moved<'a> {
     /// The method, as one of the class that it leaves, or that gets it where it is new.
     pub method: Found<'a>,
+    /// Its selector.
     pub selector: NameId,
+    /// How it moves.
     pub way: Way,
 }
 
@@ -130,7 +133,7 @@ fn owner(image: &Image, place: Place, meta: bool, selector: NameId) -> Option<Cl
 }
 
 /// The classes of the methods at these places that are for the selector on a side.
-pub(crate) fn owners(
+pub fn owners(
     alloc: Global,
     image: &Image,
     places: &[Place],

@@ -19,7 +19,7 @@ use std::sync::ledger::Ledger;
 use use_questions::is_class_used;
 
 /// Whether the superclass of the class is that of the name.
-fn is_child(image: &Image, class: ClassId, name: NameId) -> bool
+pub fn is_child(image: &Image, class: ClassId, name: NameId) -> bool
     ensures { result ≡ is_child image.now class name }
 {
     let Some(rec) = image.class_rec(class) else {

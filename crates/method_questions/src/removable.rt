@@ -27,7 +27,7 @@ pub(crate) fn superclass_slot(image: &Image, class: NameId) -> Option<ClassId>
 }
 
 /// The slot of the method that each class understands as an object.
-pub(crate) fn object_slot(image: &Image, selector: NameId) -> Option<MethodSlot>
+pub fn object_slot(image: &Image, selector: NameId) -> Option<MethodSlot>
     ensures { result ≡ object_slot image.now selector }
 {
     let name = image.names().find(b"Class")?;
@@ -36,7 +36,12 @@ pub(crate) fn object_slot(image: &Image, selector: NameId) -> Option<MethodSlot>
 }
 
 /// The slot of the method that a message to `super` runs in a method of the class of a name.
-fn inherited_slot(image: &Image, class: NameId, meta: bool, selector: NameId) -> Option<MethodSlot>
+pub fn inherited_slot(
+    image: &Image,
+    class: NameId,
+    meta: bool,
+    selector: NameId,
+) -> Option<MethodSlot>
     ensures { result ≡ inherited_slot image.now class meta selector }
 {
     match superclass_slot(image, class) {
@@ -47,7 +52,7 @@ fn inherited_slot(image: &Image, class: NameId, meta: bool, selector: NameId) ->
 }
 
 /// Whether no code sends the selector.
-pub(crate) fn is_sent_nowhere<L: Ledger>(
+pub fn is_sent_nowhere<L: Ledger>(
     alloc: Global,
     image: &Image,
     index: &Index,
@@ -68,7 +73,7 @@ pub(crate) fn is_sent_nowhere<L: Ledger>(
 }
 
 /// Whether the methods in two slots are the same; where a slot is not live, they are not. Counts at most two steps.
-pub(crate) fn are_same<L: Ledger>(
+pub fn are_same<L: Ledger>(
     alloc: Global,
     image: &Image,
     slot: MethodSlot,

@@ -1,17 +1,21 @@
 // Whether a method may come, go up or go down without a message finding another method.
-ghost use Rattle.std.specs.Prelude.{◌≡◌, true, is_some, IfOk};
+ghost use Rattle.std.specs.Prelude.{◌≡◌, ◌&&◌, true, is_some, nat_eq, IfOk};
 ghost use Rattle.std.specs.List.{list_any};
+ghost use Rattle.std.specs.Option.{ForSome};
 ghost use Rattle.st_tree.specs.View.{method_of};
 ghost use Rattle.class_table.specs.Valid.{IsLive, IsOrderly};
 ghost use Rattle.class_table.specs.View.{number_image};
 ghost use Rattle.command_model.specs.Commands as commands;
 ghost use Rattle.command_model.specs.Conditions.{Unreached};
+ghost use Rattle.command_model.specs.Hierarchy.{is_class, superclass_name};
 ghost use Rattle.command_model.specs.Holds.{holds};
+ghost use Rattle.command_model.specs.MethodConditions.{implements};
+ghost use Rattle.command_model.specs.MethodEffects.{method_added, method_pushed_down, method_pushed_up};
 ghost use Rattle.commands.specs.Views.{asked_by};
 ghost use Rattle.reference_index.specs.Mentioned.{IsIndexOf};
 ghost use Rattle.method_questions.specs.Found.{opened_at, are_same};
 ghost use Rattle.method_questions.specs.Moves.{AreOwners, IsLiveAfter, after_entry, finds_another};
-ghost use Rattle.method_questions.specs.Unreached.{is_one_reached, is_unreached, user_slot};
+ghost use Rattle.method_questions.specs.Unreached.{LeadsTo, is_one_reached, is_unreached, user_slot};
 
 use crate::found::{Found, named_slot, opened, own_slot};
 use crate::moves::{After, Moved, Way, comes_first, found_after, is_concerned, is_covered, owners};
@@ -85,7 +89,7 @@ fn finds_another<L: Ledger>(
 /// Whether the class in a slot, if it is live, finds another method afterwards and is reached. Methods are looked up last: this
 /// takes long where tables are not made, and most classes are told apart without it.
 #[tactic(auto, unfolding(crate::specs::Unreached::is_one_reached))]
-fn is_one_reached<L: Ledger>(
+pub fn is_one_reached<L: Ledger>(
     alloc: Global,
     image: &Image,
     index: &Index,
@@ -171,6 +175,89 @@ fn user_slot(image: &Image, class: NameId, meta: bool, selector: NameId) -> Opti
     }
 }
 
+/// The method of these names once it goes up to the class above its class, if it is one of the user and there is such a class.
+/// Counts at most one step.
+pub fn moved_up<'a, L: Ledger>(
+    image: &'a Image,
+    method: MethodName,
+    steps: &mut Steps<L>,
+) -> Option<Moved<'a>>
+    requires { IsOrderly image.now }
+    ensures there { is_some result ≡ (implements nat_eq (number_image image.now) method.class method.meta method.selector && is_some (superclass_name nat_eq (number_image image.now) method.class)) }
+    ensures moved { ForSome result (λ moved. LeadsTo image.now moved (method_pushed_up nat_eq method.class method.meta method.selector (number_image image.now)) method.meta method.selector) }
+{
+    let MethodName {
+        class,
+        meta,
+        selector,
+    } = method;
+    let Some(slot) = user_slot(image, class, meta, selector) else {
+        return None;
+    };
+    let Some(above) = superclass_slot(image, class) else {
+        return None;
+    };
+    let first = comes_first(image, slot, own_slot(image, above, meta, selector));
+    let Some(method) = opened(image, slot, steps) else {
+        return None;
+    };
+    Some(Moved {
+        method,
+        selector,
+        way: Way::Up { above, first },
+    })
+}
+
+/// The method that comes, if there is its class.
+pub fn moved_new<'a>(image: &'a Image, new: &'a NewMethod) -> Option<Moved<'a>>
+    requires { IsOrderly image.now }
+    ensures there { is_some result ≡ is_class nat_eq (number_image image.now) new.now.class }
+    ensures moved { ForSome result (λ moved. LeadsTo image.now moved (method_added new.now.class new.now.meta new.now.protocol new.now.source (method_of new.now.tree) (number_image image.now)) new.now.meta new.now.tree.selector) }
+{
+    let Some(class) = image.class_named(new.class) else {
+        return None;
+    };
+    let method = Found {
+        class,
+        meta: new.meta,
+        tree: &new.tree,
+    };
+    Some(Moved {
+        method,
+        selector: new.tree.selector,
+        way: Way::New,
+    })
+}
+
+/// The method of these names once it goes down to the direct subclasses of its class that have none themselves, if it is one
+/// of the user. Counts at most one step.
+pub fn moved_down<'a, L: Ledger>(
+    image: &'a Image,
+    method: MethodName,
+    steps: &mut Steps<L>,
+) -> Option<Moved<'a>>
+    requires { IsOrderly image.now }
+    ensures there { is_some result ≡ implements nat_eq (number_image image.now) method.class method.meta method.selector }
+    ensures moved { ForSome result (λ moved. LeadsTo image.now moved (method_pushed_down nat_eq method.class method.meta method.selector (number_image image.now)) method.meta method.selector) }
+{
+    let MethodName {
+        class,
+        meta,
+        selector,
+    } = method;
+    let Some(slot) = user_slot(image, class, meta, selector) else {
+        return None;
+    };
+    let Some(method) = opened(image, slot, steps) else {
+        return None;
+    };
+    Some(Moved {
+        method,
+        selector,
+        way: Way::Down,
+    })
+}
+
 /// Whether the user has the method and there is a class above its class, and the method may go up to that without a message
 /// finding another method: its selector is sent nowhere, or no class that finds another method for it then is reached. Want of
 /// memory, if there is not enough of it to look.
@@ -185,29 +272,9 @@ pub fn is_unreached_up<L: Ledger>(
     requires index { IsIndexOf image.now index.now }
     ensures { IfOk result (λ is. is ≡ holds (asked_by image.now.names) (number_image image.now) (commands.PushUpMethod method.class method.meta method.selector) (Unreached method.selector)) }
 {
-    let MethodName {
-        class,
-        meta,
-        selector,
-    } = method;
-    let Some(slot) = user_slot(image, class, meta, selector) else {
-        return Ok(false);
-    };
-    let Some(above) = superclass_slot(image, class) else {
-        return Ok(false);
-    };
-    let first = comes_first(image, slot, own_slot(image, above, meta, selector));
-    match opened(image, slot, steps) {
+    match moved_up(image, method, steps) {
         None => Ok(false),
-        Some(method) => {
-            let way = Way::Up { above, first };
-            let moved = Moved {
-                method,
-                selector,
-                way,
-            };
-            is_unreached(alloc, image, index, &moved, steps)
-        }
+        Some(moved) => is_unreached(alloc, image, index, &moved, steps),
     }
 }
 
@@ -225,20 +292,10 @@ pub fn is_unreached_new<L: Ledger>(
     requires index { IsIndexOf image.now index.now }
     ensures { IfOk result (λ is. is ≡ holds (asked_by image.now.names) (number_image image.now) (commands.AddMethod new.now.class new.now.meta new.now.protocol new.now.source (method_of new.now.tree)) (Unreached new.now.tree.selector)) }
 {
-    let Some(class) = image.class_named(new.class) else {
-        return Ok(false);
-    };
-    let method = Found {
-        class,
-        meta: new.meta,
-        tree: &new.tree,
-    };
-    let moved = Moved {
-        method,
-        selector: new.tree.selector,
-        way: Way::New,
-    };
-    is_unreached(alloc, image, index, &moved, steps)
+    match moved_new(image, new) {
+        None => Ok(false),
+        Some(moved) => is_unreached(alloc, image, index, &moved, steps),
+    }
 }
 
 /// Whether the user has the method, and it may go down to the direct subclasses of its class that have none themselves without
@@ -255,23 +312,8 @@ pub fn is_unreached_down<L: Ledger>(
     requires index { IsIndexOf image.now index.now }
     ensures { IfOk result (λ is. is ≡ holds (asked_by image.now.names) (number_image image.now) (commands.PushDownMethod method.class method.meta method.selector) (Unreached method.selector)) }
 {
-    let MethodName {
-        class,
-        meta,
-        selector,
-    } = method;
-    let Some(slot) = user_slot(image, class, meta, selector) else {
-        return Ok(false);
-    };
-    match opened(image, slot, steps) {
+    match moved_down(image, method, steps) {
         None => Ok(false),
-        Some(method) => {
-            let moved = Moved {
-                method,
-                selector,
-                way: Way::Down,
-            };
-            is_unreached(alloc, image, index, &moved, steps)
-        }
+        Some(moved) => is_unreached(alloc, image, index, &moved, steps),
     }
 }

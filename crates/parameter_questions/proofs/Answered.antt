@@ -113,7 +113,7 @@ module _ (s : Slots) (selector : ℕ) where
       same-argument path u (brace ts) = refl
       same-argument path u (return t) = refl
 
-      same-node : (e : Placed ℕ) → drops (at_place place e) ≡ are_dropped meaning selector (k - 1) e
+      pub same-node : (e : Placed ℕ) → drops (at_place place e) ≡ are_dropped meaning selector (k - 1) e
       same-node (path, u) =
           all-same (λ (args : TreesOf ℕ). option_map_or (model.may_be_dropped a i (at_place place (path, u))) (nth args (k - 1)) false) (is_dropped (meaning path) (k - 1)) (model.passed_by nat_eq selector u)
           (λ args. or-same (model.may_be_dropped a i (at_place place (path, u))) (may_be_dropped (meaning path)) (nth args (k - 1)) (same-argument path u))

@@ -17,15 +17,15 @@ use Rattle.parameter_questions.proofs.Kept.{any-filtered, any-mapped_kept}
 
 module _ (names : List (List ℕ)) (m : MethodOf ℕ) (x : ℕ) where
   -- whether a name is an argument of the method itself
-  abbrev formal_at : List ℕ → ℕ → Bool
+  abbrev pub formal_at : List ℕ → ℕ → Bool
   formal_at path n = is_formal (local_in nat_eq (is_pseudo_in names) m path n)
 
   -- whether a node reads the argument
-  abbrev reads_formal : Placed ℕ → Bool
+  abbrev pub reads_formal : Placed ℕ → Bool
   reads_formal (path, var n) = nat_eq x n && is_formal (local_in nat_eq (is_pseudo_in names) m path n)
   reads_formal (path, t) = false
 
-  same-read : (e : Placed ℕ) → (reads x e.1 && formal_at e.0 x) ≡ reads_formal e
+  pub same-read : (e : Placed ℕ) → (reads x e.1 && formal_at e.0 x) ≡ reads_formal e
   same-read (path, var n) = by (nat_eq x n) refl
     where
       by : (b : Bool) → nat_eq x n ≡ b → (b && formal_at path x) ≡ (b && formal_at path n)

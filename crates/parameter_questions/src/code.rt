@@ -20,20 +20,22 @@ use std::alloc::Global;
 
 /// The code of a method of a class and a side, or of a do-it.
 #[derive(Clone, Copy)]
-pub(crate) enum Code<'a> {
+pub enum Code<'a> {
+    /// A method.
     Method {
         class: ClassId,
         /// Whether it is a method of the class side.
         meta: bool,
         tree: &'a Method,
     },
+    /// A do-it.
     DoIt {
         body: &'a Sequence,
     },
 }
 
 /// The body of the code.
-pub(crate) fn body_of<'a>(code: &Code<'a>) -> &'a Sequence
+pub fn body_of<'a>(code: &Code<'a>) -> &'a Sequence
     ensures { sequence_of result.now ≡ body_of code.now }
 {
     match code {
@@ -43,7 +45,7 @@ pub(crate) fn body_of<'a>(code: &Code<'a>) -> &'a Sequence
 }
 
 /// What a name stands for at a place of the code.
-fn meaning_at(image: &Image, code: &Code<'_>, path: &Path, name: NameId) -> Meaning
+pub fn meaning_at(image: &Image, code: &Code<'_>, path: &Path, name: NameId) -> Meaning
     requires orderly { IsOrderly image.now }
     requires live { IsOfLiveClass image.now code.now }
     ensures { meaning_of result ≡ means_in image.now code.now path.now name }
@@ -120,7 +122,7 @@ fn all_dropped(
 }
 
 /// Whether it is in each message of the selector that the node sends.
-fn are_dropped_by(
+pub fn are_dropped_by(
     image: &Image,
     code: &Code<'_>,
     found: &PlacedNode<'_>,

@@ -25,7 +25,7 @@ use std::alloc::Global;
 const HIGHEST: usize = 200;
 
 /// Whether the name is one of the arguments of the method itself.
-fn is_formal(local: Local) -> bool
+pub fn is_formal(local: Local) -> bool
     ensures { result ≡ model.is_formal local }
 {
     match local {

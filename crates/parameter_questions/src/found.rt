@@ -12,8 +12,8 @@ use st_tree::{Node, NodeKind, Sequence};
 use std::alloc::Global;
 
 /// Which nodes are sought.
-#[derive(Clone, Copy)]
-pub(crate) enum Sought {
+#[derive(Clone, Copy, Debug)]
+pub enum Sought {
     /// Those that read the name.
     Read(NameId),
     /// Those that send the selector.
@@ -41,7 +41,7 @@ fn is_sought(what: &Sought, node: &Node) -> bool
 }
 
 /// The sought nodes of the body, each before those below it.
-pub(crate) fn found_in<'b>(
+pub fn found_in<'b>(
     alloc: Global,
     what: &Sought,
     body: &'b Sequence,

@@ -25,7 +25,7 @@ fn is_asked(fault: Fault, kernel: bool) -> bool
 }
 
 /// Whether the method in a slot, if it is live and asked, or the do-it of a number, if there are so many, has the fault.
-fn is_place_found<L: Ledger>(
+pub fn is_place_found<L: Ledger>(
     alloc: Global,
     image: &Image,
     question: &Question,

@@ -3,8 +3,8 @@
 use rb_base::NameId;
 
 /// What is looked for.
-#[derive(Clone, Copy)]
-pub(crate) enum Fault {
+#[derive(Clone, Copy, Debug)]
+pub enum Fault {
     /// A method of the user that has the selector and reads the argument of a number, counted from 0, or has none of that
     /// number.
     Read { number: usize },
@@ -16,8 +16,8 @@ pub(crate) enum Fault {
 }
 
 /// Whether there is such code for a selector.
-#[derive(Clone, Copy)]
-pub(crate) struct Question {
+#[derive(Clone, Copy, Debug)]
+pub struct Question {
     pub selector: NameId,
     pub fault: Fault,
 }

@@ -14,9 +14,9 @@ use st_scope::{Local, local_at};
 use st_tree::{Method, Node, NodeKind, Part, Path};
 use std::alloc::Global;
 
-/// What may be wrong with a node.
+/// What may be wrong with a node of a part.
 #[derive(Clone, Copy)]
-pub(crate) enum Fault {
+pub enum Fault {
     /// It is a return.
     Return,
     /// It assigns what is declared outside the part.
@@ -27,14 +27,14 @@ pub(crate) enum Fault {
 
 /// A part of a method, and the table of the names.
 #[derive(Clone, Copy)]
-pub(crate) struct Asked<'a> {
+pub struct Asked<'a> {
     pub names: &'a Names,
     pub method: &'a Method,
     pub part: &'a Part,
 }
 
 /// Whether the node is a return.
-pub(crate) fn is_return(node: &Node) -> bool
+pub fn is_return(node: &Node) -> bool
     ensures { result ≡ places.is_return node.now }
 {
     match &node.kind {
@@ -106,8 +106,8 @@ fn is_steady(
     }
 }
 
-/// Whether the node is one of the part and has the fault.
-fn has_fault(
+/// Whether the node is one of the part and has the fault. Want of memory, if there is not enough of it for a path.
+pub fn has_fault(
     alloc: Global,
     asked: &Asked<'_>,
     fault: Fault,

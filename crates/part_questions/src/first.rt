@@ -21,7 +21,7 @@ use st_tree::{Method, Node, NodeKind, Part, Path, part_at};
 use std::alloc::Global;
 
 /// Whether no message of a cascade is sent before the step is taken into the node.
-fn is_before_sends(node: &Node, step: usize) -> bool
+pub fn is_before_sends(node: &Node, step: usize) -> bool
     ensures { result ≡ is_before_sends node.now step }
 {
     match &node.kind {
@@ -90,7 +90,7 @@ fn is_plain_before(
 
 /// How many steps of the path lead to the innermost statement round its place.
 #[tactic(auto, using(crate::proofs::Firsts::taken_all, crate::proofs::Firsts::dropped_all))]
-fn steps_to_statement(method: &Method, path: &Path) -> usize
+pub fn steps_to_statement(method: &Method, path: &Path) -> usize
     ensures bound { result ≤ length path.now }
     ensures way { take result path.now ≡ take (suc (places.innermost (method_of method.now) path.now)) path.now }
     ensures rest { drop result path.now ≡ drop (suc (places.innermost (method_of method.now) path.now)) path.now }

@@ -10,7 +10,8 @@ mod parts;
 mod places;
 
 pub use code::{MethodCode, is_atom, is_plain};
-pub use first::is_first_evaluated;
+pub use faults::{Asked, Fault, has_fault, is_return};
+pub use first::{is_before_sends, is_first_evaluated, steps_to_statement};
 pub use names::is_constant;
 pub use parts::{
     are_temporaries_steady, assigns_no_outer, has_no_return, is_part, is_value_unused,

@@ -1,6 +1,6 @@
 pub mod Tests
 pub mod Free
 pub mod Scopes
-pub mod Meant
+pub mod Meanings
 pub mod Uses
 pub mod Answered

@@ -30,7 +30,7 @@ use Rattle.use_questions.specs.declared.question.Meant.TheVariants as meant
 use Rattle.use_questions.specs.Questions.{name_of, is_meant, in_code}
 use Rattle.use_questions.specs.Questions as asked
 use Rattle.use_questions.proofs.Tests.{alike, beside, weaker, any-kept, any-numbered}
-use Rattle.use_questions.proofs.Meant.{IsOfGlobals, meaning_at, passes-outside, used-free, class-name}
+use Rattle.use_questions.proofs.Meanings.{IsOfGlobals, meaning_at, passes-outside, used-free, class-name}
 
 -- a test that implies another one, beside that one
 implied : (a b : Bool) → (b ≡ true → a ≡ true) → b ≡ (a && b)
@@ -65,7 +65,7 @@ module _ (s : Slots) (what : Meant) where
   i = number_image s
 
   -- what names stand for in a sequence with these arguments, in a class and on a side
-  abbrev meaning : List ℕ → SequenceOf ℕ → Option ℕ → Bool → List ℕ → ℕ → MeaningOf ℕ
+  abbrev pub meaning : List ℕ → SequenceOf ℕ → Option ℕ → Bool → List ℕ → ℕ → MeaningOf ℕ
   meaning given b home meta = meaning_at (is_pseudo_in s.names) (record { arguments = given; temporaries = b.temporaries; statements = b.statements }) (means_outside w i home meta)
 
   -- whether a node has the name, and the name means what is asked for
@@ -78,7 +78,7 @@ module _ (s : Slots) (what : Meant) where
       used-free (is_pseudo_in s.names) (is_meant what) (globals what) (record { arguments = given; temporaries = b.temporaries; statements = b.statements }) (means_outside w i home meta) (name_of what)
 
   -- a use has the name
-  use-named : (given : List ℕ) (b : SequenceOf ℕ) (home : Option ℕ) (meta : Bool) (path : List ℕ) (n : ℕ)
+  pub use-named : (given : List ℕ) (b : SequenceOf ℕ) (home : Option ℕ) (meta : Bool) (path : List ℕ) (n : ℕ)
       → is_use what n (meaning given b home meta path n) ≡ (nat_eq (name_of what) n && is_meant what (meaning given b home meta path n))
   use-named given b home meta path n = by what
     where

@@ -68,7 +68,7 @@ pub fn is_not_referenced<L: Ledger>(
 }
 
 /// The kind of the variable that comes or goes.
-fn kind_of(change: &VariableMove) -> VariableKind
+pub fn kind_of(change: &VariableMove) -> VariableKind
     ensures { kind_of result ≡ model.kind_of (move_command change.now) }
 {
     match change {
@@ -81,7 +81,7 @@ fn kind_of(change: &VariableMove) -> VariableKind
 }
 
 /// In whose code the command looks for a variable of the class.
-fn looked_through(change: &VariableMove, class: NameId) -> Whose
+pub fn looked_through(change: &VariableMove, class: NameId) -> Whose
     ensures methods { (i : ImageOf ℕ) (m : EntryOf ℕ) → is_asked i result m ≡ is_looked_through nat_eq i.classes (move_command change.now) class m }
     ensures doits { are_doits_asked result ≡ false }
 {

@@ -12,7 +12,7 @@ use st_tree::{Part, Path, Sequence};
 use std::alloc::Global;
 
 /// Whether a meaning is what is asked for.
-fn is_meant(what: &Meant, meaning: Meaning) -> bool
+pub fn is_meant(what: &Meant, meaning: Meaning) -> bool
     ensures { result ≡ is_meant what.now (meaning_of meaning) }
 {
     match what {

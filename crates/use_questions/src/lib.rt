@@ -7,4 +7,7 @@ mod code;
 mod places;
 mod question;
 
-pub use answers::{is_class_used, is_not_referenced, is_unused};
+pub use answers::{is_class_used, is_not_referenced, is_unused, kind_of, looked_through};
+pub use code::is_meant;
+pub use places::{are_doits_asked, is_asked};
+pub use question::{Meant, Whose};

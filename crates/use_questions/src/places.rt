@@ -32,7 +32,7 @@ fn has_name(image: &Image, class: ClassId, name: NameId) -> bool
 }
 
 /// Whether the method of which this is known is one of those that are asked.
-fn is_asked(image: &Image, whose: Whose, info: &MethodInfo<'_>) -> bool
+pub fn is_asked(image: &Image, whose: Whose, info: &MethodInfo<'_>) -> bool
     requires orderly { IsOrderly image.now }
     requires live { IsLive image.now.class_order info.now.class }
     ensures { (m : EntryOf ℕ) → m.class ≡ class_name image.now.classes info.now.class → result ≡ is_asked (number_image image.now) whose m }
@@ -50,7 +50,7 @@ fn is_asked(image: &Image, whose: Whose, info: &MethodInfo<'_>) -> bool
 }
 
 /// Whether do-its are asked.
-fn are_doits_asked(whose: Whose) -> bool
+pub fn are_doits_asked(whose: Whose) -> bool
     ensures { result ≡ are_doits_asked whose }
 {
     match whose {

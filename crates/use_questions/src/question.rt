@@ -6,8 +6,8 @@ use name_meanings::VariableKind;
 use rb_base::NameId;
 
 /// Whose code is asked.
-#[derive(Clone, Copy)]
-pub(crate) enum Whose {
+#[derive(Clone, Copy, Debug)]
+pub enum Whose {
     /// All methods and do-its.
     Everyone,
     /// All methods and do-its, without the methods of the class of a name.
@@ -21,8 +21,8 @@ pub(crate) enum Whose {
 }
 
 /// What a name is to mean.
-#[derive(Clone, Copy)]
-pub(crate) enum Meant {
+#[derive(Clone, Copy, Debug)]
+pub enum Meant {
     /// The class of a name.
     Class(NameId),
     /// The variable of a kind that the class of a name defines.
@@ -42,7 +42,7 @@ pub(crate) struct Question {
 
 impl Meant {
     /// The name that means it.
-    pub(crate) fn name(&self) -> NameId
+    pub fn name(&self) -> NameId
         ensures { result ≡ asked.name_of self.now }
     {
         match self {
