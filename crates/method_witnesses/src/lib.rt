@@ -5,5 +5,5 @@
 mod meanings;
 mod methods;
 
-pub use meanings::other_meanings;
+pub use meanings::{name_used, other_meanings};
 pub use methods::{kernel_method, method_there, namings_in_method, supers};

@@ -46,7 +46,7 @@ fn same_meaning(meaning: Meaning, other: Meaning) -> bool
 }
 
 /// The name that the node reads or assigns.
-fn name_used(node: &Node) -> Option<NameId>
+pub fn name_used(node: &Node) -> Option<NameId>
     ensures { result ≡ name_used node.now }
 {
     match &node.kind {

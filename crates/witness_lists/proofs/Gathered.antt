@@ -3,7 +3,7 @@ use Rattle.std.proofs.Common.{◌≡◌, ℕ, zero, suc, ◌+◌, ◌<◌, Bool,
 use Rattle.std.specs.List.{flat_map, enumerate_from}
 use Rattle.std.specs.Option.{option_map_or}
 use Rattle.std.proofs.lemmas.List.Folds.{flat_map-map}
-use Rattle.tree_model.specs.Tree.{TreeOf, SequenceOf}
+use Rattle.tree_model.specs.Tree.{SequenceOf}
 use Rattle.tree_model.specs.Nodes.{Placed, nodes}
 use Rattle.placed_nodes.specs.declared.placed.PlacedNode.{PlacedNode}
 use Rattle.placed_nodes.specs.Placing.{placed}
@@ -17,12 +17,12 @@ use Rattle.witness_lists.specs.Walks.{doit_found, numbered_found}
 use Rattle.witness_lists.proofs.Lists.{where-filter}
 
 -- the nodes that pass a test, gathered one by one
-pub gathered_nodes : (test : TreeOf ℕ → Bool) (owner : OwnerOf ℕ) (b : SequenceOf ℕ) (found : List PlacedNode) → placed found ≡ nodes b
-    → flat_map (λ (p : PlacedNode). where_true (test p.node.now) (a_node owner p.path)) found ≡ nodes_that (λ e. test e.1) owner b
+pub gathered_nodes : (test : Placed ℕ → Bool) (owner : OwnerOf ℕ) (b : SequenceOf ℕ) (found : List PlacedNode) → placed found ≡ nodes b
+    → flat_map (λ (p : PlacedNode). where_true (test (p.path, p.node.now)) (a_node owner p.path)) found ≡ nodes_that test owner b
 gathered_nodes test owner b found e =
-    sym (flat_map-map (λ (x : Placed ℕ). where_true (test x.1) (a_node owner x.0)) (λ (p : PlacedNode). (p.path, p.node.now)) found)
-    ∙ ap (flat_map (λ (x : Placed ℕ). where_true (test x.1) (a_node owner x.0))) e
-    ∙ where-filter (λ (x : Placed ℕ). test x.1) (λ (x : Placed ℕ). a_node owner x.0) (nodes b)
+    sym (flat_map-map (λ (x : Placed ℕ). where_true (test x) (a_node owner x.0)) (λ (p : PlacedNode). (p.path, p.node.now)) found)
+    ∙ ap (flat_map (λ (x : Placed ℕ). where_true (test x) (a_node owner x.0))) e
+    ∙ where-filter test (λ (x : Placed ℕ). a_node owner x.0) (nodes b)
 
 -- what stands from a place on, if an item is there
 drop-item : {X : Type 0} (xs : List X) (i : ℕ) (x : X) → slice_get xs i ≡ Some x → drop i xs ≡ x ∷ drop (suc i) xs

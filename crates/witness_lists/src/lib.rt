@@ -12,4 +12,4 @@ pub use code::{
     Whose, nodes_that, slot_witnesses, sought_in_code, sought_in_doits, sought_in_methods,
 };
 pub use nodes::{Sought, text_of};
-pub use witness::{Owner, Witness, push_if};
+pub use witness::{Owner, Witness, push_if, push_node_if};

@@ -6,7 +6,7 @@ ghost use Rattle.witness_lists.specs.Views.{owner_of, shown, witness_of};
 
 use class_table::MethodSlot;
 use name_meanings::Meaning;
-use rb_base::{Memory, NameId};
+use rb_base::{Memory, NameId, Span};
 use st_tree::Path;
 use std::alloc::Global;
 
@@ -28,6 +28,15 @@ pub enum Witness {
     Node {
         owner: Owner,
         path: Path,
+    },
+    /// So many neighbouring statements, from the number of the first on, of the sequence to which a path leads, with the
+    /// places of the source between which they stand.
+    Statements {
+        owner: Owner,
+        path: Path,
+        first: usize,
+        count: usize,
+        span: Span,
     },
     /// A whole method or do-it.
     Whole(Owner),
@@ -56,8 +65,8 @@ pub fn push_if(test: bool, witness: Witness, found: &mut Vec<Witness>) -> Result
     Ok(())
 }
 
-/// Appends the node to which a path leads, if a test is true.
-pub(crate) fn push_node_if(
+/// Appends the node to which a path leads, if a test is true. Want of memory, if there is not enough of it for the path.
+pub fn push_node_if(
     alloc: Global,
     test: bool,
     owner: &Owner,

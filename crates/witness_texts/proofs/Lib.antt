@@ -1,2 +1,3 @@
 pub mod OwnerLines
 pub mod StartLines
+pub mod Runs

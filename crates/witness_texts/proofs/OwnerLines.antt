@@ -6,12 +6,13 @@ use Rattle.std.specs.List.{cons_option}
 use Rattle.std.specs.Option.{option_map, option_map_or}
 use Rattle.rb_base.specs.Names.{name_at}
 use Rattle.token_model.specs.declared.kind.Dialect.TheVariants.{Second}
-use Rattle.grammar_model.specs.Spans.{Span, span_at}
+use Rattle.grammar_model.specs.Spans.{Span}
 use Rattle.grammar_model.specs.Spelling.{SpellsDoItAt, SpellsMethodAt}
 use Rattle.image_model.specs.Image.{EntryOf, map_entry, map_doit}
 use Rattle.image_model.specs.Nodes.{in_method}
 use Rattle.query_model.specs.Lines.{Text, method_title}
-use Rattle.command_model.specs.Parts.{Expression}
+use Rattle.command_model.specs.Parts.{Part}
+use Rattle.command_model.specs.PartsOfText.{span_of_part}
 use Rattle.class_table.specs.declared.record.MethodRec.{MethodRec}
 use Rattle.class_table.specs.declared.record.MethodInfo.{MethodInfo}
 use Rattle.class_table.specs.declared.record.DoIt.{DoIt}
@@ -98,11 +99,11 @@ module _ (s : Slots) (orderly : IsOrderly s) where
     pub title : lines.owner_title (image_of s) (owner_there o) ≡ code_title s.names s.classes c
     pub whole : lines.whole_title (image_of s) (owner_there o) ≡ whole_title s.names s.classes c
     pub users : lines.is_of_user (image_of s) (owner_there o) ≡ is_code_users c
-    pub stands : (path : List ℕ) (span : Span) → StandsThere c path span → lines.StandsIn (image_of s) (owner_there o) (Expression path) span
+    pub stands : (part : Part) (span : Span) → StandsThere c part span → lines.StandsIn (image_of s) (owner_there o) part span
 
-  -- the nodes of a method that is told
-  in_told : (info : MethodInfo) (m : MethodRec) → TellsOf info m → (path : List ℕ) (span : Span) → OfMethod info.source.now (λ b. span_at b path ≡ Some span) → lines.IsInMethod (entry m) (Expression path) span
-  in_told info m t path span h = record { tree = h.tree; spells = subst (λ (source : Text). SpellsMethodAt Second false source h.tree) t.source h.spells; at = h.holds }
+  -- the parts of a method that is told
+  in_told : (info : MethodInfo) (m : MethodRec) → TellsOf info m → (part : Part) (span : Span) → OfMethod info.source.now (λ b. span_of_part b part ≡ Some span) → lines.IsInMethod (entry m) part span
+  in_told info m t part span h = record { tree = h.tree; spells = subst (λ (source : Text). SpellsMethodAt Second false source h.tree) t.source h.spells; at = h.holds }
 
   -- of a method in a slot
   slot-told : (k : ℕ) (info : MethodInfo) → IsTold s k (code.Method info) → OwnerTold (owner.Method k) (code.Method info)
@@ -112,7 +113,7 @@ module _ (s : Slots) (orderly : IsOrderly s) where
         title = ap (lines.owner_title (image_of s)) same ∙ sym (title-told info m t);
         whole = ap (lines.whole_title (image_of s)) same ∙ ap (λ (x : Text). codes "method " ++ x) (sym (title-told info m t));
         users = ap (lines.is_of_user (image_of s)) same ∙ ap not (sym t.kernel);
-        stands = λ path span h. subst (λ (o : OwnerOf Text). lines.StandsIn (image_of s) o (Expression path) span) (sym same) (in_told info m t path span h);
+        stands = λ part span h. subst (λ (o : OwnerOf Text). lines.StandsIn (image_of s) o part span) (sym same) (in_told info m t part span h);
       }
 
   -- of a method by its number
@@ -124,7 +125,7 @@ module _ (s : Slots) (orderly : IsOrderly s) where
         title = title;
         whole = ap (λ (x : Text). codes "method " ++ x) title;
         users = ap (λ (o : Option (EntryOf Text)). option_map_or (λ (x : EntryOf Text). not x.kernel) o false) there ∙ ap not (sym t.kernel);
-        stands = λ path span h. (entry m, there, in_told info m t path span h);
+        stands = λ part span h. (entry m, there, in_told info m t part span h);
       }
 
   -- of a do-it
@@ -135,7 +136,7 @@ module _ (s : Slots) (orderly : IsOrderly s) where
         title = ap (λ (k : ℕ). codes "doit " ++ decimal k) next;
         whole = ap (λ (k : ℕ). codes "doit " ++ decimal k) next;
         users = refl;
-        stands = λ path span h. (map_doit text (doit_of d), doit n d at, record { tree = h.tree; spells = subst (λ (t : Text). SpellsDoItAt Second t h.tree) is h.spells; at = h.holds });
+        stands = λ part span h. (map_doit text (doit_of d), doit n d at, record { tree = h.tree; spells = subst (λ (t : Text). SpellsDoItAt Second t h.tree) is h.spells; at = h.holds });
       }
 
   pub owner-told : (o : Owner) (c : Code) → IsCodeOf s o c → OwnerTold o c

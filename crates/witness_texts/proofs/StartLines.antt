@@ -7,10 +7,11 @@ use Rattle.rb_base.specs.Names.{name_at}
 use Rattle.image_model.specs.Image.{ImageOf}
 use Rattle.image_model.specs.Means.{MeaningOf}
 use Rattle.query_model.specs.Lines.{Text, node_line}
+use Rattle.command_model.specs.Parts.{Part, Expression}
 use Rattle.class_table.specs.Slots.{Slots}
 use Rattle.class_table.specs.View.{image_of}
 use Rattle.class_table.specs.Valid.{IsOrderly}
-use Rattle.refusal_witnesses.specs.Witnesses.{WitnessOf, AWhole, TwoMeanings, a_node}
+use Rattle.refusal_witnesses.specs.Witnesses.{WitnessOf, APart, AWhole, TwoMeanings}
 use Rattle.refusal_witnesses.specs.Lines.{IsLine, part_line, kernel_line, whole_line, meanings_line, kernel_meanings_line, AreLines, no_lines, more_lines, line_of, name_line, meanings_text}
 use Rattle.witness_lists.specs.declared.witness.Owner.{Owner}
 use Rattle.witness_lists.specs.declared.witness.Witness.{Witness}
@@ -27,22 +28,22 @@ module _ (s : Slots) (orderly : IsOrderly s) (o : Owner) (c : Code) (told : IsCo
   pub whole-line : (text : Text) → text ≡ line_of (whole_title s.names s.classes c) → IsLine (image_of s) (AWhole (owner_there s orderly o)) text
   whole-line text e = subst (IsLine (image_of s) (AWhole (owner_there s orderly o))) (ap line_of facts.whole ∙ sym e) whole_line
 
-  pub node-line : (path : List ℕ) (start text : Text) → IsStart s.names s.classes c path start → text ≡ start ++ codes "\n" → IsLine (image_of s) (a_node (owner_there s orderly o) path) text
-  node-line path start text (users_start span user stands is) e =
-      subst (IsLine (image_of s) (a_node (owner_there s orderly o) path))
+  pub part-line : (part : Part) (start text : Text) → IsStart s.names s.classes c part start → text ≡ start ++ codes "\n" → IsLine (image_of s) (APart (owner_there s orderly o) part) text
+  part-line part start text (users_start span user stands is) e =
+      subst (IsLine (image_of s) (APart (owner_there s orderly o) part))
       (ap (λ (t : Text). node_line t span) facts.title
       ∙ sym (e ∙ ap (λ (x : Text). x ++ codes "\n") is))
-      (part_line span (facts.users ∙ user) (facts.stands path span stands))
-  node-line path start text (kernel_start kernel is) e =
-      subst (IsLine (image_of s) (a_node (owner_there s orderly o) path)) (ap line_of facts.whole ∙ sym (e ∙ ap (λ (x : Text). x ++ codes "\n") is)) (kernel_line (facts.users ∙ kernel))
+      (part_line span (facts.users ∙ user) (facts.stands part span stands))
+  part-line part start text (kernel_start kernel is) e =
+      subst (IsLine (image_of s) (APart (owner_there s orderly o) part)) (ap line_of facts.whole ∙ sym (e ∙ ap (λ (x : Text). x ++ codes "\n") is)) (kernel_line (facts.users ∙ kernel))
 
-  pub meanings-line : (path : List ℕ) (start text n : Text) (one other : MeaningOf Text) → IsStart s.names s.classes c path start → text ≡ line_of (start ++ codes " " ++ meanings_text n one other)
+  pub meanings-line : (path : List ℕ) (start text n : Text) (one other : MeaningOf Text) → IsStart s.names s.classes c (Expression path) start → text ≡ line_of (start ++ codes " " ++ meanings_text n one other)
       → IsLine (image_of s) (TwoMeanings (owner_there s orderly o) path n one other) text
   meanings-line path start text n one other (users_start span user stands is) e =
       subst (IsLine (image_of s) (TwoMeanings (owner_there s orderly o) path n one other))
       (ap (λ (t : Text). name_line t span (meanings_text n one other)) facts.title
       ∙ sym (e ∙ ap (λ (x : Text). line_of (x ++ codes " " ++ meanings_text n one other)) is))
-      (meanings_line span (facts.users ∙ user) (facts.stands path span stands))
+      (meanings_line span (facts.users ∙ user) (facts.stands (Expression path) span stands))
   meanings-line path start text n one other (kernel_start kernel is) e =
       subst (IsLine (image_of s) (TwoMeanings (owner_there s orderly o) path n one other))
       (ap (λ (t : Text). line_of (t ++ codes " " ++ meanings_text n one other)) facts.whole

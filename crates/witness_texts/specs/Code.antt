@@ -1,7 +1,9 @@
 -- The method or do-it of an owner, and what is told of it.
 use Rattle.std.specs.Prelude.{◌≡◌, ℕ, ◌+◌, List, ◌++◌, Bool, true, false, not, Some, slice_get, codes}
 use Rattle.std.specs.Fmt.{decimal}
-use Rattle.grammar_model.specs.Spans.{Span, span_at}
+use Rattle.grammar_model.specs.Spans.{Span}
+use Rattle.command_model.specs.Parts.{Part}
+use Rattle.command_model.specs.PartsOfText.{span_of_part}
 use Rattle.class_table.specs.declared.record.ClassRec.{ClassRec}
 use Rattle.class_table.specs.declared.record.MethodRec.{MethodRec}
 use Rattle.class_table.specs.declared.record.DoIt.{DoIt}
@@ -42,12 +44,16 @@ abbrev pub is_users : Code → Bool
 is_users (code.Method info) = not info.kernel
 is_users (code.DoIt number source) = true
 
--- a node stands there in its source
-abbrev pub StandsThere : Code → List ℕ → Span → Type 0
-StandsThere (code.Method info) path span = OfMethod info.source.now (λ s. span_at s path ≡ Some span)
-StandsThere (code.DoIt number source) path span = OfDoIt source.now (λ s. span_at s path ≡ Some span)
+-- a part stands there in its source
+abbrev pub StandsThere : Code → Part → Span → Type 0
+StandsThere (code.Method info) part span = OfMethod info.source.now (λ s. span_of_part s part ≡ Some span)
+StandsThere (code.DoIt number source) part span = OfDoIt source.now (λ s. span_of_part s part ≡ Some span)
 
--- What the line of a node begins with: of the user's the title and the offsets, and of the kernel's the method alone.
-pub data IsStart (names : List (List ℕ)) (classes : List ClassRec) (c : Code) (path text : List ℕ) : Type 0 where
-  users_start : (span : Span) → is_users c ≡ true → StandsThere c path span → text ≡ code_title names classes c ++ codes " " ++ decimal span.from ++ codes " " ++ decimal span.to → IsStart names classes c path text
-  kernel_start : is_users c ≡ false → text ≡ whole_title names classes c → IsStart names classes c path text
+-- so in the user's code
+abbrev pub IsUsersPart : Code → Part → Span → Type 0
+IsUsersPart c part span = (is_users c ≡ true) × StandsThere c part span
+
+-- What the line of a part begins with: of the user's the title and the offsets, and of the kernel's the method alone.
+pub data IsStart (names : List (List ℕ)) (classes : List ClassRec) (c : Code) (part : Part) (text : List ℕ) : Type 0 where
+  users_start : (span : Span) → is_users c ≡ true → StandsThere c part span → text ≡ code_title names classes c ++ codes " " ++ decimal span.from ++ codes " " ++ decimal span.to → IsStart names classes c part text
+  kernel_start : is_users c ≡ false → text ≡ whole_title names classes c → IsStart names classes c part text

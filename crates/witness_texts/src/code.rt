@@ -1,14 +1,15 @@
 // The method or do-it of an owner.
-ghost use Rattle.std.specs.Prelude.{◌≡◌, IfOk, IfSome};
+ghost use Rattle.std.specs.Prelude.{◌≡◌, IfOk, IfSome, OnOk};
 ghost use Rattle.class_table.specs.Valid.{IsOrderly};
+ghost use Rattle.command_model.specs.Parts.{Expression, Run};
 ghost use Rattle.event_spans.specs.Answers.{of_span};
-ghost use Rattle.witness_texts.specs.Code.{IsCodeOf, IsTold, code_title, is_users, StandsThere};
+ghost use Rattle.witness_texts.specs.Code.{IsCodeOf, IsTold, IsUsersPart, code_title, is_users, StandsThere};
 
 use class_table::{Image, MethodInfo, MethodSlot};
 use image_queries::{doit_title, method_title};
 use rb_base::{Memory, Span, Text};
-use st_spans::{span_of, span_of_doit};
-use st_tree::Path;
+use st_spans::{part_of_span, span_of, span_of_doit};
+use st_tree::{Part, Path};
 use std::alloc::Global;
 use witness_lists::Owner;
 
@@ -80,7 +81,7 @@ pub(crate) fn is_users(code: &Code<'_>) -> bool
 
 /// Where the node stands in the source of the code to which a path leads. Want of memory also if it stands nowhere.
 pub(crate) fn span_in(alloc: Global, code: &Code<'_>, path: &Path) -> Result<Span, Memory>
-    ensures { IfOk result (λ span. StandsThere code.now path.now (of_span span)) }
+    ensures { IfOk result (λ span. StandsThere code.now (Expression path.now) (of_span span)) }
 {
     let found = match code {
         Code::Method(info) => span_of(alloc, info.source, path),
@@ -89,5 +90,41 @@ pub(crate) fn span_in(alloc: Global, code: &Code<'_>, path: &Path) -> Result<Spa
     match found {
         Ok(Some(span)) => Ok(span),
         _ => Err(Memory),
+    }
+}
+
+/// Nothing, if these statements of the user's code stand at the span; and else want of memory.
+pub(crate) fn check_statements(
+    alloc: Global,
+    code: &Code<'_>,
+    path: &Path,
+    first: usize,
+    count: usize,
+    span: Span,
+) -> Result<(), Memory>
+    ensures { OnOk result (IsUsersPart code.now (Run path.now first count) (of_span span)) }
+{
+    let Code::Method(info) = code else {
+        return Err(Memory);
+    };
+    if info.kernel {
+        return Err(Memory);
+    }
+    let Ok(
+        Some(
+            Part::Run {
+                path: way,
+                first: from,
+                count: number,
+            },
+        ),
+    ) = part_of_span(alloc, info.source, span.from, span.to)
+    else {
+        return Err(Memory);
+    };
+    if way.same(path) && first == from && count == number {
+        Ok(())
+    } else {
+        Err(Memory)
     }
 }

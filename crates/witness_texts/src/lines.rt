@@ -3,16 +3,17 @@ ghost use Rattle.std.specs.Prelude.{◌≡◌, ◌++◌, codes, map, IfOk, OnOk}
 ghost use Rattle.std.specs.Fmt.{decimal};
 ghost use Rattle.rb_base.specs.Names.{name_at};
 ghost use Rattle.image_model.specs.Means.{map_meaning};
+ghost use Rattle.command_model.specs.Parts.{Expression, Run};
 ghost use Rattle.class_table.specs.Valid.{IsOrderly};
 ghost use Rattle.class_table.specs.View.{image_of};
 ghost use Rattle.name_meanings.specs.Meanings.{meaning_of};
-ghost use Rattle.refusal_witnesses.specs.Witnesses.{a_node, AWhole, TwoMeanings};
+ghost use Rattle.refusal_witnesses.specs.Witnesses.{a_node, APart, AWhole, TwoMeanings};
 ghost use Rattle.refusal_witnesses.specs.Lines.{AreLines, IsLine, line_of};
 ghost use Rattle.witness_lists.specs.Views.{owner_of, shown, witness_of};
 ghost use Rattle.witness_numbers.specs.MappedWitnesses.{map_owner, map_witness};
 ghost use Rattle.witness_texts.specs.Code.{IsCodeOf, IsStart, whole_title};
 
-use crate::code::{Code, code_of, is_users, span_in, title};
+use crate::code::{Code, check_statements, code_of, is_users, span_in, title};
 use crate::meanings::push_meanings;
 use class_table::Image;
 use image_queries::text_of;
@@ -67,7 +68,7 @@ fn line_start(
 ) -> Result<Text, Memory>
     requires orderly { IsOrderly image.now }
     requires code { IsCodeOf image.now owner.now code.now }
-    ensures { IfOk result (IsStart image.now.names image.now.classes code.now path.now) }
+    ensures { IfOk result (IsStart image.now.names image.now.classes code.now (Expression path.now)) }
 {
     if !is_users(code) {
         return whole_title(alloc, image, owner, code);
@@ -100,6 +101,29 @@ fn node_line(alloc: Global, image: &Image, owner: &Owner, path: &Path) -> Result
         return Err(Memory);
     };
     let mut line = line_start(alloc, image, owner, &code, path)?;
+    line.push_slice(b"\n")?;
+    Ok(line)
+}
+
+/// The line of neighbouring statements that stand at the span. Want of memory also if they do not.
+fn statements_line(
+    alloc: Global,
+    image: &Image,
+    owner: &Owner,
+    path: &Path,
+    first: usize,
+    count: usize,
+    span: Span,
+) -> Result<Text, Memory>
+    requires { IsOrderly image.now }
+    ensures { IfOk result (IsLine (image_of image.now) (APart (map_owner (name_at image.now.names) (owner_of image.now owner.now)) (Run path.now first count))) }
+{
+    let Some(code) = code_of(image, owner) else {
+        return Err(Memory);
+    };
+    check_statements(alloc, &code, path, first, count, span)?;
+    let mut line = title(alloc, image, owner, &code)?;
+    push_span(alloc, span, &mut line)?;
     line.push_slice(b"\n")?;
     Ok(line)
 }
@@ -154,6 +178,13 @@ fn witness_line(alloc: Global, image: &Image, witness: &Witness) -> Result<Text,
 {
     match witness {
         Witness::Node { owner, path } => node_line(alloc, image, owner, path),
+        Witness::Statements {
+            owner,
+            path,
+            first,
+            count,
+            span,
+        } => statements_line(alloc, image, owner, path, *first, *count, *span),
         Witness::Whole(owner) => whole_line(alloc, image, owner),
         Witness::Class(name) => name_line(alloc, b"class ", text_of(image, *name)),
         Witness::Selector(name) => name_line(alloc, b"selector ", text_of(image, *name)),

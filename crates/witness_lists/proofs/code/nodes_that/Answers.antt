@@ -1,6 +1,7 @@
 use Rattle.std.proofs.Common.{◌≤◌, ℕ, ◌++◌, List, length, ap, ◌∙◌, arith}
 use Rattle.std.specs.List.{flat_map}
 use Rattle.std.proofs.lemmas.List.{take_all}
+use Rattle.tree_model.specs.Nodes.{Placed}
 use Rattle.st_tree.specs.View.{sequence_of}
 use Rattle.placed_nodes.specs.declared.placed.PlacedNode.{PlacedNode}
 use Rattle.placed_nodes.specs.Placing.{placed}
@@ -19,4 +20,4 @@ returns c =
     c.loop-placed.invariant
     ∙ ap (λ (ps : List PlacedNode). shown s c.args.found.now.items ++ flat_map (λ (p : PlacedNode). where_true (passes s.names c.args.sought.now p.node.now) (a_node owner p.path)) ps) (take_all c.loop-placed.placed-index items over)
     ∙ ap (λ (ws : List (WitnessOf ℕ)). shown s c.args.found.now.items ++ ws)
-    (gathered_nodes (passes s.names c.args.sought.now) owner (sequence_of c.args.body.now) items (ap placed c.as_slice-placed-items.ensures.value ∙ c.in_ok-nodes.ensures))
+    (gathered_nodes (λ (e : Placed ℕ). passes s.names c.args.sought.now e.1) owner (sequence_of c.args.body.now) items (ap placed c.as_slice-placed-items.ensures.value ∙ c.in_ok-nodes.ensures))
