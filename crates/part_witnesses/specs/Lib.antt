@@ -1,0 +1,5 @@
+pub mod Held
+pub mod Sought
+pub mod Sending
+pub mod Changed
+pub mod Standing

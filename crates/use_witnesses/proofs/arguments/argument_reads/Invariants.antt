@@ -1,0 +1,9 @@
+use Rattle.std.proofs.Common.{◌≡◌, ◌++◌, take}
+use Rattle.std.specs.List.{flat_map}
+use Rattle.witness_lists.specs.Views.{shown}
+use Rattle.use_witnesses.specs.Arguments.{slot_reads}
+use Rattle.use_witnesses.proofs.arguments.argument_reads.Given as goal
+
+abbrev pub invariant-loop-slot : goal.invariant-loop-slot
+invariant-loop-slot g l =
+    shown l.image l.found.items ≡ shown l.image l.initial.found.items ++ flat_map (slot_reads l.image l.selector l.argument) (take l.slot-index l.slot-items)
