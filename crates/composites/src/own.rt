@@ -68,7 +68,8 @@ pub fn first_own_false<L: Ledger>(
     requires orderly { IsOrderly image.now }
     requires index { IsIndexOf image.now index.now }
     requires known { ActionNames (λ n. n < length image.now.names) (action_of action.now) }
-    ensures { IfOk result (λ found. option_map (map_condition (name_at image.now.names)) (option_map condition_of found)
+    ensures numbers { IfOk result (λ found. option_map condition_of found ≡ own.first_own_false (asked_by image.now.names) (number_image image.now) (action_of action.now)) }
+    ensures texts { IfOk result (λ found. option_map (map_condition (name_at image.now.names)) (option_map condition_of found)
         ≡ own.first_own_false text_asked (image_of image.now) (map_action (name_at image.now.names) (action_of action.now))) }
 {
     actions_by_numbers();

@@ -9,6 +9,7 @@ use Rattle.history_model.specs.History.{by_result, appended}
 use Rattle.reference_index.specs.Mentioned.{Mentioned}
 use Rattle.ruled_model.specs.RuledScripts.{Version, History, ruled}
 use Rattle.wider_slots.specs.Wider.{Wider}
+use Rattle.wider_slots.proofs.StepLemmas.{wider-same}
 use Rattle.session.specs.Log.{DoneCommand, Done, Log, log_at, taken_back, CanGoBack, CommandsKnown, IsLogOf}
 use Rattle.session.specs.History.{renaming_at, version_behind, history_of}
 use Rattle.session.specs.Stepping.{IsUnderWay}
@@ -77,6 +78,7 @@ module _ {Q E : Type 0} (s t : Slots) (log : Log) (y : Mentioned) (e : Done) (wa
         names = made.names;
         done = ap (entry-wanted (history_of s log)) (made.done (renaming_at s log.back)) ∙ sym (ap (λ (h : History). Ok h) (noted-history s t log y e is way));
         same = tt;
+        room = tt;
         refused = tt;
       }
 
@@ -90,6 +92,7 @@ module _ {Q E : Type 0} (s t : Slots) (log : Log) (y : Mentioned) (e : Done) (wa
         names = subst (Grows s.names) (sym names) made.names;
         done = tt;
         same = gone-history s t log y e is way;
+        room = way.room;
         refused = λ q why. ap (entry-wanted (history_of s log)) (made.refused q (ap (λ (ns : List (List ℕ)). told ns f) (sym names) ∙ why) (renaming_at s log.back));
       }
 
@@ -125,5 +128,6 @@ entry-stays s log next wanted told f is quiet kept =
       names = Grows-none s.names;
       done = tt;
       same = refl;
+      room = wider-same s is.closed;
       refused = λ q why. absurd (told-nothing (told s.names f) q (quiet s.names) why);
     })

@@ -44,7 +44,7 @@ Outcome = Result History (ConditionOf Name)
 module _ (s : Slots) (log : Log) (wanted : Outcome) (is : IsLogOf s log) where
   -- nothing is changed for want of memory
   pub stays : IsStepped s log wanted s log (Err refusal.Memory)
-  stays = record { log = is; names = refl; done = tt; same = refl; refused = λ c e. cc }
+  stays = record { log = is; names = refl; done = tt; same = refl; room = wider-same s is.closed; refused = λ c e. cc }
 
   -- or for a condition
   pub refuses : (c : Condition) → wanted ≡ Err (map_condition (name_at s.names) (condition_of c)) → IsStepped s log wanted s log (Err (refusal.Condition c))
@@ -53,6 +53,7 @@ module _ (s : Slots) (log : Log) (wanted : Outcome) (is : IsLogOf s log) where
     names = refl;
     done = tt;
     same = refl;
+    room = wider-same s is.closed;
     refused = λ d same.
         let one : c ≡ d = cc in
         subst (λ (b : Condition). wanted ≡ Err (map_condition (name_at s.names) (condition_of b))) one e;
@@ -66,11 +67,12 @@ module _ (s : Slots) (former log : Log) (wanted : Outcome) (same : history_of s 
     names = is.names;
     done = is.done;
     same = subst (λ (h : History). OnErr result (history_of t next ≡ h)) same is.same;
+    room = is.room;
     refused = is.refused;
   }
 
   pub refused-since : IsLogOf s log → (e : StepRefusal) → ((c : Condition) → e ≡ refusal.Condition c → wanted ≡ Err (map_condition (name_at s.names) (condition_of c))) → IsStepped s former wanted s log (Err e)
-  refused-since is e why = record { log = is; names = refl; done = tt; same = same; refused = why }
+  refused-since is e why = record { log = is; names = refl; done = tt; same = same; room = wider-same s is.closed; refused = why }
 
 -- where the slots, the index and the entry are as before
 pub stays-with : (s t : Slots) (x y : Mentioned) (stale : List Place) (es : List Done) (k n : ℕ) (d e : Done) (wanted : Outcome) → IsLogOf s (log_at x stale es n) → t ≡ s → e ≡ d → y ≡ x → d ≡ get_or es k d
@@ -95,6 +97,7 @@ module _ (s : Slots) (x y : Mentioned) (e : Done) (back forth : List Done) where
     names = back-names s e.commands;
     done = history-back s e x y [] back forth is;
     same = tt;
+    room = tt;
     refused = tt;
   }
 
@@ -106,6 +109,7 @@ module _ (s : Slots) (x y : Mentioned) (e : Done) (back forth : List Done) where
     names = again-names s e.commands;
     done = history-again s e x y [] back forth is;
     same = tt;
+    room = tt;
     refused = tt;
   }
 
@@ -239,6 +243,7 @@ module _ (s t : Slots) (log : Log) (y : Mentioned) (e : Done) (commands : List (
         names = done.names;
         done = ap behind (done.done (renaming_at s log.back)) ∙ sym (ap (λ (h : History). Ok h) (noted-history s t log y e is way));
         same = tt;
+        room = tt;
         refused = tt;
       }
 
@@ -252,6 +257,7 @@ module _ (s t : Slots) (log : Log) (y : Mentioned) (e : Done) (commands : List (
         names = back-names t e.commands ∙ done.names;
         done = tt;
         same = gone-history s t log y e is way;
+        room = way.room;
         refused = λ c same. ap behind (done.refused c same (renaming_at s log.back));
       }
 

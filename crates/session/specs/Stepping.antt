@@ -37,12 +37,13 @@ pub record IsCarriedOut (s : Slots) (x : Mentioned) (d : Done) (commands : List 
   pub done : OnOk result ((r : Renaming) → after_all rules (version_behind s r d.commands) commands ≡ Ok (version_behind t r e.commands))
   pub refused : IfErr result (λ q. (c : Condition) → q ≡ refusal.Condition c → (r : Renaming) → after_all rules (version_behind s r d.commands) commands ≡ Err (map_condition (name_at s.names) (condition_of c)))
 
--- The log is one of the slots, over the same names. Where the step is done they stand for the history that is wanted; else for the same as before, and a condition that refuses it is the one that is false.
+-- The log is one of the slots, over the same names. Where the step is done they stand for the history that is wanted; else for the same as before, with room alone in the slots, and a condition that refuses it is the one that is false.
 pub record IsStepped (s : Slots) (former : Log) (wanted : Result History (ConditionOf Name)) (t : Slots) (next : Log) (result : Result (Unit {0}) StepRefusal) : Type 0 where
   pub log : IsLogOf t next
   pub names : t.names ≡ s.names
   pub done : OnOk result (wanted ≡ Ok (history_of t next))
   pub same : OnErr result (history_of t next ≡ history_of s former)
+  pub room : OnErr result (Wider s t)
   pub refused : IfErr result (λ e. (c : Condition) → e ≡ refusal.Condition c → wanted ≡ Err (map_condition (name_at s.names) (condition_of c)))
 
 -- the history behind commands that are one action

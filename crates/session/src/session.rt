@@ -1,24 +1,27 @@
 // The steps of a session.
-ghost use Rattle.std.specs.Prelude.{◌≡◌, ◌≢◌, ◌<◌, ◌≤◌, ℕ, ◌++◌, ◌∷◌, [], length, map, take, Some, None, Ok, Err, IfOk, IfErr, OnOk, OnErr, vec_len};
+ghost use Rattle.std.specs.Prelude.{◌≡◌, ◌≢◌, ◌<◌, ◌≤◌, ℕ, ◌++◌, ◌∷◌, [], length, map, option_map, take, Some, None, Ok, Err, IfOk, IfErr, OnOk, OnErr, vec_len};
 ghost use Rattle.std.specs.List.{AllByRecursion};
 ghost use Rattle.std.specs.Vec.{vec_capacity};
 ghost use Rattle.rb_base.specs.Names.{name_at};
 ghost use Rattle.image_model.specs.Image.{ImageOf};
+ghost use Rattle.image_model.specs.ImageNames.{OptionNames};
 ghost use Rattle.run_model.specs.Values.{Name};
 ghost use Rattle.run_model.specs.Renamings.{no_renaming};
 ghost use Rattle.class_table.specs.Slots.{Slots};
-ghost use Rattle.class_table.specs.View.{image_of};
+ghost use Rattle.class_table.specs.View.{image_of, number_image};
 ghost use Rattle.class_table.specs.Valid.{IsOrderly};
 ghost use Rattle.wider_slots.specs.Closed.{IsClosed};
+ghost use Rattle.wider_slots.specs.Wider.{Wider};
 ghost use Rattle.history_model.specs.Rules.{Perform, Undo, Redo, Asks};
 ghost use Rattle.history_model.specs.History.{opened, stepped};
 ghost use Rattle.command_model.specs.Asked.{text_asked};
-ghost use Rattle.command_numbers.specs.CommandNames.{CommandNames};
+ghost use Rattle.command_model.specs.Judged as judged;
+ghost use Rattle.command_numbers.specs.CommandNames.{CommandNames, ConditionNames};
 ghost use Rattle.command_numbers.specs.MappedCommands.{map_command, map_condition};
 ghost use Rattle.session_model.specs.OwnConditions.{first_own_false};
 ghost use Rattle.session_model.specs.Scripts.{rules};
 ghost use Rattle.commands.specs.Actions.{map_action, ActionNames};
-ghost use Rattle.commands.specs.Views.{action_of, command_of, condition_of, request_in, HasSelf, IsKnownRequest};
+ghost use Rattle.commands.specs.Views.{action_of, asked_by, command_of, condition_of, request_in, HasSelf, IsKnownRequest};
 ghost use Rattle.commands.specs.declared.condition.Condition.{Condition};
 ghost use Rattle.kept_runs.specs.WellSpelled.{IsWellSpelledAction};
 ghost use Rattle.rule_laws.specs.KeptRules.{IsSpelledRule};
@@ -50,6 +53,7 @@ use certificates::RuleRequest;
 use class_table::{Image, Place};
 use commands::{Action, Command, Condition, Request};
 use composites::{first_own_false, steps_of};
+use conditions::{first_false, kept_of};
 use matched_histories::law_matched_histories;
 use new_names::law_composed_names;
 use proposals::Proposal;
@@ -255,6 +259,26 @@ impl Session {
         }
     }
 
+    /// The first condition of a single command that is false in the image, if there is one. The command is not done. The error is
+    /// want of memory.
+    pub fn first_false<L: Ledger>(
+        &mut self,
+        image: &Image,
+        command: &Command,
+        steps: &mut Steps<L>,
+    ) -> Result<Option<Condition>, Memory>
+        requires log { IsLogOf image.now self.old }
+        requires known { CommandNames (λ n. n < length image.now.names) (command_of command.now) }
+        ensures log { IsLogOf image.now self.new }
+        ensures same { history_of image.now self.new ≡ history_of image.now self.old }
+        ensures first { IfOk result (λ found. option_map condition_of found ≡ judged.first_false (asked_by image.now.names) (number_image image.now) (command_of command.now)) }
+        ensures known { IfOk result (λ found. OptionNames (λ c. ConditionNames (λ n. n < length image.now.names) (condition_of c)) found) }
+    {
+        self.renew(image, steps)?;
+        let kept = kept_of(self.alloc, image, command, steps)?;
+        first_false(self.alloc, image, &self.index, command, &kept, steps)
+    }
+
     /// Makes the index that of the image, and refuses the action where one of its own conditions is false.
     fn judge<L: Ledger>(
         &mut self,
@@ -311,6 +335,7 @@ impl Session {
         ensures names { image.new.names ≡ image.old.names }
         ensures done { OnOk result (stepped rules (history_of image.old self.old) (request_in image.old.names request) ≡ Ok (history_of image.new self.new)) }
         ensures same { OnErr result (history_of image.new self.new ≡ history_of image.old self.old) }
+        ensures room { OnErr result (Wider image.old image.new) }
         ensures refused { IfErr result (λ e. (c : Condition) → e ≡ refusal.Condition c →
             stepped rules (history_of image.old self.old) (request_in image.old.names request) ≡ Err (map_condition (name_at image.old.names) (condition_of c))) }
         ensures matched { (first : ImageOf Name) → Asks IsWellSpelledAction (request_in image.old.names request) →
@@ -385,6 +410,7 @@ impl Session {
         ensures names { Grows image.old.names image.new.names }
         ensures done { OnOk result (grouped (history_of image.old self.old) (map (asked_in image.old.names) proposals.now) ≡ Ok (history_of image.new self.new)) }
         ensures same { OnErr result (history_of image.new self.new ≡ history_of image.old self.old) }
+        ensures room { OnErr result (Wider image.old image.new) }
         ensures refused { IfErr result (λ e. (q : ℕ × Reason) → group_told image.new.names e ≡ Some q →
             grouped (history_of image.old self.old) (map (asked_in image.old.names) proposals.now) ≡ Err q) }
         ensures matched { (first : ImageOf Name) → AllByRecursion IsSpelledAsked (map (asked_in image.old.names) proposals.now) →
@@ -455,6 +481,7 @@ impl Session {
         ensures names { Grows image.old.names image.new.names }
         ensures done { OnOk result (stepped ruled (history_of image.old self.old) (Perform (Applies (command_in image.old.names request.now))) ≡ Ok (history_of image.new self.new)) }
         ensures same { OnErr result (history_of image.new self.new ≡ history_of image.old self.old) }
+        ensures room { OnErr result (Wider image.old image.new) }
         ensures refused { IfErr result (λ e. (c : Condition) → e ≡ rule_refusal.Condition c →
             stepped ruled (history_of image.old self.old) (Perform (Applies (command_in image.old.names request.now))) ≡ Err (Unmet (map_condition (name_at image.new.names) (condition_of c)))) }
         ensures underived { IfErr result (λ e. e ≡ rule_refusal.NotDerived →

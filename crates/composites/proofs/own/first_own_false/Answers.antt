@@ -9,8 +9,8 @@ use Rattle.commands.specs.Views.{action_of, asked_by, condition_of}
 use Rattle.class_table.specs.View.{image_of, number_image}
 use Rattle.composites.proofs.own.first_own_false.Goals as goal
 
-pub returns : goal.returns
-returns g c =
+pub returns-clause-texts : goal.returns-clause-texts
+returns-clause-texts g c =
     let s = c.args.image.now in
     let action = action_of c.args.action.now in
     IfOk-weaker c.first_false.result

@@ -18,10 +18,10 @@ pub returns-in-Some : goal.returns-in-Some
 returns-in-Some g c =
     let s = c.args.image.now in
     acted-false s c.args.index.now c.args.done.now (map_action (name_at s.names) (action_of c.args.action.now)) c.in-Some.condition
-    (sym c.in_ok-condition.ensures ∙ ap (λ (o : Option Condition). option_map (map_condition (name_at s.names)) (option_map condition_of o)) c.in-Some.is)
+    (sym c.in_ok-condition.ensures.texts ∙ ap (λ (o : Option Condition). option_map (map_condition (name_at s.names)) (option_map condition_of o)) c.in-Some.is)
 
 pub returns : goal.returns
 returns g c =
     let s = c.args.image.now in
     acted-steps s c.args.index.now c.args.done.now (map_action (name_at s.names) (action_of c.args.action.now)) c.perform_steps_of.new.image c.perform_steps_of.new.index c.perform_steps_of.new.done c.perform_steps_of.result
-    (sym c.in_ok-condition.ensures ∙ ap (λ (o : Option Condition). option_map (map_condition (name_at s.names)) (option_map condition_of o)) c.in_default.is) c.perform_steps_of.ensures
+    (sym c.in_ok-condition.ensures.texts ∙ ap (λ (o : Option Condition). option_map (map_condition (name_at s.names)) (option_map condition_of o)) c.in_default.is) c.perform_steps_of.ensures

@@ -1,13 +1,20 @@
 use Rattle.std.proofs.Common.{sym, subst}
+use Rattle.std.proofs.lemmas.Result.{err_from_is_err_and}
 use Rattle.history_model.specs.Rules.{Perform}
 use Rattle.history_model.specs.History.{stepped}
 use Rattle.ruled_model.specs.RuledScripts.{History, Applies, ruled}
 use Rattle.certificates.specs.Asked.{command_in}
 use Rattle.matched_histories.specs.MatchedHistories.{IsMatchedHistory}
+use Rattle.wider_slots.proofs.StepLemmas.{wider-same}
 use Rattle.session.specs.History.{history_of}
 use Rattle.session.proofs.MatchedSteps.{matched-after}
 use Rattle.session.proofs.RuledSteps.{IsTold, told-unmet, told-underived}
 use Rattle.session.proofs.session.Session.apply_rule.Goals as goal
+
+pub returns-in_err-renew-clause-room : goal.returns-in_err-renew-clause-room
+returns-in_err-renew-clause-room g c =
+    let p = err_from_is_err_and c.from_residual.result c.from_residual.ensures.1 in
+    rw p.1 (wider-same c.args.image.now c.requires.log.closed)
 
 pub returns-clause-refused : goal.returns-clause-refused
 returns-clause-refused g c =

@@ -15,4 +15,4 @@ first_own_false-requires-clause-index g c =
 
 pub returns-clause-accepted : goal.returns-clause-accepted
 returns-clause-accepted g c =
-    sym c.in_ok-condition.ensures ∙ ap (λ (o : Option Condition). option_map (map_condition (name_at c.args.image.now.names)) (option_map condition_of o)) c.in_default.is
+    sym c.in_ok-condition.ensures.texts ∙ ap (λ (o : Option Condition). option_map (map_condition (name_at c.args.image.now.names)) (option_map condition_of o)) c.in_default.is

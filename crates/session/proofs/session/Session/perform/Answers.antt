@@ -1,4 +1,4 @@
-use Rattle.std.proofs.Common.{◌≡◌, map, sym, ap, subst, ◌∙◌}
+use Rattle.std.proofs.Common.{◌≡◌, map, Err, sym, ap, subst, ◌∙◌}
 use Rattle.std.specs.List.{AllByRecursion}
 use Rattle.std.proofs.lemmas.Result.{err_from_is_err_and}
 use Rattle.rb_base.specs.Names.{name_at}
@@ -11,9 +11,10 @@ use Rattle.reference_index.specs.Mentioned.{IsIndexOf}
 use Rattle.session.specs.Log.{Log}
 use Rattle.session.specs.History.{history_of}
 use Rattle.session.specs.Stepping.{IsStepped, after_commands}
+use Rattle.session.specs.declared.refusal.StepRefusal.TheVariants as refusal
 use Rattle.session.proofs.Each.{text_in, IsKnownIn}
 use Rattle.session.proofs.Logs.{is-index}
-use Rattle.session.proofs.Steps.{Outcome, own-true, stepped-since, refused-since}
+use Rattle.session.proofs.Steps.{Outcome, stays, own-true, stepped-since, refused-since}
 use Rattle.session.proofs.session.Session.perform.Goals as goal
 
 pub returns-in_err-judge : goal.returns-in_err-judge
@@ -28,6 +29,16 @@ pub steps_of-requires-clause-index : goal.steps_of-requires-clause-index
 steps_of-requires-clause-index g c =
     let log = c.judge.new.self in
     subst (λ (l : Log). IsIndexOf c.args.image.now l.index) (sym c.self.view_is) (is-index c.args.image.now log.index log.stale c.in_ok-judge.ensures.renewed c.in_ok-judge.ensures.log.index)
+
+pub returns-in_err-commands : goal.returns-in_err-commands
+returns-in_err-commands g c =
+    let s = c.args.image.now in
+    let p = err_from_is_err_and c.from_residual-in_err-commands.result c.from_residual-in_err-commands.ensures.1 in
+    let log = c.judge.new.self in
+    let judged = c.in_ok-judge.ensures in
+    let wanted = stepped rules (history_of s c.args.self.now) (Perform (map_action (name_at s.names) (action_of c.args.action))) in
+    rw (p.1, p.2) (
+    stepped-since s c.args.self.now log wanted judged.same s log (Err refusal.Memory) (stays s log wanted judged.log))
 
 pub perform_all-requires-clause-known : goal.perform_all-requires-clause-known
 perform_all-requires-clause-known g c = subst (AllByRecursion (IsKnownIn c.args.image.now.names)) (sym c.as_slice.ensures.value) c.in_ok-commands.ensures.known

@@ -1,16 +1,27 @@
-use Rattle.std.proofs.Common.{◌≡◌, ◌<◌, length, get_or, ℕ, sym, ap, subst, ◌∙◌, arith}
+use Rattle.std.proofs.Common.{◌≡◌, ◌<◌, ◌≤◌, length, get_or, ℕ, Err, sym, ap, subst, ◌∙◌, arith}
 use Rattle.std.proofs.lemmas.List.{with_items_is}
 use Rattle.std.proofs.lemmas.Result.{err_from_is_err_and}
 use Rattle.std.specs.Vec.{with_items}
 use Rattle.history_model.specs.Rules.{Redo}
 use Rattle.history_model.specs.History.{stepped}
 use Rattle.session_model.specs.Scripts.{rules}
-use Rattle.session.specs.Log.{Done, done_again, left_again}
+use Rattle.commands.specs.declared.condition.Condition.TheVariants as condition
+use Rattle.session.specs.Log.{Done, Log, done_again, left_again, IsLogOf}
 use Rattle.session.specs.History.{history_of}
+use Rattle.session.specs.Stepping.{IsStepped}
+use Rattle.session.specs.declared.refusal.StepRefusal.TheVariants as refusal
 use Rattle.session.proofs.Logs.{again}
 use Rattle.session.proofs.UnderWay.{Follows}
-use Rattle.session.proofs.Steps.{redo-made, wanting}
+use Rattle.session.proofs.Steps.{redo-made, wanting, none-forth}
 use Rattle.session.proofs.session.Session.redo.Goals as goal
+
+pub returns-then-len-self : goal.returns-then-len-self
+returns-then-len-self g c =
+    let s = c.args.image.now in
+    let v = c.self.inside in
+    let h : length v.entries.items ≤ v.done = omega (arith, c.if-len-self.true, c.len.ensures, v.entries.ok.0) in
+    subst (λ (l : Log). IsStepped s l (stepped rules (history_of s l) Redo) s l (Err (refusal.Condition condition.RedoLeft))) c.self.view_is
+    (none-forth s v.index v.stale.items v.entries.items v.done h (subst (IsLogOf s) (sym c.self.view_is) c.requires.log))
 
 pub returns-in_err-do_again : goal.returns-in_err-do_again
 returns-in_err-do_again g c =

@@ -1,4 +1,5 @@
 use Rattle.std.proofs.Common.{sym, subst}
+use Rattle.std.proofs.lemmas.Result.{err_from_is_err_and}
 use Rattle.rb_base.specs.Names.{name_at}
 use Rattle.history_model.specs.Rules.{Perform, Undo, Redo}
 use Rattle.history_model.specs.History.{stepped}
@@ -6,6 +7,7 @@ use Rattle.session_model.specs.Scripts.{rules}
 use Rattle.commands.specs.Actions.{map_action}
 use Rattle.commands.specs.Views.{action_of}
 use Rattle.matched_histories.specs.MatchedHistories.{IsMatchedHistory}
+use Rattle.wider_slots.proofs.StepLemmas.{wider-same}
 use Rattle.session.specs.History.{history_of}
 use Rattle.session.proofs.MatchedSteps.{matched-after}
 use Rattle.session.proofs.session.Session.step.Goals as goal
@@ -32,3 +34,13 @@ returns-in_ok-renew-in-Redo-clause-matched g c = λ first spelled all.
     let after = history_of c.redo.new.image c.redo.new.self in
     matched-after first (stepped rules before Redo) before after c.redo.result (λ done is. c.law_matched_histories.ensures.plain first before after Redo is tt done) c.redo.ensures.done c.redo.ensures.same
     (subst (IsMatchedHistory first) (sym c.renew-in-Redo.ensures.same) all)
+
+pub returns-in_err-renew-in-Undo-clause-room : goal.returns-in_err-renew-in-Undo-clause-room
+returns-in_err-renew-in-Undo-clause-room g c =
+    let p = err_from_is_err_and c.from_residual.result c.from_residual.ensures.1 in
+    rw p.1 (wider-same c.args.image.now c.requires.log.closed)
+
+pub returns-in_err-renew-in-Redo-clause-room : goal.returns-in_err-renew-in-Redo-clause-room
+returns-in_err-renew-in-Redo-clause-room g c =
+    let p = err_from_is_err_and c.from_residual-in_err-renew-in-Redo.result c.from_residual-in_err-renew-in-Redo.ensures.1 in
+    rw p.1 (wider-same c.args.image.now c.requires.log.closed)

@@ -1,9 +1,11 @@
 use Rattle.std.proofs.Common.{◌≡◌, ℕ, Some, length, map, Ok, Err, sym, subst}
 use Rattle.std.specs.Prelude.{IfErr, OnOk, OnErr}
 use Rattle.std.proofs.lemmas.Bool.{eqb-true}
+use Rattle.std.proofs.lemmas.Result.{err_from_is_err_and}
 use Rattle.event_trees.proofs.Known.{Grows-none}
 use Rattle.rule_model.specs.RuleCommands.{Reason}
 use Rattle.ruled_model.specs.RuledScripts.{History}
+use Rattle.wider_slots.proofs.StepLemmas.{wider-same}
 use Rattle.session.specs.History.{history_of}
 use Rattle.session.specs.Refused.{group_told}
 use Rattle.session.specs.Grouping.{grouped}
@@ -22,6 +24,11 @@ returns-then-is_empty-clause-done g c =
 
 pub returns-in_err-renew-clause-names : goal.returns-in_err-renew-clause-names
 returns-in_err-renew-clause-names g c = Grows-none c.args.image.now.names
+
+pub returns-in_err-renew-clause-room : goal.returns-in_err-renew-clause-room
+returns-in_err-renew-clause-room g c =
+    let p = err_from_is_err_and c.from_residual.result c.from_residual.ensures.1 in
+    rw p.1 (wider-same c.args.image.now c.requires.log.closed)
 
 pub returns-clause-done : goal.returns-clause-done
 returns-clause-done g c =

@@ -1,16 +1,28 @@
-use Rattle.std.proofs.Common.{◌≡◌, ◌<◌, ◌+◌, ◌-◌, length, get_or, ℕ, sym, ap, subst, ◌∙◌, arith}
+use Rattle.std.proofs.Common.{◌≡◌, ◌<◌, ◌+◌, ◌-◌, length, get_or, ℕ, Err, sym, ap, subst, ◌∙◌, arith}
 use Rattle.std.proofs.lemmas.List.{with_items_is}
 use Rattle.std.proofs.lemmas.Result.{err_from_is_err_and}
 use Rattle.std.specs.Vec.{with_items}
 use Rattle.history_model.specs.Rules.{Undo}
 use Rattle.history_model.specs.History.{stepped}
 use Rattle.session_model.specs.Scripts.{rules}
-use Rattle.session.specs.Log.{Done, log_at, taken_back, left_back}
+use Rattle.commands.specs.declared.condition.Condition.TheVariants as condition
+use Rattle.session.specs.Log.{Done, Log, log_at, taken_back, left_back, IsLogOf}
 use Rattle.session.specs.History.{history_of}
+use Rattle.session.specs.Stepping.{IsStepped}
+use Rattle.session.specs.declared.refusal.StepRefusal.TheVariants as refusal
 use Rattle.session.proofs.Logs.{back_again}
 use Rattle.session.proofs.UnderWay.{Follows}
-use Rattle.session.proofs.Steps.{undo-made, wanting}
+use Rattle.session.proofs.Steps.{undo-made, wanting, none-back}
 use Rattle.session.proofs.session.Session.undo.Goals as goal
+
+pub returns-then-self-eq0 : goal.returns-then-self-eq0
+returns-then-self-eq0 g c =
+    let s = c.args.image.now in
+    let v = c.self.inside in
+    let zero : v.done ≡ 0 = omega (arith, c.if-self-eq0.true) in
+    let view : log_at v.index v.stale.items v.entries.items 0 ≡ c.args.self.now = subst (λ (m : ℕ). log_at v.index v.stale.items v.entries.items m ≡ c.args.self.now) zero c.self.view_is in
+    subst (λ (l : Log). IsStepped s l (stepped rules (history_of s l) Undo) s l (Err (refusal.Condition condition.UndoLeft))) view
+    (none-back s v.index v.stale.items v.entries.items (subst (IsLogOf s) (sym view) c.requires.log))
 
 pub returns-in_err-take_back : goal.returns-in_err-take_back
 returns-in_err-take_back g c =
