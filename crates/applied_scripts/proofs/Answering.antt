@@ -25,7 +25,7 @@ use Rattle.applied_scripts.specs.declared.lines.Stop.{Stop}
 use Rattle.applied_scripts.specs.Refused.{refusal_shown}
 use Rattle.applied_scripts.specs.declared.apply.Changed.{Changed}
 use Rattle.applied_scripts.specs.declared.apply.Changed.TheVariants as changed
-use Rattle.applied_scripts.specs.Changed.{IsChanged, is_done, is_told}
+use Rattle.applied_scripts.specs.Changed.{IsChanged, is_done, is_told, IsAfterLines, IsAfterPart, is_after}
 
 -- what becomes of each text of a script that asks for these lines
 abbrev Answered : Slots → List ScriptLine → ImageOf (List ℕ) → Changed → List ℕ → Type 0
@@ -58,6 +58,14 @@ module _ (first before : Slots) (log : Log) (lines : List ScriptLine) (sent : Li
           subst (λ (s : Slots). Answered s lines later (changed.Told status.Condition) sent) same
           (λ script says. is_told status.Condition (λ bad. cc) (Refused (lines_in before.names lines) r says (verdict_here ∙ refused r e) refl l))
 
+-- the first lines that are performed
+pub after_lines : (first before : Slots) (log : Log) (lines : List ScriptLine) → before ≡ first → history_of before log ≡ opened rules (image_of before)
+    → (after : Slots) (done : Log) → IsAfterLines (history_of before log) (lines_in before.names lines) (history_of after done)
+    → (script : List ℕ) → Says script (lines_in first.names lines) → IsAfterPart (image_of first) script (image_of after)
+after_lines first before log lines same fresh after done w =
+    subst (λ (s : Slots). (script : List ℕ) → Says script (lines_in s.names lines) → IsAfterPart (image_of s) script (image_of after)) same
+    (λ script says. is_after w.before w.after (history_of after done) (subst (Says script) w.parts says) (sym (ap (λ (h : History). judged_from ruled 1 h w.before) fresh) ∙ w.accepted) refl)
+
 -- a script that is wrong
 pub wrong : (i later : ImageOf (List ℕ)) (script sent : List ℕ) (fault : ScriptFault) → ((n : ℕ) (cause : Cause) → fault_shown fault ≡ Some (n, cause) → IsRefused script n cause)
     → MatchOption (fault_shown fault) ⊥ (λ f. sent ≡ script_line f.0 f.1) → IsChanged i script later sent (changed.Told status.ScriptText)
@@ -75,3 +83,7 @@ told_answer i later script sent s (is_told v other answer) = answer
 pub done_answer : (i later : ImageOf (List ℕ)) (script before sent : List ℕ) (count : ℕ) → IsChanged i script later before (changed.Done count) → sent ≡ before ++ file_of later → AppliesIn i script status.Done sent
 done_answer i later script before sent count (is_done requests h says accepted same empty) file =
     Accepted requests h says accepted refl (file ∙ ap (λ (t : List ℕ). t ++ file_of later) empty ∙ ap file_of same)
+
+-- nothing is told where all commands are performed
+pub nothing_sent : (i later : ImageOf (List ℕ)) (script sent : List ℕ) (count : ℕ) → IsChanged i script later sent (changed.Done count) → sent ≡ []
+nothing_sent i later script sent count (is_done requests h says accepted same empty) = empty

@@ -1,5 +1,5 @@
 // The answer to a script in an image.
-ghost use Rattle.std.specs.Prelude.{◌≡◌, ◌<◌, ℕ, List, [], IfOk, OnOk};
+ghost use Rattle.std.specs.Prelude.{◌≡◌, ◌<◌, ℕ, List, [], IfOk, OnErr};
 ghost use Rattle.class_table.specs.View.{image_of};
 ghost use Rattle.class_table.specs.Valid.{IsOrderly};
 ghost use Rattle.live_slots.specs.Live.{AllLive};
@@ -8,12 +8,12 @@ ghost use Rattle.commands.specs.Views.{HasSelf};
 ghost use Rattle.script_model.specs.Scripts.{Says};
 ghost use Rattle.script_lang.specs.Shown.{lines_in, AreKnown};
 ghost use Rattle.apply_model.specs.Applied.{AppliesIn};
-ghost use Rattle.applied_scripts.specs.Changed.{IsChanged};
+ghost use Rattle.applied_scripts.specs.Changed.{IsChanged, IsAfterPart};
 
 use crate::lines::{perform_all, push_stop, script_lines};
 use apply_model::Status;
 use class_table::Image;
-use image_file::write_image;
+use image_file::{append, write_image};
 use rb_base::{Memory, Steps, Text};
 use refusal_lines::push_script_line;
 use script_lang::ScriptLine;
@@ -52,7 +52,8 @@ fn perform_counted<L: Ledger>(
     requires parts { blank.parts ≡ L.parts }
     requires some { 0 < L.parts }
     ensures changed { IfOk result (λ changed. (script : List ℕ) → Says script (lines_in image.old.names lines.items) → IsChanged (image_of image.old) script (image_of image.new) out.new changed) }
-    ensures orderly { OnOk result (IsOrderly image.new) }
+    ensures part { (script : List ℕ) → Says script (lines_in image.old.names lines.items) → IsAfterPart (image_of image.old) script (image_of image.new) }
+    ensures orderly { IsOrderly image.new }
 {
     let commands = lines.as_slice().len();
     let mut steps = Steps::<L>::new(blank);
@@ -67,12 +68,9 @@ fn perform_counted<L: Ledger>(
     }
 }
 
-/// Performs the commands of a script in an image that was read, each in the image after those before it; or appends the line
-/// that is wrong, or the first command that is refused.
-///
-/// The image is then the one after the commands that were performed. What is kept of it is not taken apart: the program is to
-/// end soon. On want of memory `out` may hold a part of a line.
-pub fn change_image(
+/// Performs the commands of a script, or appends the line that is wrong, or the first command that is refused. On want of memory
+/// a part of the line may be appended.
+fn change_and_tell(
     alloc: Global,
     image: &mut Image,
     script: &[u8],
@@ -82,7 +80,8 @@ pub fn change_image(
     requires live { AllLive image.old }
     requires empty { out.old ≡ [] }
     ensures changed { IfOk result (λ changed. IsChanged (image_of image.old) script.now (image_of image.new) out.new changed) }
-    ensures orderly { OnOk result (IsOrderly image.new) }
+    ensures part { IsAfterPart (image_of image.old) script.now (image_of image.new) }
+    ensures orderly { IsOrderly image.new }
 {
     match script_lines(alloc, script, image) {
         Ok(lines) => {
@@ -99,12 +98,46 @@ pub fn change_image(
     }
 }
 
+/// Performs the commands of a script in an image that was read, each in the image after those before it; or appends the line
+/// that is wrong, or the first command that is refused.
+///
+/// The image is then the one after the commands that were performed. What is kept of it is not taken apart: the program is to
+/// end soon.
+///
+/// # Errors
+///
+/// `Memory` where there is no memory for the commands or for the line; `out` is then as it was, and the image is the one after the
+/// commands that were performed.
+pub fn change_image(
+    alloc: Global,
+    image: &mut Image,
+    script: &[u8],
+    out: &mut Text,
+) -> Result<Changed, Memory>
+    requires orderly { IsOrderly image.old }
+    requires live { AllLive image.old }
+    requires empty { out.old ≡ [] }
+    ensures changed { IfOk result (λ changed. IsChanged (image_of image.old) script.now (image_of image.new) out.new changed) }
+    ensures part { IsAfterPart (image_of image.old) script.now (image_of image.new) }
+    ensures orderly { IsOrderly image.new }
+    ensures kept { OnErr result (out.new ≡ out.old) }
+{
+    let mut told = Text::new(alloc);
+    let changed = change_and_tell(alloc, image, script, &mut told)?;
+    append(out, told)?;
+    Ok(changed)
+}
+
 /// Appends the answer of `apply` to a script in an image that was read: each command is performed in the image after those
 /// before it, and the file of the last image is written; or the first line that is wrong is told, or the first command that
 /// is refused.
 ///
 /// The image is then the one after the commands that were performed. What is kept of it is not taken apart: the program is to
-/// end behind the answer. On want of memory `out` may hold a part of the answer.
+/// end after the answer.
+///
+/// # Errors
+///
+/// `Memory` where there is no memory for the commands or for the answer; `out` is then as it was.
 pub fn apply_script(
     alloc: Global,
     image: &mut Image,
@@ -114,7 +147,8 @@ pub fn apply_script(
     requires orderly { IsOrderly image.old }
     requires live { AllLive image.old }
     requires empty { out.old ≡ [] }
-    ensures { IfOk result (λ status. AppliesIn (image_of image.old) script.now status out.new) }
+    ensures answered { IfOk result (λ status. AppliesIn (image_of image.old) script.now status out.new) }
+    ensures kept { OnErr result (out.new ≡ out.old) }
 {
     match change_image(alloc, image, script, out)? {
         Changed::Done { .. } => {

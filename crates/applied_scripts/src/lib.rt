@@ -6,3 +6,4 @@ mod apply;
 mod lines;
 
 pub use apply::{Changed, apply_script, change_image};
+pub use lines::{Stop, perform_all, push_stop, script_lines};

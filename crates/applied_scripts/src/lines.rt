@@ -1,5 +1,5 @@
 // The lines of a script, read and performed.
-ghost use Rattle.std.specs.Prelude.{◌≡◌, ℕ, Ok, Err, Some, MatchOption, ◌++◌, IfOk, IfErr, OnOk};
+ghost use Rattle.std.specs.Prelude.{◌≡◌, ℕ, Ok, Err, Some, MatchOption, ◌++◌, IfOk, IfErr, OnOk, OnErr};
 ghost use Rattle.event_trees.specs.Naming.{Grows};
 ghost use Rattle.class_table.specs.View.{image_of};
 ghost use Rattle.class_table.specs.Valid.{IsOrderly};
@@ -15,7 +15,8 @@ ghost use Rattle.commands.specs.Views.{HasSelf};
 ghost use Rattle.apply_model.specs.Lines.{refusal_line};
 ghost use Rattle.session.specs.Log.{IsLogOf};
 ghost use Rattle.session.specs.History.{history_of};
-ghost use Rattle.applied_scripts.specs.Refused.{refusal_shown};
+ghost use Rattle.applied_scripts.specs.Changed.{IsAfterLines};
+ghost use Rattle.applied_scripts.specs.Refused.{refusal_shown, StopsAt};
 
 use certificates::Certificate;
 use class_table::Image;
@@ -30,15 +31,19 @@ use std::sync::ledger::Ledger;
 
 /// Why not all lines are performed.
 #[derive(Drop)]
-pub(crate) enum Stop {
+pub enum Stop {
     /// The line of this number, from 1, is refused, since a condition of it is false; this is the first one.
     Refused {
+        /// The number of the line among those that say something, from 1.
         number: usize,
+        /// The first of its conditions that is false.
         condition: Condition,
     },
     /// The line of this number asks for a rule that its certificate does not derive; this is the first that is refused.
     NotDerived {
+        /// The number of the line among those that say something, from 1.
         number: usize,
+        /// The certificate of the rule.
         certificate: Certificate,
     },
     /// Want of memory.
@@ -87,8 +92,9 @@ fn lines_with_names(
     lines_and_self(alloc, script, image.names_mut())
 }
 
-/// Reads the lines of a script. Names that are new are added to those of the image, which for the rest is as it was.
-pub(crate) fn script_lines(
+/// Reads the lines of a script. Names that are new are added to those of the image, which for the rest is as it was. The errors
+/// are those of `parse_script`.
+pub fn script_lines(
     alloc: Global,
     script: &[u8],
     image: &mut Image,
@@ -96,7 +102,9 @@ pub(crate) fn script_lines(
     requires orderly { IsOrderly image.old }
     requires live { AllLive image.old }
     ensures image { image_of image.new ≡ image_of image.old }
+    ensures grows { Grows image.old.names image.new.names }
     ensures orderly { IsOrderly image.new }
+    ensures live { AllLive image.new }
     ensures closed { IsClosed image.new }
     ensures self_known { OnOk result (HasSelf image.new.names) }
     ensures said { IfOk result (λ lines. Says script.now (lines_in image.new.names lines.items)) }
@@ -109,7 +117,7 @@ pub(crate) fn script_lines(
 }
 
 /// Appends the line that tells why a script stops. Want of memory is no refusal, and is given back.
-pub(crate) fn push_stop(stop: &Stop, names: &Names, out: &mut Text) -> Result<(), Memory>
+pub fn push_stop(stop: &Stop, names: &Names, out: &mut Text) -> Result<(), Memory>
     ensures { OnOk result (MatchOption (refusal_shown names.now stop.now) ⊥ (λ r. out.new ≡ out.old ++ refusal_line r)) }
 {
     match stop {
@@ -136,6 +144,7 @@ fn perform_line<L: Ledger>(
     ensures log { IsLogOf image.new session.new }
     ensures names { Grows image.old.names image.new.names }
     ensures done { OnOk result (stepped ruled (history_of image.old session.old) (line_in image.old.names line) ≡ Ok (history_of image.new session.new)) }
+    ensures same { OnErr result (history_of image.new session.new ≡ history_of image.old session.old) }
     ensures stopped { IfErr result (λ stop. (r : Refusal) → refusal_shown image.new.names stop ≡ Some r →
         (r.number ≡ number) × (stepped ruled (history_of image.old session.old) (line_in image.old.names line) ≡ Err r.condition)) }
 {
@@ -158,8 +167,9 @@ fn perform_line<L: Ledger>(
     }
 }
 
-/// Performs what the lines ask for, in order, or tells the first one that is refused.
-pub(crate) fn perform_all<L: Ledger>(
+/// Performs what the lines ask for, in order, up to the first one that is refused or for which memory is wanting, and tells why.
+/// The image is then the one after the lines before it.
+pub fn perform_all<L: Ledger>(
     session: &mut Session,
     image: &mut Image,
     lines: Vec<ScriptLine>,
@@ -169,8 +179,13 @@ pub(crate) fn perform_all<L: Ledger>(
     requires self_known { HasSelf image.old.names }
     requires known { AreKnown image.old.names lines.items }
     ensures log { IsLogOf image.new session.new }
+    ensures names { Grows image.old.names image.new.names }
+    ensures self_known { HasSelf image.new.names }
     ensures done { OnOk result (judged_from ruled 1 (history_of image.old session.old) (lines_in image.old.names lines.items) ≡ Ok (history_of image.new session.new)) }
+    ensures part { IsAfterLines (history_of image.old session.old) (lines_in image.old.names lines.items) (history_of image.new session.new) }
     ensures stopped { IfErr result (λ stop. (r : Refusal) → refusal_shown image.new.names stop ≡ Some r → judged_from ruled 1 (history_of image.old session.old) (lines_in image.old.names lines.items) ≡ Err r) }
+    ensures reached { IfErr result (λ stop. (r : Refusal) → refusal_shown image.new.names stop ≡ Some r →
+        StopsAt (history_of image.old session.old) (lines_in image.old.names lines.items) r (history_of image.new session.new)) }
 {
     let mut number = 0;
     for line in lines {

@@ -1,5 +1,5 @@
 // The answer to a script in an image, as a change file.
-ghost use Rattle.std.specs.Prelude.{◌≡◌, [], IfOk};
+ghost use Rattle.std.specs.Prelude.{◌≡◌, [], IfOk, OnErr};
 ghost use Rattle.class_table.specs.View.{image_of};
 ghost use Rattle.class_table.specs.Valid.{IsOrderly};
 ghost use Rattle.live_slots.specs.Live.{AllLive};
@@ -18,8 +18,11 @@ use std::alloc::Global;
 /// in what those before it made of it, and what is to be filed in after the text to have that is written; or the first line that
 /// is wrong is told, or the first command that is refused.
 ///
-/// `image` is then the one after the commands that were performed. `Err` means that memory was wanting; then `out` may hold a
-/// part of the answer.
+/// `image` is then the one after the commands that were performed.
+///
+/// # Errors
+///
+/// `Memory` if there is no memory for the commands or for the answer; `out` is then as it was.
 pub fn change_script(
     alloc: Global,
     old: &Image,
@@ -32,7 +35,8 @@ pub fn change_script(
     requires live { AllLive image.old }
     requires one_text { AreOfOneText (image_of old.now) (image_of image.old) }
     requires empty { out.old ≡ [] }
-    ensures { IfOk result (λ status. ChangesIn (image_of old.now) script.now status out.new) }
+    ensures answered { IfOk result (λ status. ChangesIn (image_of old.now) script.now status out.new) }
+    ensures kept { OnErr result (out.new ≡ out.old) }
 {
     law_of_one_text();
     match change_image(alloc, image, script, out)? {

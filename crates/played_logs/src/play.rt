@@ -1,5 +1,5 @@
 // The answer to a log in an image.
-ghost use Rattle.std.specs.Prelude.{◌≡◌, ◌≤◌, ◌<◌, ◌+◌, ℕ, List, [], length, IfOk, OnOk};
+ghost use Rattle.std.specs.Prelude.{◌≡◌, ◌≤◌, ◌<◌, ◌+◌, ℕ, List, [], length, IfOk, OnOk, OnErr};
 ghost use Rattle.class_table.specs.View.{image_of};
 ghost use Rattle.class_table.specs.Valid.{IsOrderly};
 ghost use Rattle.live_slots.specs.Live.{AllLive};
@@ -21,7 +21,7 @@ use crate::events::events_of;
 use crate::lines::push_reply_line;
 use apply_model::Status;
 use class_table::Image;
-use image_file::write_image;
+use image_file::{append, write_image};
 use log_lang::{Act, Event};
 use rb_base::{Memory, Steps, Text};
 use refusal_lines::push_script_line;
@@ -129,9 +129,8 @@ fn play_counted<L: Ledger>(
     Ok(())
 }
 
-/// Appends the answer of `team` to a log in an image that was read: the line of each event, and the file of the image at the
-/// end; or the first line that is wrong. If memory is short, `out` may hold a part of the answer.
-pub fn play_log(alloc: Global, image: Image, log: &[u8], out: &mut Text) -> Result<Status, Memory>
+/// Appends the answer of `team` to a log in an image that was read. On want of memory a part of it may be appended.
+fn play_and_tell(alloc: Global, image: Image, log: &[u8], out: &mut Text) -> Result<Status, Memory>
     requires orderly { IsOrderly image }
     requires live { AllLive image }
     requires empty { out.old ≡ [] }
@@ -149,4 +148,23 @@ pub fn play_log(alloc: Global, image: Image, log: &[u8], out: &mut Text) -> Resu
             Ok(Status::ScriptText)
         }
     }
+}
+
+/// Appends the answer of `team` to a log in an image that was read: the line of each event, and the file of the image at the
+/// end; or the first line that is wrong.
+///
+/// # Errors
+///
+/// `Memory` if there is no memory for the events or for the answer; `out` is then as it was.
+pub fn play_log(alloc: Global, image: Image, log: &[u8], out: &mut Text) -> Result<Status, Memory>
+    requires orderly { IsOrderly image }
+    requires live { AllLive image }
+    requires empty { out.old ≡ [] }
+    ensures answered { IfOk result (λ status. PlaysIn (image_of image) log.now status out.new) }
+    ensures kept { OnErr result (out.new ≡ out.old) }
+{
+    let mut told = Text::new(alloc);
+    let status = play_and_tell(alloc, image, log, &mut told)?;
+    append(out, told)?;
+    Ok(status)
 }

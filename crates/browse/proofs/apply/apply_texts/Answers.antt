@@ -8,7 +8,7 @@ use Rattle.browse.proofs.apply.apply_texts.Goals as goal
 pub returns-in_ok-verdict-in-Ok : goal.returns-in_ok-verdict-in-Ok
 returns-in_ok-verdict-in-Ok c = record {
   verdict = c.in_ok-verdict-in-Ok.verdict;
-  applies = InImage (image_of c.in-Ok.image) c.in-Ok.ensures.ok.image c.in_ok-verdict-in-Ok.ensures;
+  applies = InImage (image_of c.in-Ok.image) c.in-Ok.ensures.ok.image c.in_ok-verdict-in-Ok.ensures.answered;
   status = c.status_of.ensures;
 }
 

@@ -11,7 +11,7 @@ change_script-requires-clause-one_text c = (c.args.text.now, c.in-Ok.ensures.old
 pub returns-in_ok-verdict-in-Ok : goal.returns-in_ok-verdict-in-Ok
 returns-in_ok-verdict-in-Ok c = record {
   verdict = c.in_ok-verdict-in-Ok.verdict;
-  changes = InImage (image_of c.in-Ok.old) c.in-Ok.ensures.old.image c.in_ok-verdict-in-Ok.ensures;
+  changes = InImage (image_of c.in-Ok.old) c.in-Ok.ensures.old.image c.in_ok-verdict-in-Ok.ensures.answered;
   status = c.status_of.ensures;
 }
 

@@ -1,4 +1,4 @@
-use Rattle.played_logs.proofs.play.play_log.Given as goal
+use Rattle.played_logs.proofs.play.play_and_tell.Given as goal
 
 abbrev pub ghosts-play_counted : goal.ghosts-play_counted
 ghosts-play_counted a = record { name = a.blank.name; parts = a.blank.parts }
