@@ -1,5 +1,5 @@
 // The index, and how it is made and kept.
-ghost use Rattle.std.specs.Prelude.{◌≡◌, ◌≤◌, ◌+◌, ◌*◌, ℕ, [], ◌++◌, length, All, Contains, IfOk, OnOk, OnErr};
+ghost use Rattle.std.specs.Prelude.{◌≡◌, ◌≤◌, ◌+◌, ℕ, [], ◌++◌, length, All, Contains, IfOk, OnOk, OnErr};
 ghost use Rattle.std.specs.List.{flat_map};
 ghost use Rattle.class_table.specs.Slots.{Slots};
 ghost use Rattle.class_table.specs.declared.record.Place.{Place};
@@ -59,22 +59,8 @@ impl Index {
     }
 
     /// Makes this the index of an image in which only the code at these places mentions other names than before. Opens each of
-    /// the places at most twice. On want of memory the index is as before.
+    /// the places at most once. On want of memory the index is as before.
     pub fn update<L: Ledger>(
-        &mut self,
-        image: &Image,
-        touched: &[Place],
-        steps: &mut Steps<L>,
-    ) -> Result<(), Memory>
-        ensures ok { OnOk result ((s : Slots) → IsIndexOf s self.old → DiffersAtMost s image.now touched.now → IsIndexOf image.now self.new) }
-        ensures err { OnErr result (self.new ≡ self.old) }
-        ensures steps { steps.new ≤ steps.old + 2 * length touched.now }
-    {
-        self.renew(image, touched, steps)
-    }
-
-    /// The same. Opens each of the places at most once.
-    fn renew<L: Ledger>(
         &mut self,
         image: &Image,
         touched: &[Place],
@@ -141,6 +127,6 @@ pub fn build<L: Ledger>(alloc: Global, image: &Image, steps: &mut Steps<L>) -> R
 {
     let places = places_of(alloc, image)?;
     let mut index = Index::new(alloc);
-    index.renew(image, &places, steps)?;
+    index.update(image, &places, steps)?;
     Ok(index)
 }

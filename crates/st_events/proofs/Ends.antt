@@ -1,13 +1,17 @@
 -- What stands behind the parts of an expression, and where chains of messages begin.
-use Rattle.std.proofs.Common.{◌≡◌, ℕ, refl, sym, subst, ◌⊎◌, inl, inr}
+use Rattle.std.proofs.Common.{◌≡◌, ℕ, Bool, true, false, refl, sym, ap, subst, ◌⊎◌, inl, inr}
 use Rattle.grammar_model.specs.Terminal.{Text, NameKind, Ordinary, Super, KeywordKind, Sign, Terminal, Name, Keyword, Binary, Numeral, Constant, Opens, OperandMark, OperandMeta}
 use Rattle.grammar_model.specs.Input.{Input, kind_of, from_of, next}
 use Rattle.grammar_model.specs.Spanned.{SpannedTree, Var, SpannedTrees}
-use Rattle.grammar_model.specs.Chain.{Chain, Waiting, Alone, Told, whole, sent}
+use Rattle.grammar_model.specs.Chain.{Chain, Waiting, Alone, Told, whole, sent, IsWhole}
 use Rattle.grammar_model.specs.Ahead.{Longest, NoUnary, NoBinary, IsOperandStart}
 use Rattle.grammar_model.specs.Grammar.{Operand, Variable, SuperName, MetaOperand, LiteralOperand, Grouped, BlockOperand, BraceOperand, Unaries, OneUnary, AnyUnary, NoUnaries, Binaries, OneBinary, NoBinaries, Keywords, OneKeywords, AnyKeywords, NoKeywords, Parts, LastPart, FurtherPart, Argument, BinaryArgument, KeywordArgument, ArgumentOfKeyword}
 use Rattle.grammar_model.proofs.Reading.{IsReal, IsLiteralStart}
 use Rattle.grammar_model.proofs.Recognizes.{ends_Unaries, ends_Binaries}
+use Rattle.st_events.specs.declared.part.Row.{Row}
+use Rattle.st_events.specs.declared.part.Row.TheVariants as row
+use Rattle.st_events.specs.Classes.{is_super}
+use Rattle.st_events.proofs.Running.{NotSuper}
 use Rattle.st_events.proofs.LiteralEvents.{starts_LiteralAt}
 
 -- no unary and no binary message goes on here
@@ -131,3 +135,52 @@ real_operand k h = absurd h
 abbrev pub first_of_parts : {i j : Input} {s : Text} {xs : SpannedTrees} → Parts Longest i s xs j → (c : KeywordKind) × (k : Text) × (kind_of i ≡ Keyword c k)
 first_of_parts (LastPart {c} {k} e x h) = (c, k, e)
 first_of_parts (FurtherPart {c} {k} e x d) = (c, k, e)
+
+-- super alone
+abbrev pub is_waiting : Chain → Bool
+is_waiting (Waiting f e n) = true
+is_waiting r = false
+
+-- a cascade can go on from the last message
+abbrev pub told_by : Chain → Bool
+told_by (Told f e r s xs) = true
+told_by r = false
+
+-- which messages may come, behind a binary message or not
+abbrev pub row_at : Bool → Chain → Row
+row_at b (Waiting f e n) = row.Super
+row_at true r = row.Binary
+row_at false r = row.Unary
+
+-- a literal begins with no name
+literal_not_super : (k : Terminal) → IsLiteralStart k → is_super k ≡ false
+literal_not_super (Name c n) h = absurd h
+literal_not_super k h = refl
+
+-- an operand is super alone if its first token is super
+pub super_waits : {i j : Input} {r : Chain} → Operand Longest i r j → is_super (kind_of i) ≡ is_waiting r
+super_waits (Variable e) = ap is_super e
+super_waits (SuperName e) = ap is_super e
+super_waits (MetaOperand e) = ap is_super e
+super_waits {i} (LiteralOperand d) = literal_not_super (kind_of i) (starts_LiteralAt d)
+super_waits (Grouped e d c) = ap is_super e
+super_waits (BlockOperand e d c) = ap is_super e
+super_waits (BraceOperand e d c) = ap is_super e
+
+-- no cascade can go on from an operand alone
+pub fresh_Operand : {i j : Input} {r : Chain} → Operand Longest i r j → told_by r ≡ false
+fresh_Operand (Variable e) = refl
+fresh_Operand (SuperName e) = refl
+fresh_Operand (MetaOperand e) = refl
+fresh_Operand (LiteralOperand d) = refl
+fresh_Operand (Grouped e d c) = refl
+fresh_Operand (BlockOperand e d c) = refl
+fresh_Operand (BraceOperand e d c) = refl
+
+-- super is alone no more where a message came
+pub whole_row : (b : Bool) (r : Chain) → IsWhole r → NotSuper (row_at b r)
+whole_row b (Waiting f e n) w = absurd w
+whole_row true (Alone t) w = tt
+whole_row false (Alone t) w = tt
+whole_row true (Told f e r s xs) w = tt
+whole_row false (Told f e r s xs) w = tt

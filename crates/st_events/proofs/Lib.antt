@@ -1,7 +1,9 @@
 pub mod Recasting
 pub mod Running
+pub mod Agreeing
 pub mod LiteralEvents
 pub mod Ends
+pub mod MessageParts
 pub mod ExpressionEvents
 pub mod WholeEvents
 pub mod Splitting

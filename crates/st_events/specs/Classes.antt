@@ -1,6 +1,6 @@
 -- Tokens by what they go on with.
 use Rattle.std.specs.Prelude.{Bool, true, false}
-use Rattle.grammar_model.specs.Terminal.{Bar, Less, TextEnd, Terminal, Name, Keyword, Binary, Closes, Assignment, Colon, Semicolon, Period, OperandMeta, AnyName, MessageMeta, AnyKey}
+use Rattle.grammar_model.specs.Terminal.{Super, Sign, Bar, BraceStart, GroupEnd, TextEnd, Terminal, Name, Keyword, Binary, Numeral, Constant, Opens, Closes, Semicolon, Period, Caret, OperandMeta, AnyName, StatementMeta, MessageMeta, AnyKey}
 
 -- a unary selector
 abbrev pub is_name : Terminal → Bool
@@ -8,16 +8,20 @@ is_name (Name c n) = true
 is_name (OperandMeta AnyName n) = true
 is_name k = false
 
--- a keyword
-abbrev pub is_keyword : Terminal → Bool
-is_keyword (Keyword c n) = true
-is_keyword k = false
+-- an identifier
+abbrev pub is_plain_name : Terminal → Bool
+is_plain_name (Name c n) = true
+is_plain_name k = false
 
--- a keyword that is no metavariable
-abbrev pub is_plain_keyword : Terminal → Bool
-is_plain_keyword (Keyword AnyKey n) = false
-is_plain_keyword (Keyword c n) = true
-is_plain_keyword k = false
+-- super
+abbrev pub is_super : Terminal → Bool
+is_super (Name Super n) = true
+is_super k = false
+
+-- a binary selector
+abbrev pub is_binary : Terminal → Bool
+is_binary (Binary c s) = true
+is_binary k = false
 
 -- the end of the text
 abbrev pub is_end : Terminal → Bool
@@ -39,36 +43,41 @@ abbrev pub is_bar : Terminal → Bool
 is_bar (Binary Bar s) = true
 is_bar k = false
 
--- a unary or binary message begins so
-abbrev pub is_operator : Terminal → Bool
-is_operator (Name c n) = true
-is_operator (OperandMeta AnyName n) = true
-is_operator (Binary c s) = true
-is_operator k = false
-
--- a message or the rest of a cascade begins so
+-- a message begins so
 abbrev pub is_message : Terminal → Bool
 is_message (Name c n) = true
 is_message (OperandMeta AnyName n) = true
 is_message (Binary c s) = true
 is_message (Keyword c s) = true
 is_message (MessageMeta s) = true
-is_message Semicolon = true
 is_message k = false
 
--- behind the first name of an expression it goes on so
-abbrev pub follows_name : Terminal → Bool
-follows_name Assignment = true
-follows_name k = is_message k
+-- an element of an array begins so, or the array is over
+abbrev pub is_element : Terminal → Bool
+is_element (Name c n) = true
+is_element (Keyword AnyKey n) = false
+is_element (Keyword c n) = true
+is_element (Binary c s) = true
+is_element (Numeral c t) = true
+is_element (Constant l) = true
+is_element (Opens BraceStart) = false
+is_element (Opens o) = true
+is_element (Closes GroupEnd) = true
+is_element k = false
 
--- a colon before a parameter, or a bar
-abbrev pub is_declaring : Terminal → Bool
-is_declaring Colon = true
-is_declaring (Binary Bar s) = true
-is_declaring k = false
+-- an operand begins so
+abbrev pub begins_operand : Terminal → Bool
+begins_operand (Name c n) = true
+begins_operand (Binary Sign s) = true
+begins_operand (Numeral c t) = true
+begins_operand (Constant l) = true
+begins_operand (Opens o) = true
+begins_operand (OperandMeta m n) = true
+begins_operand k = false
 
--- a bar, or the bracket of a primitive
-abbrev pub opens_body : Terminal → Bool
-opens_body (Binary Bar s) = true
-opens_body (Binary Less s) = true
-opens_body k = false
+-- a period, or a statement begins so
+abbrev pub begins_statement : Terminal → Bool
+begins_statement Period = true
+begins_statement Caret = true
+begins_statement (StatementMeta n) = true
+begins_statement k = begins_operand k

@@ -1,12 +1,11 @@
 -- Where a reader begins, and what it has found at the end.
-use Rattle.std.specs.Prelude.{List, [], ◌∷◌, None}
+use Rattle.std.specs.Prelude.{Bool, List, [], ◌∷◌, None}
 use Rattle.grammar_model.specs.Terminal.{Text}
 use Rattle.parse_events.specs.declared.event.Declaration.{Declaration}
 use Rattle.parse_events.specs.declared.event.SequenceEvents.{SequenceEvents}
 use Rattle.parse_events.specs.declared.event.MethodEvents.{MethodEvents}
 use Rattle.st_events.specs.declared.part.Part.{Part}
 use Rattle.st_events.specs.declared.part.Part.TheVariants as part
-use Rattle.st_events.specs.declared.part.Enclosure.TheVariants as enclosure
 use Rattle.st_events.specs.declared.part.SequencePart.TheVariants as sequence
 use Rattle.st_events.specs.declared.part.HeadPart.TheVariants as head
 use Rattle.st_events.specs.declared.reader.Head.{Head}
@@ -22,11 +21,11 @@ beginning_with ps = record { stack = ps; events = []; held = []; last = 0; head 
 
 -- before a do-it
 abbrev pub doit_start : Reader
-doit_start = beginning_with (part.Head head.DoitTemporaries ∷ part.Sequence (sequence.Statements enclosure.Text 0) ∷ [])
+doit_start = beginning_with (part.Head head.DoitTemporaries ∷ [])
 
--- before a method
-abbrev pub method_start : Reader
-method_start = beginning_with (part.Head head.Pattern ∷ part.Head head.MethodTemporaries ∷ part.Sequence (sequence.Statements enclosure.Text 0) ∷ [])
+-- before a method, of the kernel or not
+abbrev pub method_start : Bool → Reader
+method_start kernel = beginning_with (part.Head (head.Pattern kernel) ∷ [])
 
 -- before a pattern
 abbrev pub pattern_start : Reader

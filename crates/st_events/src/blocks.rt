@@ -1,44 +1,33 @@
 // What blocks declare.
-ghost use Rattle.std.specs.Prelude.{◌≡◌, [], IfOk};
-ghost use Rattle.parse_events.specs.declared.event.Event.TheVariants as event;
-ghost use Rattle.st_events.specs.Steps.{declared, emitted, block_taken, passed};
+ghost use Rattle.std.specs.Prelude.{◌≡◌, IfOk};
+ghost use Rattle.st_events.specs.Steps.{declared, block_body_taken, block_taken};
 ghost use Rattle.st_events.specs.Tokens.{seen};
 
-use crate::part::{BlockPart, Part};
+use crate::part::{BlockPart, Enclosure, Part, Rest, SequencePart};
 use crate::reader::{Reader, declare};
 use crate::token::Token;
 use parse_events::{Declarations, Event};
-use rb_base::{Memory, Text};
+use rb_base::Memory;
 use st_faults::Sort;
 use std::alloc::Global;
 
 impl Reader {
-    /// A block declares these parameters and no temporaries.
-    fn enter(&mut self, alloc: Global, parameters: Declarations) -> Result<(), Memory>
-        ensures { IfOk result (λ _. self.new ≡ emitted (event.Enter parameters []) self.old) }
-    {
-        let temporaries = Declarations::new(alloc);
-        self.emit(Event::Enter {
-            parameters,
-            temporaries,
-        })
-    }
-
     /// The token behind the bracket of a block.
-    fn take_block_start(&mut self, alloc: Global, token: Token<'_>) -> Result<(), Memory>
-        ensures { IfOk result (λ _. self.new ≡ block_taken BlockPart.Start (seen token.entry) token.entry.from self.old) }
+    fn take_block_start(
+        &mut self,
+        alloc: Global,
+        enclosure: Enclosure,
+        token: Token<'_>,
+    ) -> Result<(), Memory>
+        ensures { IfOk result (λ _. self.new ≡ block_taken (BlockPart.Start enclosure) (seen token.entry) token.entry.from token.entry.to self.old) }
     {
         let parameters = Declarations::new(alloc);
         match token.sort {
-            Sort::Colon => self.push(Part::Block(BlockPart::Parameter { parameters })),
-            Sort::Binary | Sort::Sign | Sort::Less | Sort::Greater | Sort::Bar => {
-                let temporaries = Declarations::new(alloc);
-                self.push(Part::Block(BlockPart::Names {
-                    parameters,
-                    temporaries,
-                }))
-            }
-            _ => Ok(()),
+            Sort::Colon => self.push(Part::Block(BlockPart::Parameter {
+                enclosure,
+                parameters,
+            })),
+            _ => self.take_temporaries(alloc, enclosure, parameters, token),
         }
     }
 
@@ -46,16 +35,20 @@ impl Reader {
     fn take_parameter(
         &mut self,
         alloc: Global,
+        enclosure: Enclosure,
         parameters: Declarations,
         token: Token<'_>,
     ) -> Result<(), Memory>
-        ensures { IfOk result (λ _. self.new ≡ block_taken (BlockPart.Parameter parameters) (seen token.entry) token.entry.from self.old) }
+        ensures { IfOk result (λ _. self.new ≡ block_taken (BlockPart.Parameter enclosure parameters) (seen token.entry) token.entry.from token.entry.to self.old) }
     {
         match token.sort {
             Sort::Name | Sort::Super => {
                 let mut parameters = parameters;
                 declare(alloc, &mut parameters, token)?;
-                self.push(Part::Block(BlockPart::BehindParameter { parameters }))
+                self.push(Part::Block(BlockPart::BehindParameter {
+                    enclosure,
+                    parameters,
+                }))
             }
             _ => Ok(()),
         }
@@ -64,17 +57,52 @@ impl Reader {
     /// The token behind a parameter.
     fn take_behind_parameter(
         &mut self,
+        alloc: Global,
+        enclosure: Enclosure,
         parameters: Declarations,
         token: Token<'_>,
     ) -> Result<(), Memory>
-        ensures { IfOk result (λ _. self.new ≡ block_taken (BlockPart.BehindParameter parameters) (seen token.entry) token.entry.from self.old) }
+        ensures { IfOk result (λ _. self.new ≡ block_taken (BlockPart.BehindParameter enclosure parameters) (seen token.entry) token.entry.from token.entry.to self.old) }
     {
         match token.sort {
-            Sort::Colon => self.push(Part::Block(BlockPart::Parameter { parameters })),
+            Sort::Colon => self.push(Part::Block(BlockPart::Parameter {
+                enclosure,
+                parameters,
+            })),
             Sort::Binary | Sort::Sign | Sort::Less | Sort::Greater | Sort::Bar => self.push(
-                Part::Block(BlockPart::Temporaries { parameters }),
+                Part::Block(BlockPart::Temporaries {
+                    enclosure,
+                    parameters,
+                }),
             ),
-            _ => Ok(()),
+            _ => self.take_temporaries(alloc, enclosure, parameters, token),
+        }
+    }
+
+    /// A bar, or the first token of a block's statements, which has these parameters.
+    fn take_temporaries(
+        &mut self,
+        alloc: Global,
+        enclosure: Enclosure,
+        parameters: Declarations,
+        token: Token<'_>,
+    ) -> Result<(), Memory>
+        ensures { IfOk result (λ _. self.new ≡ block_body_taken enclosure parameters (seen token.entry) token.entry.from token.entry.to self.old) }
+    {
+        match token.sort {
+            Sort::Bar => self.push(Part::Block(BlockPart::Names {
+                enclosure,
+                parameters,
+                temporaries: Declarations::new(alloc),
+            })),
+            _ => {
+                let temporaries = Declarations::new(alloc);
+                self.emit(Event::Enter {
+                    parameters,
+                    temporaries,
+                })?;
+                self.take_statement(alloc, enclosure, 0, Rest::Any, token)
+            }
         }
     }
 
@@ -82,27 +110,34 @@ impl Reader {
     fn take_temporary(
         &mut self,
         alloc: Global,
+        enclosure: Enclosure,
         parameters: Declarations,
         temporaries: Declarations,
         token: Token<'_>,
     ) -> Result<(), Memory>
-        ensures { IfOk result (λ _. self.new ≡ block_taken (BlockPart.Names parameters temporaries) (seen token.entry) token.entry.from self.old) }
+        ensures { IfOk result (λ _. self.new ≡ block_taken (BlockPart.Names enclosure parameters temporaries) (seen token.entry) token.entry.from token.entry.to self.old) }
     {
         match token.sort {
             Sort::Name | Sort::Super => {
                 let mut temporaries = temporaries;
                 declare(alloc, &mut temporaries, token)?;
                 self.push(Part::Block(BlockPart::Names {
+                    enclosure,
                     parameters,
                     temporaries,
                 }))
             }
-            Sort::Binary | Sort::Sign | Sort::Less | Sort::Greater | Sort::Bar => self.emit(
-                Event::Enter {
+            Sort::Binary | Sort::Sign | Sort::Less | Sort::Greater | Sort::Bar => {
+                self.emit(Event::Enter {
                     parameters,
                     temporaries,
-                },
-            ),
+                })?;
+                self.push(Part::Sequence(SequencePart::Statements {
+                    enclosure,
+                    count: 0,
+                    rest: Rest::Any,
+                }))
+            }
             _ => Ok(()),
         }
     }
@@ -114,37 +149,27 @@ impl Reader {
         part: BlockPart,
         token: Token<'_>,
     ) -> Result<(), Memory>
-        ensures { IfOk result (λ _. self.new ≡ block_taken part (seen token.entry) token.entry.from self.old) }
+        ensures { IfOk result (λ _. self.new ≡ block_taken part (seen token.entry) token.entry.from token.entry.to self.old) }
     {
         match part {
-            BlockPart::Start => self.take_block_start(alloc, token),
-            BlockPart::Parameter { parameters } => self.take_parameter(alloc, parameters, token),
-            BlockPart::BehindParameter { parameters } => self.take_behind_parameter(
-                parameters, token,
-            ),
-            BlockPart::Temporaries { parameters } => {
-                let temporaries = Declarations::new(alloc);
-                self.push(Part::Block(BlockPart::Names {
-                    parameters,
-                    temporaries,
-                }))
-            }
+            BlockPart::Start { enclosure } => self.take_block_start(alloc, enclosure, token),
+            BlockPart::Parameter {
+                enclosure,
+                parameters,
+            } => self.take_parameter(alloc, enclosure, parameters, token),
+            BlockPart::BehindParameter {
+                enclosure,
+                parameters,
+            } => self.take_behind_parameter(alloc, enclosure, parameters, token),
+            BlockPart::Temporaries {
+                enclosure,
+                parameters,
+            } => self.take_temporaries(alloc, enclosure, parameters, token),
             BlockPart::Names {
+                enclosure,
                 parameters,
                 temporaries,
-            } => self.take_temporary(alloc, parameters, temporaries, token),
-        }
-    }
-
-    /// What is found where a part of a block's head is over.
-    pub fn pass_block(&mut self, alloc: Global, part: BlockPart) -> Result<(), Memory>
-        ensures { IfOk result (λ _. self.new ≡ passed (Part.Block part) self.old) }
-    {
-        match part {
-            BlockPart::Start => self.enter(alloc, Declarations::new(alloc)),
-            BlockPart::BehindParameter { parameters } | BlockPart::Temporaries { parameters } =>
-                self.enter(alloc, parameters),
-            BlockPart::Parameter { .. } | BlockPart::Names { .. } => Ok(()),
+            } => self.take_temporary(alloc, enclosure, parameters, temporaries, token),
         }
     }
 }

@@ -5,21 +5,22 @@ ghost use Rattle.grammar_model.specs.Input as input;
 ghost use Rattle.grammar_model.specs.Spanned.{SpannedTree, SpannedSequence, SpannedMethod};
 ghost use Rattle.grammar_model.specs.Ahead.{Longest};
 ghost use Rattle.grammar_model.specs.Whole.{DoIt, Method, PatternText, IsDoIt, IsMethod, IsPatternText, alone};
+ghost use Rattle.grammar_model.specs.Machine.{start};
 ghost use Rattle.grammar_model.specs.Lexemes.{IsLexed};
 ghost use Rattle.grammar_model.specs.PatternTokens.{IsPatternLexed, IsLexedAs};
 ghost use Rattle.parse_events.specs.Found.{sequence_events, method_events};
 ghost use Rattle.st_faults.specs.Faults.{IsRead};
 ghost use Rattle.st_faults.specs.Forms.{form_of};
-ghost use Rattle.st_faults.specs.Judging.{IsReadTo};
+ghost use Rattle.st_events.specs.Stacks.{above, machine_of};
 ghost use Rattle.st_events.specs.Steps.{run};
-ghost use Rattle.st_events.specs.Starts.{doit_start, method_start, head_of, beginning_with, sequence_of, method_of};
+ghost use Rattle.st_events.specs.Starts.{head_of, beginning_with, sequence_of, method_of};
 
-use crate::part::{Enclosure, HeadPart, Part, SequencePart};
+use crate::part::{HeadPart, Part, SequencePart};
 use crate::reader::{Head, Reader, Stack};
 use crate::tokens::next_token;
 use parse_events::{Declarations, Events, MethodEvents, SequenceEvents};
 use rb_base::{Memory, Text};
-use st_faults::{Judgement, Lexeme, Sort, TextForm};
+use st_faults::{Depth, Lexeme, Sort, TextForm, depth_behind, is_too_deep};
 use st_tree::Comments;
 use std::alloc::Global;
 
@@ -57,57 +58,24 @@ fn reader_before(alloc: Global, text: &[u8], stack: Stack) -> Result<Reader, Mem
     })
 }
 
-/// The parts of a text, of which this one comes last.
-fn parts_up_to(alloc: Global, part: SequencePart) -> Result<Stack, Memory>
-    ensures { IfOk result (λ stack. stack ≡ Part.Sequence part ∷ []) }
+/// The stack of one part.
+fn stack_of(alloc: Global, part: Part) -> Result<Stack, Memory>
+    ensures { IfOk result (λ stack. stack ≡ part ∷ []) }
 {
     let mut stack = Stack::with_room(alloc, PARTS)?;
-    stack.push(Part::Sequence(part))?;
-    Ok(stack)
-}
-
-/// The statements of a text.
-fn statements() -> SequencePart
-    ensures { result ≡ SequencePart.Statements Enclosure.Text 0 }
-{
-    SequencePart::Statements {
-        enclosure: Enclosure::Text,
-        count: 0,
-    }
-}
-
-/// The parts of a do-it.
-fn doit_parts(alloc: Global) -> Result<Stack, Memory>
-    ensures { IfOk result (λ stack. beginning_with stack ≡ doit_start) }
-{
-    let mut stack = parts_up_to(alloc, statements())?;
-    stack.push(Part::Head(HeadPart::DoitTemporaries))?;
-    Ok(stack)
-}
-
-/// The parts of a method.
-fn method_parts(alloc: Global) -> Result<Stack, Memory>
-    ensures { IfOk result (λ stack. beginning_with stack ≡ method_start) }
-{
-    let mut stack = parts_up_to(alloc, statements())?;
-    stack.push(Part::Head(HeadPart::MethodTemporaries))?;
-    stack.push(Part::Head(HeadPart::Pattern))?;
+    stack.push(part)?;
     Ok(stack)
 }
 
 /// Reads the tokens of a text of a form up to its end, or up to the first at which it has a fault, and tells whether it has none.
-fn read_all(
-    alloc: Global,
-    form: TextForm,
-    text: &[u8],
-    judgement: &mut Judgement,
-    reader: &mut Reader,
-) -> Result<bool, Memory>
-    ensures read { IfOk result (λ read. read ≡ true → IsReadTo (form_of form) text.now 0 judgement.old → IsRead (form_of form) text.now) }
+fn read_all(alloc: Global, form: TextForm, text: &[u8], reader: &mut Reader) -> Result<bool, Memory>
+    requires { machine_of reader.old.stack ≡ start (form_of form) }
+    ensures read { IfOk result (λ read. read ≡ true → IsRead (form_of form) text.now) }
     ensures found { IfOk result (λ read. read ≡ true → (ts : List input.Lexeme) → IsLexedAs (form_of form) Second text.now ts → reader.new ≡ run reader.old ts) }
-    ensures fault { IfOk result (λ read. read ≡ false → IsReadTo (form_of form) text.now 0 judgement.old → ¬ IsRead (form_of form) text.now) }
+    ensures fault { IfOk result (λ read. read ≡ false → ¬ IsRead (form_of form) text.now) }
 {
     let mut place = 0;
+    let mut depth = Depth::Open(0);
     'tokens: loop {
         let mut notes = Comments::new(alloc);
         let Some(token) = next_token(alloc, form, text, place, &mut notes)? else {
@@ -118,10 +86,13 @@ fn read_all(
             from: token.from,
             to: token.to,
         };
-        if !judgement.takes(lexeme)? {
+        depth = depth_behind(depth, lexeme);
+        if is_too_deep(depth) {
             return Ok(false);
         }
-        reader.read(alloc, token, notes)?;
+        if !reader.read(alloc, token, notes)? {
+            return Ok(false);
+        }
         match token.sort {
             Sort::TextEnd => return Ok(true),
             _ => place = token.to,
@@ -129,21 +100,21 @@ fn read_all(
     }
 }
 
-/// Reads a text of a form, in which these parts come next, up to its end. `None` where it has a fault.
+/// Reads a text of a form, in which this part comes next, up to its end. `None` if it has a fault.
 fn reader_behind(
     alloc: Global,
     form: TextForm,
     text: &[u8],
-    judgement: Judgement,
-    stack: Stack,
+    part: Part,
 ) -> Result<Option<Reader>, Memory>
-    ensures read { IfOk result (λ reader. IfSome reader (λ _. IsReadTo (form_of form) text.now 0 judgement → IsRead (form_of form) text.now)) }
-    ensures found { IfOk result (λ reader. IfSome reader (λ reader. (ts : List input.Lexeme) → IsLexedAs (form_of form) Second text.now ts → reader ≡ run (beginning_with stack) ts)) }
-    ensures fault { IfOk result (λ reader. IfNone reader (IsReadTo (form_of form) text.now 0 judgement → ¬ IsRead (form_of form) text.now)) }
+    requires { above part [] ≡ start (form_of form) }
+    ensures read { IfOk result (λ reader. IfSome reader (λ _. IsRead (form_of form) text.now)) }
+    ensures found { IfOk result (λ reader. IfSome reader (λ reader. (ts : List input.Lexeme) → IsLexedAs (form_of form) Second text.now ts → reader ≡ run (beginning_with (part ∷ [])) ts)) }
+    ensures fault { IfOk result (λ reader. IfNone reader (¬ IsRead (form_of form) text.now)) }
 {
-    let mut judgement = judgement;
+    let stack = stack_of(alloc, part)?;
     let mut reader = reader_before(alloc, text, stack)?;
-    if read_all(alloc, form, text, &mut judgement, &mut reader)? {
+    if read_all(alloc, form, text, &mut reader)? {
         Ok(Some(reader))
     } else {
         Ok(None)
@@ -202,9 +173,8 @@ pub fn doit_events(alloc: Global, text: &[u8]) -> Result<Option<SequenceEvents>,
     ensures found { IfOk result (λ found. IfSome found (λ found. (ts : List input.Lexeme) (s : SpannedSequence) → IsLexed Second text.now ts → IsDoIt Longest ts s → found ≡ sequence_events s)) }
     ensures none { IfOk result (λ found. IfNone found (¬ IsRead DoIt text.now)) }
 {
-    let stack = doit_parts(alloc)?;
-    let judgement = Judgement::of_doit(alloc)?;
-    match reader_behind(alloc, TextForm::DoIt, text, judgement, stack)? {
+    let part = Part::Head(HeadPart::DoitTemporaries);
+    match reader_behind(alloc, TextForm::DoIt, text, part)? {
         Some(reader) => Ok(Some(found_sequence(reader))),
         None => Ok(None),
     }
@@ -222,9 +192,8 @@ pub fn method_events(
     ensures found { IfOk result (λ found. IfSome found (λ found. (ts : List input.Lexeme) (m : SpannedMethod) → IsLexed Second text.now ts → IsMethod Longest kernel ts m → found ≡ method_events m)) }
     ensures none { IfOk result (λ found. IfNone found (¬ IsRead (Method kernel) text.now)) }
 {
-    let stack = method_parts(alloc)?;
-    let judgement = Judgement::of_method(alloc, kernel)?;
-    match reader_behind(alloc, TextForm::Method(kernel), text, judgement, stack)? {
+    let part = Part::Head(HeadPart::Pattern { kernel });
+    match reader_behind(alloc, TextForm::Method(kernel), text, part)? {
         Some(reader) => Ok(Some(found_method(reader))),
         None => Ok(None),
     }
@@ -239,9 +208,8 @@ pub fn pattern_events(alloc: Global, text: &[u8]) -> Result<Option<SequenceEvent
     ensures found { IfOk result (λ found. IfSome found (λ found. (ts : List input.Lexeme) (t : SpannedTree) → IsPatternLexed Second text.now ts → IsPatternText Longest ts t → found ≡ sequence_events (alone ts t))) }
     ensures none { IfOk result (λ found. IfNone found (¬ IsRead PatternText text.now)) }
 {
-    let stack = parts_up_to(alloc, SequencePart::Pattern)?;
-    let judgement = Judgement::of_pattern(alloc)?;
-    match reader_behind(alloc, TextForm::Pattern, text, judgement, stack)? {
+    let part = Part::Sequence(SequencePart::Pattern);
+    match reader_behind(alloc, TextForm::Pattern, text, part)? {
         Some(reader) => Ok(Some(found_sequence(reader))),
         None => Ok(None),
     }

@@ -4,8 +4,9 @@ ghost use Rattle.parse_events.specs.declared.event.Event.TheVariants as event;
 ghost use Rattle.st_events.specs.Steps.{emitted, begin_operand, begin_expression, begin_argument, expression_taken, passed};
 ghost use Rattle.st_events.specs.Tokens.{seen};
 
+use crate::answers::{is_super, row_of};
 use crate::part::{
-    BlockPart, Enclosure, ExpressionPart, LiteralPart, MessagePart, Part, SequencePart,
+    BlockPart, Enclosure, ExpressionPart, LiteralPart, MessagePart, Part, Row, SequencePart,
 };
 use crate::reader::{Reader, place};
 use crate::token::Token;
@@ -23,19 +24,19 @@ impl Reader {
         match token.sort {
             Sort::GroupStart => self.push_two(
                 Part::Expression(ExpressionPart::Whole),
-                Part::Sequence(SequencePart::Mark),
+                Part::Sequence(SequencePart::GroupEnd),
             ),
             Sort::BlockStart => {
                 let outer = BoxedComments::new(alloc, self.take_held(alloc))?;
-                self.push_two(
-                    Part::Block(BlockPart::Start),
-                    Part::Sequence(SequencePart::Statements {
-                        enclosure: Enclosure::Block { from, outer },
-                        count: 0,
-                    }),
-                )
+                self.push(Part::Block(BlockPart::Start {
+                    enclosure: Enclosure::Block { from, outer },
+                }))
             }
-            Sort::BraceStart => self.push(Part::Sequence(SequencePart::Items { from, count: 0 })),
+            Sort::BraceStart => self.push(Part::Sequence(SequencePart::Items {
+                from,
+                count: 0,
+                further: false,
+            })),
             _ => {
                 self.push(Part::Literal(LiteralPart::BehindOperand { from }))?;
                 self.begin_literal(alloc, token)
@@ -62,15 +63,23 @@ impl Reader {
             Sort::Name | Sort::Super => {
                 let to = place(token.to)?;
                 let name = Text::from_slice(alloc, token.text)?;
-                self.push(Part::Expression(ExpressionPart::BehindName { from, to, name }))
-            }
-            Sort::AnyName | Sort::AnyLiteral | Sort::AnyExpression => {
-                self.push(Part::Message(MessagePart::All { from }))?;
-                self.variable(alloc, token)
+                self.push(Part::Expression(ExpressionPart::BehindName {
+                    from,
+                    to,
+                    name,
+                    is_super: is_super(token.sort),
+                }))
             }
             _ => {
-                self.push(Part::Message(MessagePart::All { from }))?;
-                self.begin_operand(alloc, token)
+                let row = Row::Unary;
+                let told = false;
+                self.push(Part::Message(MessagePart::All { from, row, told }))?;
+                match token.sort {
+                    Sort::AnyName | Sort::AnyLiteral | Sort::AnyExpression => self.variable(
+                        alloc, token,
+                    ),
+                    _ => self.begin_operand(alloc, token),
+                }
             }
         }
     }
@@ -103,9 +112,10 @@ impl Reader {
         from: u32,
         to: u32,
         name: Text,
+        is_super: bool,
         token: Token<'_>,
     ) -> Result<(), Memory>
-        ensures { IfOk result (λ _. self.new ≡ expression_taken (ExpressionPart.BehindName from to name) (seen token.entry) token.entry.from token.entry.to self.old) }
+        ensures { IfOk result (λ _. self.new ≡ expression_taken (ExpressionPart.BehindName from to name is_super) (seen token.entry) token.entry.from token.entry.to self.old) }
     {
         match token.sort {
             Sort::Assignment => {
@@ -117,7 +127,7 @@ impl Reader {
             }
             _ => {
                 self.emit(Event::Var { from, to, name })?;
-                self.take_message(alloc, from, token)
+                self.take_message(alloc, from, row_of(is_super), token)
             }
         }
     }
@@ -142,21 +152,28 @@ impl Reader {
         ensures { IfOk result (λ _. self.new ≡ expression_taken part (seen token.entry) token.entry.from token.entry.to self.old) }
     {
         let from = place(token.from)?;
+        let is_super = is_super(token.sort);
         match part {
             ExpressionPart::Whole => self.begin_expression(alloc, token),
             ExpressionPart::BinaryArgument => self.begin_argument(
                 alloc,
-                MessagePart::OfBinary { from },
+                MessagePart::OfBinary { from, is_super },
                 token,
             ),
             ExpressionPart::KeywordArgument => self.begin_argument(
                 alloc,
-                MessagePart::OfKeyword { from },
+                MessagePart::OfKeyword {
+                    from,
+                    row: row_of(is_super),
+                },
                 token,
             ),
-            ExpressionPart::BehindName { from, to, name } => self.take_behind_name(
-                alloc, from, to, name, token,
-            ),
+            ExpressionPart::BehindName {
+                from,
+                to,
+                name,
+                is_super,
+            } => self.take_behind_name(alloc, from, to, name, is_super, token),
             ExpressionPart::BehindValue { .. } => Ok(()),
             ExpressionPart::AnyArgument => self.take_any(alloc, token),
         }
@@ -167,7 +184,7 @@ impl Reader {
         ensures { IfOk result (λ _. self.new ≡ passed (Part.Expression part) self.old) }
     {
         match part {
-            ExpressionPart::BehindName { from, to, name } => self.emit(Event::Var {
+            ExpressionPart::BehindName { from, to, name, .. } => self.emit(Event::Var {
                 from,
                 to,
                 name,

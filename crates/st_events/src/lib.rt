@@ -3,6 +3,7 @@
 //! flat list.
 #![tactic(auto)]
 
+mod answers;
 mod blocks;
 mod events;
 mod expressions;
@@ -14,7 +15,6 @@ mod part;
 mod reader;
 mod reading;
 mod sequences;
-mod takes;
 mod texts;
 mod token;
 mod tokens;

@@ -3,11 +3,11 @@ ghost use Rattle.std.specs.Prelude.{◌≡◌, ◌++◌, ◌+◌, ◌∷◌, [],
 ghost use Rattle.grammar_model.specs.Literals.{word_or_symbol};
 ghost use Rattle.parse_events.specs.Found.{literal_events};
 ghost use Rattle.st_faults.specs.Lexing.{literal_of};
-ghost use Rattle.st_events.specs.Steps.{begin_literal, begin_element, element_taken, literal_taken, passed};
+ghost use Rattle.st_events.specs.Steps.{begin_literal, begin_element, element_taken, joined_taken, literal_taken, passed};
 ghost use Rattle.st_events.specs.Tokens.{seen};
 
 use crate::part::{LiteralPart, Part};
-use crate::reader::{Reader, one_more};
+use crate::reader::{Reader, one_more, place};
 use crate::texts::{is_literal_word, second_byte, symbol_text, unquoted};
 use crate::token::Token;
 use parse_events::Event;
@@ -70,7 +70,7 @@ impl Reader {
         }
     }
 
-    /// An element of an array, or its first token.
+    /// An element of an array that is no keyword, or its first token.
     fn begin_element(&mut self, alloc: Global, token: Token<'_>) -> Result<(), Memory>
         ensures { IfOk result (λ _. self.new ≡ begin_element (seen token.entry) self.old) }
     {
@@ -78,10 +78,6 @@ impl Reader {
             Sort::Name | Sort::Super => {
                 let event = word(alloc, token.text)?;
                 self.emit(event)
-            }
-            Sort::Keyword | Sort::PrimitiveKeyword | Sort::AnyKey => {
-                let symbol = Text::from_slice(alloc, token.text)?;
-                self.push(Part::Literal(LiteralPart::BehindKeyword { symbol }))
             }
             Sort::Binary | Sort::Less | Sort::Greater | Sort::Bar => {
                 let text = Text::from_slice(alloc, token.text)?;
@@ -95,10 +91,16 @@ impl Reader {
 
     /// An element of an array behind so many others, or the mark that closes it.
     fn take_element(&mut self, alloc: Global, count: u32, token: Token<'_>) -> Result<(), Memory>
-        ensures { IfOk result (λ _. self.new ≡ element_taken count (seen token.entry) self.old) }
+        ensures { IfOk result (λ _. self.new ≡ element_taken count (seen token.entry) token.entry.to self.old) }
     {
         match token.sort {
             Sort::GroupEnd => self.emit(Event::Array { items: count }),
+            Sort::Keyword | Sort::PrimitiveKeyword | Sort::AnyKey => {
+                let symbol = Text::from_slice(alloc, token.text)?;
+                let to = place(token.to)?;
+                let count = one_more(count)?;
+                self.push(Part::Literal(LiteralPart::BehindKeyword { symbol, to, count }))
+            }
             _ => {
                 let count = one_more(count)?;
                 self.push(Part::Literal(LiteralPart::Elements { count }))?;
@@ -109,7 +111,7 @@ impl Reader {
 
     /// A number of a byte array behind so many others, or the mark that closes it.
     fn take_byte(&mut self, alloc: Global, count: u32, token: Token<'_>) -> Result<(), Memory>
-        ensures { IfOk result (λ _. self.new ≡ literal_taken (LiteralPart.Bytes count) (seen token.entry) self.old) }
+        ensures { IfOk result (λ _. self.new ≡ literal_taken (LiteralPart.Bytes count) (seen token.entry) token.entry.from token.entry.to self.old) }
     {
         match token.sort {
             Sort::SmallNumeral | Sort::LargeNumeral | Sort::OtherNumeral => {
@@ -125,7 +127,7 @@ impl Reader {
 
     /// The numeral behind a sign.
     fn take_numeral(&mut self, sign: Text, token: Token<'_>) -> Result<(), Memory>
-        ensures { IfOk result (λ _. self.new ≡ literal_taken (LiteralPart.Numeral sign) (seen token.entry) self.old) }
+        ensures { IfOk result (λ _. self.new ≡ literal_taken (LiteralPart.Numeral sign) (seen token.entry) token.entry.from token.entry.to self.old) }
     {
         match token.sort {
             Sort::SmallNumeral | Sort::LargeNumeral | Sort::OtherNumeral => {
@@ -137,17 +139,29 @@ impl Reader {
         }
     }
 
-    /// A keyword that is joined to others in an array.
-    fn take_joined(&mut self, symbol: Text, token: Token<'_>) -> Result<(), Memory>
-        ensures { IfOk result (λ _. self.new ≡ literal_taken (LiteralPart.BehindKeyword symbol) (seen token.entry) self.old) }
+    /// A token of an array behind keywords that end at a place, the last of so many elements. A keyword that begins there is
+    /// joined to them.
+    fn take_behind_keyword(
+        &mut self,
+        alloc: Global,
+        symbol: Text,
+        to: u32,
+        count: u32,
+        token: Token<'_>,
+    ) -> Result<(), Memory>
+        ensures { IfOk result (λ _. self.new ≡ joined_taken symbol to count (seen token.entry) token.entry.from token.entry.to self.old) }
     {
         match token.sort {
-            Sort::Keyword | Sort::PrimitiveKeyword | Sort::AnyKey => {
+            Sort::Keyword | Sort::PrimitiveKeyword | Sort::AnyKey if token.from == to as usize => {
                 let mut symbol = symbol;
                 symbol.push_slice(token.text)?;
-                self.push(Part::Literal(LiteralPart::BehindKeyword { symbol }))
+                let to = place(token.to)?;
+                self.push(Part::Literal(LiteralPart::BehindKeyword { symbol, to, count }))
             }
-            _ => Ok(()),
+            _ => {
+                self.emit(Event::Symbol { text: symbol })?;
+                self.take_element(alloc, count, token)
+            }
         }
     }
 
@@ -158,12 +172,14 @@ impl Reader {
         part: LiteralPart,
         token: Token<'_>,
     ) -> Result<(), Memory>
-        ensures { IfOk result (λ _. self.new ≡ literal_taken part (seen token.entry) self.old) }
+        ensures { IfOk result (λ _. self.new ≡ literal_taken part (seen token.entry) token.entry.from token.entry.to self.old) }
     {
         match part {
             LiteralPart::Numeral { sign } => self.take_numeral(sign, token),
             LiteralPart::Elements { count } => self.take_element(alloc, count, token),
-            LiteralPart::BehindKeyword { symbol } => self.take_joined(symbol, token),
+            LiteralPart::BehindKeyword { symbol, to, count } => self.take_behind_keyword(
+                alloc, symbol, to, count, token,
+            ),
             LiteralPart::Bytes { count } => self.take_byte(alloc, count, token),
             LiteralPart::BehindOperand { .. } => Ok(()),
         }
@@ -175,10 +191,10 @@ impl Reader {
     {
         let to = self.last;
         match part {
-            LiteralPart::BehindKeyword { symbol } => self.emit(Event::Symbol { text: symbol }),
             LiteralPart::BehindOperand { from } => self.emit(Event::Literal { from, to }),
             LiteralPart::Numeral { .. }
             | LiteralPart::Elements { .. }
+            | LiteralPart::BehindKeyword { .. }
             | LiteralPart::Bytes { .. } => Ok(()),
         }
     }

@@ -3,10 +3,12 @@ use Rattle.std.proofs.Common.{◌≡◌, ◌≢◌, ℕ, ◌≤◌, inl, inr, tr
 use Rattle.std.proofs.lemmas.Bool.{false≢true}
 use Rattle.std.specs.Prelude.{Option, is_some}
 use Rattle.std.specs.Option.{option_map_or}
+use Rattle.token_model.specs.declared.kind.Dialect.TheVariants.{Second}
 use Rattle.tree_model.specs.Tree.{Notes, LiteralOf}
 use Rattle.grammar_model.specs.Terminal.{Text, Terminal}
 use Rattle.grammar_model.specs.Input as input
 use Rattle.grammar_model.specs.Input.{lex}
+use Rattle.grammar_model.specs.PatternTokens.{IsLexedAs}
 use Rattle.grammar_model.specs.Whole.{Form}
 use Rattle.grammar_model.specs.Checks.{first_deep}
 use Rattle.grammar_model.specs.Machine.{Stack, start, step, run, feeds, wish, may_start, At}
@@ -23,11 +25,25 @@ use Rattle.st_faults.specs.Sorts.{terminal}
 use Rattle.st_faults.specs.Lexing.{IsLexedFrom, IsFirst}
 use Rattle.st_faults.specs.Depths.{deep_behind}
 use Rattle.st_faults.specs.Faults.{IsRead}
-use Rattle.st_faults.specs.Judging.{Whole, Together}
 use Rattle.st_faults.proofs.Listed.{next_inside, lexed_whole, lexed_from}
 use Rattle.st_faults.proofs.Scanning.{Leads}
 use Rattle.st_faults.proofs.Reading.{goes_behind, rest_behind, run_nil}
 use Rattle.st_faults.proofs.Passing.{IsLexedFrom-same, split}
+
+-- the tokens of the text, of which these are left: how deep their brackets are, and where they lead the machine
+pub record Whole (form : Form) (t : Text) (d : Depth) (ss : Stack) (ts : List input.Lexeme) : Type 0 where
+  pub tokens : List input.Lexeme
+  pub lexed : IsLexedAs form Second t tokens
+  pub depth : first_deep 0 tokens ≡ deep_behind d ts
+  pub same : run (start form) tokens ≡ run ss ts
+
+-- The tokens up to a place lead to a depth and to a stack of the machine. Where the text has no lexical fault, there are
+-- tokens from the place on.
+pub record Together (form : Form) (t : Text) (at : ℕ) (d : Depth) (ss : Stack) : Type 0 where
+  pub whole : (ts : List input.Lexeme) → IsLexedFrom form t at [] ts → Whole form t d ss ts
+  pub rest : (tokens : List input.Lexeme) → IsLexedAs form Second t tokens → (ts : List input.Lexeme) × IsLexedFrom form t at [] ts
+  pub before : List Terminal
+  pub reached : feeds (start form) before ≡ Some ss
 
 -- a token of the sort leads from one stack to another
 abbrev pub Moves : Lexeme → Stack → Stack → Type 0

@@ -7,4 +7,3 @@ pub mod Faults
 pub mod Depths
 pub mod Forms
 pub mod Words
-pub mod Judging

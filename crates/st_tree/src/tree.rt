@@ -1,9 +1,12 @@
 // The syntax tree of a method.
-ghost use Rattle.std.specs.Prelude.{◌≡◌};
-ghost use Rattle.st_tree.specs.View.{tree_of};
+ghost use Rattle.std.specs.Prelude.{◌≡◌, ◌+◌, ◌<◌, ◌≤◌};
+ghost use Rattle.tree_model.specs.Tree.{trees_of};
+ghost use Rattle.tree_model.specs.Measure.{weight, trees_weight, messages_weight, statements_weight};
+ghost use Rattle.st_tree.specs.View.{tree_of, messages_of, statements_of};
 
 use crate::literal::Literal;
 use rb_base::{Ids, NameId, Text};
+use std::alloc::Global;
 use std::marker::Model;
 
 /// An expression or a return. Contracts see it as abstract data, a `TreeOf ℕ`.
@@ -13,11 +16,113 @@ pub struct Node {
     pub kind: NodeKind,
 }
 
-// Written out, so that for a proof the end of a node is one call.
+// A loop, so that a high tree takes no stack. Only if there is no memory for the list of nodes that wait is a node dropped by a call.
 impl Drop for Node {
     #[cycle(node)]
     fn drop(self) {
-        let Node { kind: _ } = self;
+        let Node { kind } = self;
+        let Some(alloc) = allocator_of(&kind) else {
+            return;
+        };
+        let mut waiting = Vec::new(alloc);
+        put_below(kind, &mut waiting);
+        while let Some(node) = waiting.pop() {
+            put_below(node.into_kind(), &mut waiting);
+        }
+    }
+}
+
+/// What gave the memory of the nodes right below a node, where it may have some.
+fn allocator_of(kind: &NodeKind) -> Option<Global> {
+    match kind {
+        NodeKind::Var { .. } | NodeKind::Literal { .. } => None,
+        NodeKind::Send { receiver, .. } | NodeKind::Cascade { receiver, .. } => {
+            Some(*Box::allocator(receiver))
+        }
+        NodeKind::Assign { value, .. } | NodeKind::Return { value } => Some(*Box::allocator(value)),
+        NodeKind::Block { body, .. } => Some(*Box::allocator(body)),
+        NodeKind::Brace { items } => Some(*items.items.allocator()),
+    }
+}
+
+/// Puts the nodes right below a node after those that wait.
+#[cycle(node)]
+fn put_below(kind: NodeKind, waiting: &mut Vec<Node>)
+    ensures { trees_weight (trees_of waiting.new.items) ≤ trees_weight (trees_of waiting.old.items) + weight (tree_of kind) }
+{
+    match kind {
+        NodeKind::Var { name: _ } => {}
+        NodeKind::Literal { value: _ } => {}
+        NodeKind::Send {
+            receiver,
+            selector: _,
+            arguments,
+        } => {
+            put_nodes(arguments, waiting);
+            put_node(Box::into_inner(receiver), waiting);
+        }
+        NodeKind::Cascade { receiver, messages } => {
+            put_messages(messages, waiting);
+            put_node(Box::into_inner(receiver), waiting);
+        }
+        NodeKind::Assign { name: _, value } => put_node(Box::into_inner(value), waiting),
+        NodeKind::Return { value } => put_node(Box::into_inner(value), waiting),
+        NodeKind::Block {
+            parameters: _,
+            body,
+        } => put_statements(Box::into_inner(body), waiting),
+        NodeKind::Brace { items } => put_nodes(items, waiting),
+    }
+}
+
+/// Puts a node after those that wait; if it finds no room, it is dropped.
+#[cycle(node)]
+fn put_node(node: Node, waiting: &mut Vec<Node>)
+    ensures { trees_weight (trees_of waiting.new.items) ≤ trees_weight (trees_of waiting.old.items) + (weight node + 1) }
+{
+    let _ = waiting.push(node);
+}
+
+/// The same for nodes.
+#[cycle(node)]
+fn put_nodes(nodes: Nodes, waiting: &mut Vec<Node>)
+    ensures { trees_weight (trees_of waiting.new.items) < trees_weight (trees_of waiting.old.items) + trees_weight (trees_of nodes) }
+{
+    let mut items = nodes.into_vec();
+    while let Some(node) = items.pop() {
+        put_node(node, waiting);
+    }
+}
+
+/// The same for the arguments of messages.
+#[cycle(node)]
+fn put_messages(messages: Messages, waiting: &mut Vec<Node>)
+    ensures { trees_weight (trees_of waiting.new.items) < trees_weight (trees_of waiting.old.items) + messages_weight (messages_of messages) }
+{
+    let mut items = messages.into_vec();
+    while let Some(message) = items.pop() {
+        let Message {
+            selector: _,
+            arguments,
+        } = message;
+        put_nodes(arguments, waiting);
+    }
+}
+
+/// The same for the statements of a sequence.
+#[cycle(node)]
+fn put_statements(body: Sequence, waiting: &mut Vec<Node>)
+    ensures { trees_weight (trees_of waiting.new.items) < trees_weight (trees_of waiting.old.items) + statements_weight (statements_of body.statements) }
+{
+    let Sequence {
+        temporaries: _,
+        statements,
+        tail: _,
+    } = body;
+    let mut items = statements.into_vec();
+    while let Some(statement) = items.pop() {
+        let Statement { comments: _, node } = statement;
+        put_node(node, waiting);
     }
 }
 

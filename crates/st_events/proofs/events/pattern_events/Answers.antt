@@ -1,10 +1,9 @@
 use Rattle.std.proofs.Common.{◌∙◌, ap}
-use Rattle.st_events.specs.Steps.{run}
-use Rattle.st_events.specs.Starts.{beginning_with, sequence_of}
+use Rattle.st_events.specs.Starts.{sequence_of}
 use Rattle.st_events.proofs.WholeEvents.{law_PatternText}
 use Rattle.st_events.proofs.events.pattern_events.Goals as goal
 
 pub returns-in-Some-clause-found : goal.returns-in-Some-clause-found
 returns-in-Some-clause-found c = λ ts t lexed d.
     let found = rw c.in-Some.is at c.in_ok-reader.ensures.found in
-    c.found_sequence.ensures ∙ ap sequence_of (found ts lexed ∙ ap (λ ps. run (beginning_with ps) ts) c.in_ok-stack.ensures) ∙ law_PatternText ts t d
+    c.found_sequence.ensures ∙ ap sequence_of (found ts lexed) ∙ law_PatternText ts t d

@@ -1,0 +1,3 @@
+pub mod Through
+pub mod Fewer
+pub mod Grown

@@ -1,0 +1,4 @@
+pub mod LookUps
+pub mod Listed
+pub mod Touched
+pub mod Bounds
