@@ -3,3 +3,5 @@ pub mod Items
 pub mod Turned
 pub mod Scans
 pub mod Pieces
+pub mod WaitingTrees
+pub mod Parts

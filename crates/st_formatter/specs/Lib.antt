@@ -1,2 +1,5 @@
 pub mod Bodies
 pub mod Turns
+pub mod Known
+pub mod Parts
+pub mod Waiting

@@ -41,7 +41,7 @@ fn is_bare_row(statements: &[Statement]) -> bool
 pub(crate) fn write_period(
     statements: &[Statement],
     next: usize,
-    out: &mut Backward,
+    out: &mut Backward<'_, '_>,
 ) -> Result<(), Memory>
     ensures { OnOk result (out.new ≡ period_before (statements_of (drop next statements.now)) ++ out.old) }
 {
@@ -52,7 +52,11 @@ pub(crate) fn write_period(
 }
 
 /// Writes a line feed and the tabs of a level before the text, unless what is behind them is flat.
-pub(crate) fn start_line_unless(flat: bool, level: usize, out: &mut Backward) -> Result<(), Memory>
+pub(crate) fn start_line_unless(
+    flat: bool,
+    level: usize,
+    out: &mut Backward<'_, '_>,
+) -> Result<(), Memory>
     ensures { OnOk result (out.new ≡ (if flat then [] else codes "\n" ++ replicate level 9) ++ out.old) }
 {
     if flat {
@@ -65,7 +69,7 @@ pub(crate) fn start_line_unless(flat: bool, level: usize, out: &mut Backward) ->
 pub(crate) fn write_blank(
     flat: bool,
     parameters: &[NameId],
-    out: &mut Backward,
+    out: &mut Backward<'_, '_>,
 ) -> Result<(), Memory>
     ensures { (names : List (List ℕ)) → OnOk result (out.new ≡ whole.blank_where flat (map (name_at names) parameters.now) ++ out.old) }
 {

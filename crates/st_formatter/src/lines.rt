@@ -10,7 +10,7 @@ use crate::selectors::write_name;
 use rb_base::{Memory, NameId, Names, Text};
 
 /// Writes a line feed and the tabs of a level before the text.
-pub(crate) fn start_line(level: usize, out: &mut Backward) -> Result<(), Memory>
+pub(crate) fn start_line(level: usize, out: &mut Backward<'_, '_>) -> Result<(), Memory>
     ensures { OnOk result (out.new ≡ codes "\n" ++ (replicate level 9 ++ out.old)) }
 {
     out.put_tabs(level)?;
@@ -18,7 +18,11 @@ pub(crate) fn start_line(level: usize, out: &mut Backward) -> Result<(), Memory>
 }
 
 /// Writes each comment on a line of its own before the text.
-pub(crate) fn write_notes(notes: &[Text], level: usize, out: &mut Backward) -> Result<(), Memory>
+pub(crate) fn write_notes(
+    notes: &[Text],
+    level: usize,
+    out: &mut Backward<'_, '_>,
+) -> Result<(), Memory>
     ensures { OnOk result (out.new ≡ pieces_behind (codes "\n") (note_lines level notes.now) ++ out.old) }
 {
     let mut at = notes.len();
@@ -34,7 +38,7 @@ pub(crate) fn write_notes(notes: &[Text], level: usize, out: &mut Backward) -> R
 pub(crate) fn write_spaced(
     names_in_order: &[NameId],
     names: &Names,
-    out: &mut Backward,
+    out: &mut Backward<'_, '_>,
 ) -> Result<(), Memory>
     requires { AllByRecursion (λ n. n < length names.now) names_in_order.now }
     ensures { OnOk result (out.new ≡ pieces_behind (codes " ") (map (name_at names.now) names_in_order.now) ++ out.old) }
@@ -53,7 +57,7 @@ pub(crate) fn write_temporaries(
     temporaries: &[NameId],
     level: usize,
     names: &Names,
-    out: &mut Backward,
+    out: &mut Backward<'_, '_>,
 ) -> Result<(), Memory>
     requires { AllByRecursion (λ n. n < length names.now) temporaries.now }
     ensures { OnOk result (out.new ≡ pieces_behind (codes "\n") (temporary_lines level (map (name_at names.now) temporaries.now)) ++ out.old) }
@@ -71,7 +75,7 @@ pub(crate) fn write_temporaries(
 pub(crate) fn write_parameters(
     parameters: &[NameId],
     names: &Names,
-    out: &mut Backward,
+    out: &mut Backward<'_, '_>,
 ) -> Result<(), Memory>
     requires { AllByRecursion (λ n. n < length names.now) parameters.now }
     ensures { OnOk result (out.new ≡ parameters_text (map (name_at names.now) parameters.now) ++ out.old) }

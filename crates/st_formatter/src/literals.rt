@@ -12,7 +12,7 @@ use rb_base::{Memory, Names};
 use st_tree::{Literal, LiteralKind};
 
 /// Writes the bytes in quotes before the text.
-fn write_quoted(bytes: &[u8], out: &mut Backward) -> Result<(), Memory>
+fn write_quoted(bytes: &[u8], out: &mut Backward<'_, '_>) -> Result<(), Memory>
     ensures { OnOk result (out.new ≡ quoted_text bytes.now ++ out.old) }
 {
     out.put_byte(b'\'')?;
@@ -21,7 +21,7 @@ fn write_quoted(bytes: &[u8], out: &mut Backward) -> Result<(), Memory>
 }
 
 /// Writes a symbol before the text.
-fn write_symbol(bytes: &[u8], out: &mut Backward) -> Result<(), Memory>
+fn write_symbol(bytes: &[u8], out: &mut Backward<'_, '_>) -> Result<(), Memory>
     ensures { OnOk result (out.new ≡ symbol_text bytes.now ++ out.old) }
 {
     if is_selector(bytes) {
@@ -38,7 +38,7 @@ fn write_symbol(bytes: &[u8], out: &mut Backward) -> Result<(), Memory>
 pub(crate) fn write_literal(
     literal: &Literal,
     names: &Names,
-    out: &mut Backward,
+    out: &mut Backward<'_, '_>,
 ) -> Result<(), Memory>
     requires { LiteralNames (λ n. n < length names.now) literal.now }
     ensures { OnOk result (out.new ≡ literal_text (map_literal (name_at names.now) literal.now) ++ out.old) }
@@ -68,7 +68,11 @@ pub(crate) fn write_literal(
 /// Writes literals with one blank between them before the text.
 #[cycle(literal)]
 #[tactic(auto, using(crate::proofs::Items::item_rules))]
-fn write_literals(literals: &[Literal], names: &Names, out: &mut Backward) -> Result<(), Memory>
+fn write_literals(
+    literals: &[Literal],
+    names: &Names,
+    out: &mut Backward<'_, '_>,
+) -> Result<(), Memory>
     requires { LiteralsNames (λ n. n < length names.now) (literals_of literals.now) }
     ensures { OnOk result (out.new ≡
         pieces_joined (codes " ") (literal_texts (map_literals (name_at names.now) (literals_of literals.now))) ++ out.old) }

@@ -29,7 +29,7 @@ pub(crate) fn write_keyword<'a>(
     rest: &'a [u8],
     at: usize,
     count: usize,
-    out: &mut Backward,
+    out: &mut Backward<'_, '_>,
 ) -> Result<&'a [u8], Memory>
     requires last { at < count → length (keywords_of rest.now) ≡ suc at }
     requires none { count ≤ at → length (keywords_of rest.now) ≤ at }

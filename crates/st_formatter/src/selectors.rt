@@ -12,7 +12,11 @@ use precedences::text_of;
 use rb_base::{Memory, NameId, Names};
 
 /// Writes a name before the text.
-pub(crate) fn write_name(name: NameId, names: &Names, out: &mut Backward) -> Result<(), Memory>
+pub(crate) fn write_name(
+    name: NameId,
+    names: &Names,
+    out: &mut Backward<'_, '_>,
+) -> Result<(), Memory>
     requires { name < length names.now }
     ensures { OnOk result (out.new ≡ name_at names.now name ++ out.old) }
 {

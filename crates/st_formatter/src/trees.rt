@@ -15,6 +15,7 @@ ghost use Rattle.st_formatter.specs.Turns.{items_at};
 
 use crate::backward::Backward;
 use crate::bodies::{inner_level, is_bare, start_line_unless, write_blank, write_period};
+use crate::flat::is_flat;
 use crate::lines::{start_line, write_notes, write_parameters, write_temporaries};
 use crate::literals::write_literal;
 use crate::messages::{both, flat_after, write_keyword};
@@ -27,20 +28,45 @@ use rb_base::{Memory, NameId, Names};
 use st_tree::{Message, Node, NodeKind, Sequence, Statement};
 use text_model::Precedence;
 
-/// Writes an expression or a return of a sequence of this level before the text, and answers whether each block in it
-/// is flat.
-#[cycle(tree)]
-#[tactic(auto, using(crate::proofs::Items::item_rules))]
-pub(crate) fn write_expression(
-    node: &Node,
+/// How many levels of a tree are written at once. What stands deeper is left out and written later, so nothing recurs deeper.
+pub(crate) const DEPTH: usize = 400;
+
+/// Leaves out an expression or a return of a sequence of this level before the text, and answers whether each block in it is flat.
+#[tactic(auto, using(crate::proofs::WaitingTrees::flat_rules))]
+fn leave_out<'n, 's>(
+    node: &'n Node,
     level: usize,
-    names: &Names,
-    out: &mut Backward,
+    names: &'s Names,
+    out: &mut Backward<'n, 's>,
 ) -> Result<bool, Memory>
     requires { AllNames (λ n. n < length names.now) node.now }
     ensures text { OnOk result (out.new ≡ expression_text level (map_names (name_at names.now) node.now) ++ out.old) }
     ensures flat { IfOk result (λ flat. flat ≡ is_flat (map_names (name_at names.now) node.now)) }
 {
+    let flat = is_flat(out.alloc(), node)?;
+    out.put_gap(node, level, names)?;
+    Ok(flat)
+}
+
+/// Writes an expression or a return of a sequence of this level before the text, and answers whether each block in it
+/// is flat. What stands in it at this depth is left out.
+#[cycle(tree)]
+#[tactic(auto, using(crate::proofs::Items::item_rules))]
+pub(crate) fn write_expression<'n, 's>(
+    node: &'n Node,
+    level: usize,
+    depth: usize,
+    names: &'s Names,
+    out: &mut Backward<'n, 's>,
+) -> Result<bool, Memory>
+    requires { AllNames (λ n. n < length names.now) node.now }
+    ensures text { OnOk result (out.new ≡ expression_text level (map_names (name_at names.now) node.now) ++ out.old) }
+    ensures flat { IfOk result (λ flat. flat ≡ is_flat (map_names (name_at names.now) node.now)) }
+{
+    if depth == 0 {
+        return leave_out(node, level, names, out);
+    }
+    let below = depth - 1;
     match &node.kind {
         NodeKind::Var { name } => flat_after(write_name(*name, names, out)),
         NodeKind::Literal { value } => flat_after(write_literal(value, names, out)),
@@ -48,25 +74,33 @@ pub(crate) fn write_expression(
             receiver,
             selector,
             arguments,
-        } => write_send(receiver, *selector, arguments.as_slice(), level, names, out),
+        } => write_send(
+            receiver,
+            *selector,
+            arguments.as_slice(),
+            level,
+            below,
+            names,
+            out,
+        ),
         NodeKind::Cascade { receiver, messages } => {
             let limit = receiver_limit(messages_precedence(messages.as_slice(), names));
-            let messages_flat = write_messages(messages.as_slice(), level, names, out)?;
-            let receiver_flat = write_operand(receiver, limit, level, names, out)?;
+            let messages_flat = write_messages(messages.as_slice(), level, below, names, out)?;
+            let receiver_flat = write_operand(receiver, limit, level, below, names, out)?;
             Ok(both(receiver_flat, messages_flat))
         }
         NodeKind::Assign { name, value } => {
-            let flat = write_expression(value, level, names, out)?;
+            let flat = write_expression(value, level, below, names, out)?;
             out.put(b" := ")?;
             write_name(*name, names, out)?;
             Ok(flat)
         }
         NodeKind::Block { parameters, body } => {
-            write_block(parameters.as_slice(), body, level, names, out)
+            write_block(parameters.as_slice(), body, level, below, names, out)
         }
-        NodeKind::Brace { items } => write_brace(items.as_slice(), level, names, out),
+        NodeKind::Brace { items } => write_brace(items.as_slice(), level, below, names, out),
         NodeKind::Return { value } => {
-            let flat = write_expression(value, level, names, out)?;
+            let flat = write_expression(value, level, below, names, out)?;
             out.put_byte(b'^')?;
             Ok(flat)
         }
@@ -76,12 +110,13 @@ pub(crate) fn write_expression(
 /// Writes an operand before the text, in parentheses where it is looser than the limit.
 #[cycle(tree)]
 #[tactic(auto, using(crate::proofs::Items::item_rules))]
-fn write_operand(
-    node: &Node,
+fn write_operand<'n, 's>(
+    node: &'n Node,
     limit: Precedence,
     level: usize,
-    names: &Names,
-    out: &mut Backward,
+    depth: usize,
+    names: &'s Names,
+    out: &mut Backward<'n, 's>,
 ) -> Result<bool, Memory>
     requires { AllNames (λ n. n < length names.now) node.now }
     ensures text { let tree = map_names (name_at names.now) node.now in
@@ -89,10 +124,10 @@ fn write_operand(
     ensures flat { IfOk result (λ flat. flat ≡ is_flat (map_names (name_at names.now) node.now)) }
 {
     if !is_looser(precedence_of(node, names), limit) {
-        return write_expression(node, level, names, out);
+        return write_expression(node, level, depth, names, out);
     }
     out.put_byte(b')')?;
-    let flat = write_expression(node, level, names, out)?;
+    let flat = write_expression(node, level, depth, names, out)?;
     out.put_byte(b'(')?;
     Ok(flat)
 }
@@ -100,13 +135,14 @@ fn write_operand(
 /// Writes a receiver and its message before the text.
 #[cycle(tree)]
 #[tactic(auto, using(crate::proofs::Items::item_rules))]
-fn write_send(
-    receiver: &Node,
+fn write_send<'n, 's>(
+    receiver: &'n Node,
     selector: NameId,
-    arguments: &[Node],
+    arguments: &'n [Node],
     level: usize,
-    names: &Names,
-    out: &mut Backward,
+    depth: usize,
+    names: &'s Names,
+    out: &mut Backward<'n, 's>,
 ) -> Result<bool, Memory>
     requires receiver { AllNames (λ n. n < length names.now) receiver.now }
     requires selector { selector < length names.now }
@@ -115,21 +151,22 @@ fn write_send(
     ensures flat { IfOk result (λ flat. flat ≡ is_flat (map_names (name_at names.now) (send receiver.now selector (trees_of arguments.now)))) }
 {
     let message = message_precedence(text_of(names, selector), arguments);
-    let message_flat = write_message(selector, message, arguments, level, names, out)?;
-    let receiver_flat = write_operand(receiver, receiver_limit(message), level, names, out)?;
+    let message_flat = write_message(selector, message, arguments, level, depth, names, out)?;
+    let receiver_flat = write_operand(receiver, receiver_limit(message), level, depth, names, out)?;
     Ok(both(receiver_flat, message_flat))
 }
 
 /// Writes a message of this precedence before the text, each part behind a blank.
 #[cycle(tree)]
 #[tactic(auto, using(crate::proofs::Items::item_rules))]
-fn write_message(
+fn write_message<'n, 's>(
     selector: NameId,
     message: Precedence,
-    arguments: &[Node],
+    arguments: &'n [Node],
     level: usize,
-    names: &Names,
-    out: &mut Backward,
+    depth: usize,
+    names: &'s Names,
+    out: &mut Backward<'n, 's>,
 ) -> Result<bool, Memory>
     requires selector { selector < length names.now }
     requires arguments { TreesNames (λ n. n < length names.now) (trees_of arguments.now) }
@@ -145,7 +182,7 @@ fn write_message(
     let mut at = count.max(arguments.len());
     while at > 0 {
         at -= 1;
-        let one = write_argument(arguments, at, message, level, names, out)?;
+        let one = write_argument(arguments, at, message, level, depth, names, out)?;
         flat = both(one, flat);
         words = write_keyword(words, at, count, out)?;
     }
@@ -155,13 +192,14 @@ fn write_message(
 /// Writes the argument of this number behind a blank before the text, or nothing where there is none.
 #[cycle(tree)]
 #[tactic(auto, using(crate::proofs::Items::item_rules))]
-fn write_argument(
-    arguments: &[Node],
+fn write_argument<'n, 's>(
+    arguments: &'n [Node],
     at: usize,
     message: Precedence,
     level: usize,
-    names: &Names,
-    out: &mut Backward,
+    depth: usize,
+    names: &'s Names,
+    out: &mut Backward<'n, 's>,
 ) -> Result<bool, Memory>
     requires { TreesNames (λ n. n < length names.now) (trees_of arguments.now) }
     ensures text { let trees = map_trees (name_at names.now) (trees_of (items_at arguments.now at)) in
@@ -172,7 +210,7 @@ fn write_argument(
         return Ok(true);
     }
     let argument = &arguments[at];
-    let flat = write_operand(argument, argument_limit(message), level, names, out)?;
+    let flat = write_operand(argument, argument_limit(message), level, depth, names, out)?;
     out.put_byte(b' ')?;
     Ok(flat)
 }
@@ -180,11 +218,12 @@ fn write_argument(
 /// Writes the messages of a cascade before the text, with semicolons between them.
 #[cycle(tree)]
 #[tactic(auto, using(crate::proofs::Items::item_rules))]
-fn write_messages(
-    messages: &[Message],
+fn write_messages<'n, 's>(
+    messages: &'n [Message],
     level: usize,
-    names: &Names,
-    out: &mut Backward,
+    depth: usize,
+    names: &'s Names,
+    out: &mut Backward<'n, 's>,
 ) -> Result<bool, Memory>
     requires { MessagesNames (λ n. n < length names.now) (messages_of messages.now) }
     ensures text { OnOk result (out.new ≡
@@ -198,11 +237,11 @@ fn write_messages(
             let mut at = rest.len();
             while at > 0 {
                 at -= 1;
-                let one = write_next(&rest[at], level, names, out)?;
+                let one = write_next(&rest[at], level, depth, names, out)?;
                 flat = both(one, flat);
                 out.put_byte(b';')?;
             }
-            let one = write_next(first, level, names, out)?;
+            let one = write_next(first, level, depth, names, out)?;
             Ok(both(one, flat))
         }
     }
@@ -211,11 +250,12 @@ fn write_messages(
 /// Writes a message of a cascade before the text.
 #[cycle(tree)]
 #[tactic(auto, using(crate::proofs::Items::item_rules))]
-fn write_next(
-    next: &Message,
+fn write_next<'n, 's>(
+    next: &'n Message,
     level: usize,
-    names: &Names,
-    out: &mut Backward,
+    depth: usize,
+    names: &'s Names,
+    out: &mut Backward<'n, 's>,
 ) -> Result<bool, Memory>
     requires selector { next.now.selector < length names.now }
     requires arguments { TreesNames (λ n. n < length names.now) (trees_of next.now.arguments) }
@@ -226,17 +266,18 @@ fn write_next(
 {
     let arguments = next.arguments.as_slice();
     let message = message_precedence(text_of(names, next.selector), arguments);
-    write_message(next.selector, message, arguments, level, names, out)
+    write_message(next.selector, message, arguments, level, depth, names, out)
 }
 
 /// Writes a brace array before the text.
 #[cycle(tree)]
 #[tactic(auto, using(crate::proofs::Items::item_rules))]
-fn write_brace(
-    items: &[Node],
+fn write_brace<'n, 's>(
+    items: &'n [Node],
     level: usize,
-    names: &Names,
-    out: &mut Backward,
+    depth: usize,
+    names: &'s Names,
+    out: &mut Backward<'n, 's>,
 ) -> Result<bool, Memory>
     requires { TreesNames (λ n. n < length names.now) (trees_of items.now) }
     ensures text { OnOk result (out.new ≡ expression_text level (map_names (name_at names.now) (brace (trees_of items.now))) ++ out.old) }
@@ -250,11 +291,11 @@ fn write_brace(
             let mut at = rest.len();
             while at > 0 {
                 at -= 1;
-                let one = write_expression(&rest[at], level, names, out)?;
+                let one = write_expression(&rest[at], level, depth, names, out)?;
                 flat = both(one, flat);
                 out.put(b". ")?;
             }
-            let one = write_expression(first, level, names, out)?;
+            let one = write_expression(first, level, depth, names, out)?;
             out.put_byte(b'{')?;
             Ok(both(one, flat))
         }
@@ -264,12 +305,13 @@ fn write_brace(
 /// Writes a block of a sequence of this level before the text.
 #[cycle(tree)]
 #[tactic(auto, using(crate::proofs::Items::item_rules))]
-fn write_block(
-    parameters: &[NameId],
-    body: &Sequence,
+fn write_block<'n, 's>(
+    parameters: &'n [NameId],
+    body: &'n Sequence,
     level: usize,
-    names: &Names,
-    out: &mut Backward,
+    depth: usize,
+    names: &'s Names,
+    out: &mut Backward<'n, 's>,
 ) -> Result<bool, Memory>
     requires parameters { AllByRecursion (λ n. n < length names.now) parameters.now }
     requires body { SequenceNames (λ n. n < length names.now) (sequence_of body.now) }
@@ -279,7 +321,7 @@ fn write_block(
 {
     let inner = inner_level(level)?;
     out.put_byte(b']')?;
-    let flat = write_inside(body, inner, names, out)?;
+    let flat = write_inside(body, inner, depth, names, out)?;
     write_blank(flat, parameters, out)?;
     write_parameters(parameters, names, out)?;
     out.put_byte(b'[')?;
@@ -289,11 +331,12 @@ fn write_block(
 /// Writes what stands in a block behind its parameters before the text, and answers whether the block is flat.
 #[cycle(tree)]
 #[tactic(auto, using(crate::proofs::Items::item_rules))]
-fn write_inside(
-    body: &Sequence,
+fn write_inside<'n, 's>(
+    body: &'n Sequence,
     level: usize,
-    names: &Names,
-    out: &mut Backward,
+    depth: usize,
+    names: &'s Names,
+    out: &mut Backward<'n, 's>,
 ) -> Result<bool, Memory>
     requires { SequenceNames (λ n. n < length names.now) (sequence_of body.now) }
     ensures text { IfOk result (λ flat. out.new ≡
@@ -301,14 +344,14 @@ fn write_inside(
     ensures flat { IfOk result (λ flat. flat ≡ is_flat_body (map_sequence (name_at names.now) (sequence_of body.now))) }
 {
     if !is_bare(body) {
-        write_lines(body, level, names, out)?;
+        write_lines(body, level, depth, names, out)?;
         return Ok(false);
     }
     let statements = body.statements.as_slice();
     if statements.is_empty() {
         return Ok(true);
     }
-    let flat = write_expression(&statements[0].node, level, names, out)?;
+    let flat = write_expression(&statements[0].node, level, depth, names, out)?;
     start_line_unless(flat, level, out)?;
     Ok(flat)
 }
@@ -316,11 +359,12 @@ fn write_inside(
 /// Writes the lines of a sequence of this level before the text, each behind a line feed.
 #[cycle(tree)]
 #[tactic(auto, using(crate::proofs::Items::item_rules))]
-pub(crate) fn write_lines(
-    body: &Sequence,
+pub(crate) fn write_lines<'n, 's>(
+    body: &'n Sequence,
     level: usize,
-    names: &Names,
-    out: &mut Backward,
+    depth: usize,
+    names: &'s Names,
+    out: &mut Backward<'n, 's>,
 ) -> Result<(), Memory>
     requires { SequenceNames (λ n. n < length names.now) (sequence_of body.now) }
     ensures { OnOk result (out.new ≡
@@ -333,7 +377,7 @@ pub(crate) fn write_lines(
         write_period(statements, at, out)?;
         at -= 1;
         let statement = &statements[at];
-        write_expression(&statement.node, level, names, out)?;
+        write_expression(&statement.node, level, depth, names, out)?;
         start_line(level, out)?;
         write_notes(statement.comments.as_slice(), level, out)?;
     }

@@ -10,10 +10,11 @@ ghost use Rattle.st_formatter.specs.Turns.{items_at};
 ghost use Rattle.text_model.specs.Whole.{pattern_text, primitive_lines, canonical_method, canonical_doit};
 
 use crate::backward::Backward;
+use crate::gaps::written;
 use crate::lines::{start_line, write_notes};
 use crate::messages::write_keyword;
 use crate::selectors::{count_keywords, write_name};
-use crate::trees::write_lines;
+use crate::trees::{DEPTH, write_lines};
 use precedences::text_of;
 use rb_base::{Memory, NameId, Names, Text};
 use st_tree::{Method, Sequence};
@@ -39,7 +40,7 @@ pub fn format_method(
     ensures err { OnErr result (out.new ≡ out.old) }
 {
     let mut text = Backward::with_room(alloc, TEXT_ROOM)?;
-    write_lines(&method.body, 1, names, &mut text)?;
+    write_lines(&method.body, 1, DEPTH, names, &mut text)?;
     write_primitive(method.primitive, &mut text)?;
     write_notes(method.head.as_slice(), 1, &mut text)?;
     write_pattern(
@@ -48,7 +49,7 @@ pub fn format_method(
         names,
         &mut text,
     )?;
-    let bytes = text.into_vec();
+    let bytes = written(&mut text)?;
     out.push_slice(bytes.as_slice())
 }
 
@@ -66,8 +67,8 @@ pub fn format_doit(
     ensures err { OnErr result (out.new ≡ out.old) }
 {
     let mut text = Backward::with_room(alloc, TEXT_ROOM)?;
-    write_lines(body, 0, names, &mut text)?;
-    let bytes = text.into_vec();
+    write_lines(body, 0, DEPTH, names, &mut text)?;
+    let bytes = written(&mut text)?;
     out.push_slice(without_first(bytes.as_slice()))
 }
 
@@ -82,7 +83,7 @@ fn without_first(bytes: &[u8]) -> &[u8]
 }
 
 /// Writes the line of a primitive before the text, or nothing where there is none.
-fn write_primitive(primitive: Option<u16>, out: &mut Backward) -> Result<(), Memory>
+fn write_primitive(primitive: Option<u16>, out: &mut Backward<'_, '_>) -> Result<(), Memory>
     ensures { OnOk result (out.new ≡ pieces_behind (codes "\n") (primitive_lines primitive) ++ out.old) }
 {
     match primitive {
@@ -102,7 +103,7 @@ fn write_pattern(
     selector: NameId,
     arguments: &[NameId],
     names: &Names,
-    out: &mut Backward,
+    out: &mut Backward<'_, '_>,
 ) -> Result<(), Memory>
     requires selector { selector < length names.now }
     requires arguments { AllByRecursion (λ n. n < length names.now) arguments.now }
@@ -119,7 +120,7 @@ fn write_pattern(
         write_argument_name(arguments, at, names, &mut pattern)?;
         words = write_keyword(words, at, count, &mut pattern)?;
     }
-    let bytes = pattern.into_vec();
+    let bytes = written(&mut pattern)?;
     out.put(without_first(bytes.as_slice()))
 }
 
@@ -129,7 +130,7 @@ fn write_argument_name(
     arguments: &[NameId],
     at: usize,
     names: &Names,
-    out: &mut Backward,
+    out: &mut Backward<'_, '_>,
 ) -> Result<(), Memory>
     requires { AllByRecursion (λ n. n < length names.now) arguments.now }
     ensures { OnOk result (out.new ≡
