@@ -112,6 +112,6 @@ pub(crate) fn turned(
         return Ok(None);
     }
     let mut bindings = bindings_of(alloc, held.as_slice())?;
-    let made = fill(alloc, names, bindings.as_mut_slice(), &sides.1, false)?;
+    let made = fill(alloc, names, bindings.as_mut_slice(), &sides.1)?;
     Ok(Some(made))
 }

@@ -22,13 +22,8 @@ use patterns::{
     Pattern, PatternKind, PatternMessage, PatternSelector, PatternSequence, PatternStatement,
 };
 use rb_base::{Ids, Memory, NameId, Names};
-use st_tree::{
-    Comments, Literal, Message, Messages, Node, NodeKind, Nodes, Sequence, Statements, height,
-};
+use st_tree::{Comments, Literal, Message, Messages, Node, NodeKind, Nodes, Sequence, Statements};
 use std::alloc::Global;
-
-/// The most levels of a tree that is made.
-pub const MOST_LEVELS: usize = 2000;
 
 /// The node of a pattern.
 #[cycle(filling)]
@@ -372,14 +367,12 @@ fn filled_sequence(
 
 /// The node that results when each metavariable of a pattern is replaced by what it is bound to. The names of selectors that
 /// keywords make are added to the table, where they are new. What is bound moves to its place where it is wanted once. The
-/// error is want of memory. Where the node may be too high, this also stands for a tree of more than `MOST_LEVELS` levels, since
-/// walks through trees take stack.
+/// error is want of memory.
 pub fn fill(
     alloc: Global,
     names: &mut Names,
     bindings: &mut [Binding],
     pattern: &Pattern,
-    may_be_high: bool,
 ) -> Result<Node, Memory>
     requires pattern { PatternNames (λ n. n < length names.old) pattern.now }
     ensures filled { IfOk result (λ node. Over names.new bindings.old (λ bs. map_names (name_at names.new) node
@@ -388,10 +381,6 @@ pub fn fill(
     ensures grows { Grows names.old names.new }
 {
     let node = filled_node(alloc, names, bindings, pattern)?;
-    let too_high = may_be_high && height(&node) > MOST_LEVELS;
-    if too_high {
-        return Err(Memory);
-    }
     // No text of the table has two numbers.
     let _ = names.len();
     Ok(node)

@@ -7,4 +7,4 @@ mod sequences;
 mod standing;
 
 pub use bindings::Binding;
-pub use filling::{MOST_LEVELS, fill};
+pub use filling::fill;

@@ -1,1 +1,2 @@
 pub mod LowCode
+pub mod OneLevel

@@ -1,6 +1,7 @@
 -- The heights of code by its slots, one slot after the other.
-use Rattle.std.proofs.Common.{◌≡◌, ◌<◌, ◌+◌, ℕ, Bool, true, false, not, ◌||◌, ◌&&◌, nat_le, List, [], ◌∷◌, length, map, take, get_or, Option, None, Some, option_map, slice_get, refl, sym, ap, ◌∙◌}
-use Rattle.std.specs.List.{list_all, cons_option}
+use Rattle.std.proofs.Common.{◌≡◌, ◌⊎◌, inl, inr, ◌<◌, ◌+◌, ℕ, zero, suc, Bool, true, false, true≢false, not, ◌||◌, ◌&&◌, nat_le, List, [], ◌∷◌, length, map, take, get_or, Option, None, Some, option_map, slice_get, refl, sym, ap, ◌∙◌}
+use Rattle.std.specs.Prelude.{if◌then◌else◌, nat_eq}
+use Rattle.std.specs.List.{list_all, list_any, cons_option}
 use Rattle.std.specs.Option.{option_map_or}
 use Rattle.std.proofs.lemmas.Option.{slice_get-get_or}
 use Rattle.std.proofs.lemmas.List.Folds.{list_all-map, list_all_more, list_all_at}
@@ -14,7 +15,7 @@ use Rattle.class_table.specs.declared.record.DoIt.{DoIt}
 use Rattle.class_table.specs.Slots.{Slots}
 use Rattle.class_table.specs.Valid.{IsLive}
 use Rattle.class_table.specs.View.{live, live_at, entry_of, doit_of, image_of}
-use Rattle.class_table.proofs.Live.{IsLive-first, IsLive-rest, there}
+use Rattle.class_table.proofs.Live.{IsLive-first, IsLive-rest, there, or_true, eqb-equal}
 use Rattle.class_questions.proofs.AnyLive.{live_at-live}
 use Rattle.command_model.specs.ParameterConditions.{is_low, is_shallow}
 use Rattle.parameter_questions.specs.Questions.{is_high}
@@ -47,6 +48,32 @@ turned true true e = absurd (cc)
 turned true false e = refl
 turned false true e = refl
 turned false false e = absurd (cc)
+
+-- a test that fails for one slot, and for one thing
+and-false : (a b : Bool) → b ≡ false → (a && b) ≡ false
+and-false true b f = f
+and-false false b f = refl
+
+live-false : (p : ℕ → Bool) (order : List ℕ) (k : ℕ) → IsLive order k → p k ≡ false → list_all p order ≡ false
+live-false p [] k l f = absurd (true≢false (sym l))
+live-false p (j ∷ js) k l f = by (or_true (nat_eq k j) (list_any (nat_eq k) js) l) (λ m. live-false p js k m f)
+  where
+    by : (nat_eq k j ≡ true) ⊎ (list_any (nat_eq k) js ≡ true) → (IsLive js k → list_all p js ≡ false) → list_all p (j ∷ js) ≡ false
+    by (inl e) rest = ap (λ (b : Bool). b && list_all p js) (ap p (sym (eqb-equal k j e)) ∙ f)
+    by (inr m) rest = and-false (p j) (list_all p js) (rest m)
+
+item-false : {X : Type 0} (p : X → Bool) (xs : List X) (n : ℕ) (x : X) → slice_get xs n ≡ Some x → p x ≡ false → list_all p xs ≡ false
+item-false p [] n x e f = absurd (cc)
+item-false p (y ∷ ys) zero x e f = let same : y ≡ x = cc in ap (λ (b : Bool). b && list_all p ys) (ap p same ∙ f)
+item-false p (y ∷ ys) (suc n) x e f = and-false (p y) (list_all p ys) (item-false p ys n x e f)
+
+-- a slot that holds something is live
+slot-live : {X : Type 0} (xs : List X) (order : List ℕ) (k : ℕ) (x : X) → live_at xs order k ≡ Some x → IsLive order k
+slot-live {X} xs order k x e = by (list_any (nat_eq k) order) refl e
+  where
+    by : (b : Bool) → list_any (nat_eq k) order ≡ b → (if b then slice_get xs k else None) ≡ Some x → IsLive order k
+    by true is f = is
+    by false is f = absurd (cc)
 
 -- the tests of the image are those of its slots
 module _ (s : Slots) where
@@ -81,6 +108,18 @@ module _ (s : Slots) where
   pub high-method : (order : List ℕ) (k n : ℕ) → order ≡ s.method_order → k < length order → n ≡ get_or order k n → is_low_method s n ≡ false → false ≡ is_shallow (image_of s)
   high-method order k n same l at high =
       image-by false (list_all is_doit_low s.doits) (ap (list_all (is_low_method s)) (sym same) ∙ list_all_at (is_low_method s) order k n l (ap (is_low_method s) (sym at) ∙ high)) refl
+
+  -- a method of a user that is too high, and a do-it
+  pub live-high : (k : ℕ) (m : MethodRec) → live_at s.methods s.method_order k ≡ Some m → m.kernel ≡ false → is_high (sequence_of m.tree.body) ≡ true → is_shallow (image_of s) ≡ false
+  live-high k m there user high =
+      let too : is_low_method s k ≡ false =
+      ap (λ (o : Option MethodRec). option_map_or is_method_low o true) there ∙ (λ i. user i || turned (is_low (sequence_of m.tree.body)) true high i) in
+      sym (image-by false (list_all is_doit_low s.doits) (live-false (is_low_method s) s.method_order k (slot-live s.methods s.method_order k m there) too) refl)
+
+  pub item-high : (n : ℕ) (d : DoIt) → slice_get s.doits n ≡ Some d → is_high (sequence_of d.body) ≡ true → is_shallow (image_of s) ≡ false
+  item-high n d there high =
+      let methods : Bool = list_all (is_low_method s) s.method_order in
+      sym (image-by methods false refl (item-false is_doit_low s.doits n d there (turned (is_low (sequence_of d.body)) true high))) ∙ and-false methods false refl
 
   -- a do-it
   module _ (k : ℕ) (l : k < length s.doits) where

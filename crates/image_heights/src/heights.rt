@@ -4,8 +4,8 @@ ghost use Rattle.class_table.specs.View.{image_of};
 ghost use Rattle.command_model.specs.ParameterConditions as model;
 ghost use Rattle.image_heights.specs.Low.{is_low_method};
 
+use crate::levels::is_high;
 use class_table::{Image, MethodSlot};
-use parameter_questions::is_high;
 use rb_base::Steps;
 use std::sync::ledger::Ledger;
 

@@ -31,11 +31,12 @@ use Rattle.pattern_model.specs.Rewritten.{RuleOf}
 use Rattle.patterns.specs.declared.tree.Rule.{Rule}
 use Rattle.rewrite_model.specs.Notes.{equal_sequence}
 use Rattle.rewrite_model.specs.Rewritten.{rewritten_entry, rewritten_doit, rewritten_image}
-use Rattle.remade_plans.specs.Remade.{Remaking, entry_after, doit_after, image_after, change_at, changes_at, touched}
+use Rattle.plan_laws.proofs.Applied.{IsOf, Keeps, all-keep, all-there, all-given}
+use Rattle.remade_plans.specs.Remade.{Remaking, entry_after, doit_after, image_after, method_rec_after, doit_rec_after, change_at, changes_at, touched}
 use Rattle.remade_plans.proofs.RemadeCode.{given-method, given-doit}
 use Rattle.remade_plans.proofs.Whole.{remade-can, remade-image, remade-names, remade-orderly, remade-fit, remade-touched}
 use Rattle.image_rewriting.specs.Changed.{rule_of, KnowsRule}
-use Rattle.image_rewriting.specs.Planned.{renamed, text_after, number_after, is_changed, remaking, HasNumbers, HasNumbersAt, places_of, IsRulePlan}
+use Rattle.image_rewriting.specs.Planned.{renamed, text_after, number_after, is_changed, remaking, HasNumbers, HasNumbersAt, places_of, StandsIn, IsRulePlan}
 use Rattle.image_rewriting.proofs.Entries.{kernel-stays, equal-stays, entry-made, doit-stays, doit-made}
 use Rattle.image_rewriting.proofs.Grown.{same-image, still-orderly}
 use Rattle.image_rewriting.proofs.Places.{FoundSoFar, method-listed, doit-listed, all-listed}
@@ -197,10 +198,32 @@ module _ (s : Slots) (names : List Text) (r : Rule) (o : IsOrderly (renamed s na
   listed (place.Method k) c h = let g = given-method u q k c h in method-listed s k g.live
   listed (place.DoIt n) c h = let g = given-doit u q n c h in doit-listed s n (slice_get_within s.doits n g.rec g.there)
 
+  -- each is of the code at its place, and what it puts in stands there after all of them
+  own : (p : Place) (c : Change) → change_at u q p ≡ Some c → IsOf (length s.methods) (length s.doits) p c
+  own (place.Method k) c h = let g = given-method u q k c h in (method_rec_after u q g.rec, slice_get_within s.methods k g.rec g.there, g.is)
+  own (place.DoIt n) c h = let g = given-doit u q n c h in (doit_rec_after u q g.rec, slice_get_within s.doits n g.rec g.there, g.is)
+
+  abbrev after : Slots
+  after = all_applied u (changes_at u q (places_of s))
+
+  stands : (p : Place) (c : Change) → change_at u q p ≡ Some c → StandsIn after c
+  stands (place.Method k) c h =
+      let g = given-method u q k c h in
+      let m : MethodRec = method_rec_after u q g.rec in
+      let keeps : Keeps u after = all-keep (change_at u q) (length s.methods) (length s.doits) own (places_of s) u in
+      let there : slice_get after.methods k ≡ Some m =
+      all-there (change_at u q) (length s.methods) (length s.doits) own (place.Method k) m (h ∙ ap Some g.is) (slice_get_within s.methods k g.rec g.there) (places_of s) u refl refl (inl (listed (place.Method k) c h)) in
+      let live : live_at after.methods after.method_order k ≡ Some m =
+      (λ i. live_at after.methods (keeps.method_order i) k) ∙ ap (λ (b : Bool). if b then slice_get after.methods k else None) g.live ∙ there in
+      subst (StandsIn after) (sym g.is) (not-true g.rec.kernel (and_parts (not g.rec.kernel) (is_changed names r (sequence_of g.rec.tree.body)) g.changes).0, live)
+  stands (place.DoIt n) c h =
+      let g = given-doit u q n c h in
+      subst (StandsIn after) (sym g.is)
+      (all-there (change_at u q) (length s.methods) (length s.doits) own (place.DoIt n) (doit_rec_after u q g.rec) (h ∙ ap Some g.is) (slice_get_within s.doits n g.rec g.there) (places_of s) u refl refl (inl (listed (place.DoIt n) c h)))
+
   -- the changes of all places are a plan
   all-planned : IsRulePlan u rule (changes_at u q (places_of s)) (touched u q (places_of s))
   all-planned =
-      let after : Slots = all_applied u (changes_at u q (places_of s)) in
       let kept : after.names ≡ names = remade-names u q (places_of s) o known-after listed in
       record {
         can = remade-can u q (places_of s) o known-after listed;
@@ -208,6 +231,7 @@ module _ (s : Slots) (names : List Text) (r : Rule) (o : IsOrderly (renamed s na
         effect = (λ i. map_image (name_at (kept i)) (remade-image u q (places_of s) o known-after listed i)) ∙ image-made;
         names = kept;
         orderly = remade-orderly u q (places_of s) o known-after listed;
+        standing = all-given (StandsIn after) (change_at u q) (places_of s) (λ p c there e. stands p c e);
         touched = remade-touched u q (places_of s) o known-after listed;
       }
 

@@ -16,6 +16,7 @@ use Rattle.class_table.specs.Slots.{Slots}
 use Rattle.class_table.specs.View.{live_at, image_of}
 use Rattle.class_table.specs.Valid.{IsOrderly}
 use Rattle.change_set.specs.declared.change.Change.{Change}
+use Rattle.change_set.specs.declared.change.Change.TheVariants as change
 use Rattle.change_set.specs.Changes.{all_applied, CanApplyAll}
 use Rattle.wider_slots.specs.Closed.{FitsIn}
 use Rattle.reference_index.specs.Mentioned.{DiffersAtMost}
@@ -79,11 +80,20 @@ doit_places (suc n) = doit_places n ++ place.DoIt n ∷ []
 abbrev pub places_of : Slots → List Place
 places_of s = map place.Method s.method_order ++ doit_places (length s.doits)
 
--- The changes can be applied, each at its turn, and make the image what the rule makes of it, over the same table of names; code that mentions other names then stands at one of the places.
+-- what a change puts in stands there: a live method of a user, or a do-it
+abbrev pub StandsIn : Slots → Change → Type 0
+StandsIn s (change.Class id rec) = ⊥
+StandsIn s (change.Method k m) = (m.kernel ≡ false) × (live_at s.methods s.method_order k ≡ Some m)
+StandsIn s (change.DoIt n d) = slice_get s.doits n ≡ Some d
+StandsIn s (change.Part at path part source) = ⊥
+StandsIn s (change.Live what at) = ⊥
+
+-- The changes can be applied, each at its turn, and make the image what the rule makes of it, over the same table of names; what each puts in stands there then, and code that mentions other names then stands at one of the places.
 pub record IsRulePlan (s : Slots) (rule : RuleOf Text) (changes : List Change) (places : List Place) : Type 0 where
   pub can : CanApplyAll s changes
   pub fit : AllByRecursion (FitsIn s) changes
   pub effect : image_of (all_applied s changes) ≡ rewritten_image rule (image_of s)
   pub names : (all_applied s changes).names ≡ s.names
   pub orderly : IsOrderly (all_applied s changes)
+  pub standing : AllByRecursion (StandsIn (all_applied s changes)) changes
   pub touched : DiffersAtMost s (all_applied s changes) places

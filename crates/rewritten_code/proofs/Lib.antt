@@ -7,4 +7,3 @@ pub mod Written
 pub mod Matching
 pub mod NodeKinds
 pub mod Bodies
-pub mod LiteralWeights

@@ -19,22 +19,12 @@ ghost use Rattle.filled_patterns.specs.Bound.{BoundNames, BindingNames};
 ghost use Rattle.rewritten_code.specs.Changed.{is_whole, IsWhole, Paired, RuleNames, becomes, replaced, AreBoundIn, IsNoMatch, IsChanged, IsMessageChanged, IsStatementChanged, IsBoundChanged, IsBindingChanged, AreChanged};
 ghost use Rattle.rewritten_code.specs.Lower.{bindings_height};
 
-use crate::levels::may_be_high;
 use filled_patterns::{Binding, fill};
 use pattern_match::{Bound, Held, Standing, copied, match_at, put_metas, same_meta};
 use patterns::{Meta, Pattern, PatternKind, Rule};
 use rb_base::{Ids, Memory, NameId, Names};
 use st_tree::{Literal, Message, Messages, Node, NodeKind, Nodes, Sequence, Statement, Statements};
 use std::alloc::Global;
-
-/// What is known before a rule is applied to a body.
-#[derive(Drop)]
-struct Plan {
-    /// The metavariables of the replacement, each as often as it stands there.
-    wanted: Vec<Meta>,
-    /// Whether what is made can have too many levels.
-    may_be_high: bool,
-}
 
 /// Whether the metavariable is wanted at one place only.
 fn is_single(wanted: &[Meta], meta: Meta) -> bool
@@ -116,7 +106,7 @@ fn replaced(
     alloc: Global,
     names: &mut Names,
     rule: &Rule,
-    plan: &Plan,
+    wanted: &[Meta],
     meta: Meta,
     node: Node,
 ) -> Result<Node, Memory>
@@ -131,15 +121,9 @@ fn replaced(
     }
     let bound = Bound::Part(Box::new(alloc, node)?);
     let mut bindings = Vec::new(alloc);
-    let single = is_single(&plan.wanted, meta);
+    let single = is_single(wanted, meta);
     bindings.push(binding_for(single, meta, bound))?;
-    fill(
-        alloc,
-        names,
-        bindings.as_mut_slice(),
-        &rule.replacement,
-        plan.may_be_high,
-    )
+    fill(alloc, names, bindings.as_mut_slice(), &rule.replacement)
 }
 
 /// What becomes of a node.
@@ -148,7 +132,7 @@ fn rewritten_node(
     alloc: Global,
     names: &mut Names,
     rule: &Rule,
-    plan: &Plan,
+    wanted: &[Meta],
     node: &Node,
 ) -> Result<Node, Memory>
     requires rule { RuleNames names.old rule.now }
@@ -158,10 +142,10 @@ fn rewritten_node(
 {
     match whole_meta(&rule.pattern) {
         Some(meta) => {
-            let below = rewritten_below(alloc, names, rule, plan, &node.kind)?;
-            replaced(alloc, names, rule, plan, meta, below)
+            let below = rewritten_below(alloc, names, rule, wanted, &node.kind)?;
+            replaced(alloc, names, rule, wanted, meta, below)
         }
-        None => rewritten_match(alloc, names, rule, plan, node),
+        None => rewritten_match(alloc, names, rule, wanted, node),
     }
 }
 
@@ -171,7 +155,7 @@ fn rewritten_match(
     alloc: Global,
     names: &mut Names,
     rule: &Rule,
-    plan: &Plan,
+    wanted: &[Meta],
     node: &Node,
 ) -> Result<Node, Memory>
     requires rule { RuleNames names.old rule.now }
@@ -181,16 +165,10 @@ fn rewritten_match(
     ensures grows { Grows names.old names.new }
 {
     match bindings_at(alloc, names, &rule.pattern, node)? {
-        None => rewritten_below(alloc, names, rule, plan, &node.kind),
+        None => rewritten_below(alloc, names, rule, wanted, &node.kind),
         Some(held) => {
-            let mut bindings = rewritten_bindings(alloc, names, rule, plan, held.as_slice())?;
-            fill(
-                alloc,
-                names,
-                bindings.as_mut_slice(),
-                &rule.replacement,
-                plan.may_be_high,
-            )
+            let mut bindings = rewritten_bindings(alloc, names, rule, wanted, held.as_slice())?;
+            fill(alloc, names, bindings.as_mut_slice(), &rule.replacement)
         }
     }
 }
@@ -201,7 +179,7 @@ fn rewritten_below(
     alloc: Global,
     names: &mut Names,
     rule: &Rule,
-    plan: &Plan,
+    wanted: &[Meta],
     kind: &NodeKind,
 ) -> Result<Node, Memory>
     requires rule { RuleNames names.old rule.now }
@@ -220,19 +198,19 @@ fn rewritten_below(
             arguments,
         } => {
             let arguments = arguments.as_slice();
-            rewritten_send(alloc, names, rule, plan, receiver, *selector, arguments)
+            rewritten_send(alloc, names, rule, wanted, receiver, *selector, arguments)
         }
         NodeKind::Cascade { receiver, messages } => {
-            rewritten_cascade(alloc, names, rule, plan, receiver, messages.as_slice())
+            rewritten_cascade(alloc, names, rule, wanted, receiver, messages.as_slice())
         }
         NodeKind::Assign { name, value } => {
-            rewritten_assignment(alloc, names, rule, plan, *name, value)
+            rewritten_assignment(alloc, names, rule, wanted, *name, value)
         }
         NodeKind::Block { parameters, body } => {
-            rewritten_block(alloc, names, rule, plan, parameters, body)
+            rewritten_block(alloc, names, rule, wanted, parameters, body)
         }
-        NodeKind::Brace { items } => rewritten_brace(alloc, names, rule, plan, items.as_slice()),
-        NodeKind::Return { value } => rewritten_return(alloc, names, rule, plan, value),
+        NodeKind::Brace { items } => rewritten_brace(alloc, names, rule, wanted, items.as_slice()),
+        NodeKind::Return { value } => rewritten_return(alloc, names, rule, wanted, value),
     }
 }
 
@@ -242,7 +220,7 @@ fn boxed_node(
     alloc: Global,
     names: &mut Names,
     rule: &Rule,
-    plan: &Plan,
+    wanted: &[Meta],
     node: &Node,
 ) -> Result<Box<Node>, Memory>
     requires rule { RuleNames names.old rule.now }
@@ -250,7 +228,7 @@ fn boxed_node(
     ensures changed { IfOk result (λ made. (final : List (List ℕ)) → Grows names.new final → IsChanged final (becomes final rule.now) node.now made.value) }
     ensures grows { Grows names.old names.new }
 {
-    let made = rewritten_node(alloc, names, rule, plan, node)?;
+    let made = rewritten_node(alloc, names, rule, wanted, node)?;
     Ok(Box::new(alloc, made)?)
 }
 
@@ -260,7 +238,7 @@ fn rewritten_send(
     alloc: Global,
     names: &mut Names,
     rule: &Rule,
-    plan: &Plan,
+    wanted: &[Meta],
     receiver: &Node,
     selector: NameId,
     arguments: &[Node],
@@ -272,8 +250,8 @@ fn rewritten_send(
     ensures changed { IfOk result (λ made. (final : List (List ℕ)) → Grows names.new final → IsChanged final (each_child (becomes final rule.now)) (send receiver.now selector (trees_of arguments.now)) made) }
     ensures grows { Grows names.old names.new }
 {
-    let receiver = boxed_node(alloc, names, rule, plan, receiver)?;
-    let arguments = rewritten_nodes(alloc, names, rule, plan, arguments)?;
+    let receiver = boxed_node(alloc, names, rule, wanted, receiver)?;
+    let arguments = rewritten_nodes(alloc, names, rule, wanted, arguments)?;
     Ok(Node {
         kind: NodeKind::Send {
             receiver,
@@ -289,7 +267,7 @@ fn rewritten_cascade(
     alloc: Global,
     names: &mut Names,
     rule: &Rule,
-    plan: &Plan,
+    wanted: &[Meta],
     receiver: &Node,
     messages: &[Message],
 ) -> Result<Node, Memory>
@@ -299,8 +277,8 @@ fn rewritten_cascade(
     ensures changed { IfOk result (λ made. (final : List (List ℕ)) → Grows names.new final → IsChanged final (each_child (becomes final rule.now)) (cascade receiver.now (messages_of messages.now)) made) }
     ensures grows { Grows names.old names.new }
 {
-    let receiver = boxed_node(alloc, names, rule, plan, receiver)?;
-    let messages = rewritten_messages(alloc, names, rule, plan, messages)?;
+    let receiver = boxed_node(alloc, names, rule, wanted, receiver)?;
+    let messages = rewritten_messages(alloc, names, rule, wanted, messages)?;
     Ok(Node {
         kind: NodeKind::Cascade { receiver, messages },
     })
@@ -312,7 +290,7 @@ fn rewritten_assignment(
     alloc: Global,
     names: &mut Names,
     rule: &Rule,
-    plan: &Plan,
+    wanted: &[Meta],
     name: NameId,
     value: &Node,
 ) -> Result<Node, Memory>
@@ -322,7 +300,7 @@ fn rewritten_assignment(
     ensures changed { IfOk result (λ made. (final : List (List ℕ)) → Grows names.new final → IsChanged final (each_child (becomes final rule.now)) (assign name value.now) made) }
     ensures grows { Grows names.old names.new }
 {
-    let value = boxed_node(alloc, names, rule, plan, value)?;
+    let value = boxed_node(alloc, names, rule, wanted, value)?;
     Ok(Node {
         kind: NodeKind::Assign { name, value },
     })
@@ -334,7 +312,7 @@ fn rewritten_block(
     alloc: Global,
     names: &mut Names,
     rule: &Rule,
-    plan: &Plan,
+    wanted: &[Meta],
     parameters: &Ids,
     body: &Sequence,
 ) -> Result<Node, Memory>
@@ -345,7 +323,7 @@ fn rewritten_block(
     ensures changed { IfOk result (λ made. (final : List (List ℕ)) → Grows names.new final → IsChanged final (each_child (becomes final rule.now)) (block parameters.now body.now.temporaries (statements_of body.now.statements) body.now.tail) made) }
     ensures grows { Grows names.old names.new }
 {
-    let statements = rewritten_statements(alloc, names, rule, plan, body.statements.as_slice())?;
+    let statements = rewritten_statements(alloc, names, rule, wanted, body.statements.as_slice())?;
     let made = with_statements(alloc, body, statements)?;
     let body = Box::new(alloc, made)?;
     let parameters = parameters.try_copy(alloc)?;
@@ -360,7 +338,7 @@ fn rewritten_brace(
     alloc: Global,
     names: &mut Names,
     rule: &Rule,
-    plan: &Plan,
+    wanted: &[Meta],
     items: &[Node],
 ) -> Result<Node, Memory>
     requires rule { RuleNames names.old rule.now }
@@ -368,7 +346,7 @@ fn rewritten_brace(
     ensures changed { IfOk result (λ made. (final : List (List ℕ)) → Grows names.new final → IsChanged final (each_child (becomes final rule.now)) (brace (trees_of items.now)) made) }
     ensures grows { Grows names.old names.new }
 {
-    let items = rewritten_nodes(alloc, names, rule, plan, items)?;
+    let items = rewritten_nodes(alloc, names, rule, wanted, items)?;
     Ok(Node {
         kind: NodeKind::Brace { items },
     })
@@ -380,7 +358,7 @@ fn rewritten_return(
     alloc: Global,
     names: &mut Names,
     rule: &Rule,
-    plan: &Plan,
+    wanted: &[Meta],
     value: &Node,
 ) -> Result<Node, Memory>
     requires rule { RuleNames names.old rule.now }
@@ -388,7 +366,7 @@ fn rewritten_return(
     ensures changed { IfOk result (λ made. (final : List (List ℕ)) → Grows names.new final → IsChanged final (each_child (becomes final rule.now)) (return value.now) made) }
     ensures grows { Grows names.old names.new }
 {
-    let value = boxed_node(alloc, names, rule, plan, value)?;
+    let value = boxed_node(alloc, names, rule, wanted, value)?;
     Ok(Node {
         kind: NodeKind::Return { value },
     })
@@ -400,7 +378,7 @@ fn rewritten_nodes(
     alloc: Global,
     names: &mut Names,
     rule: &Rule,
-    plan: &Plan,
+    wanted: &[Meta],
     nodes: &[Node],
 ) -> Result<Nodes, Memory>
     requires rule { RuleNames names.old rule.now }
@@ -410,7 +388,7 @@ fn rewritten_nodes(
 {
     let mut made = Vec::new(alloc);
     for node in nodes {
-        let one = rewritten_node(alloc, names, rule, plan, node)?;
+        let one = rewritten_node(alloc, names, rule, wanted, node)?;
         made.push(one)?;
     }
     Ok(Nodes::from_vec(made))
@@ -422,7 +400,7 @@ fn rewritten_messages(
     alloc: Global,
     names: &mut Names,
     rule: &Rule,
-    plan: &Plan,
+    wanted: &[Meta],
     messages: &[Message],
 ) -> Result<Messages, Memory>
     requires rule { RuleNames names.old rule.now }
@@ -432,7 +410,7 @@ fn rewritten_messages(
 {
     let mut made = Vec::new(alloc);
     for message in messages {
-        let arguments = rewritten_nodes(alloc, names, rule, plan, message.arguments.as_slice())?;
+        let arguments = rewritten_nodes(alloc, names, rule, wanted, message.arguments.as_slice())?;
         made.push(Message {
             selector: message.selector,
             arguments,
@@ -447,7 +425,7 @@ fn rewritten_statements(
     alloc: Global,
     names: &mut Names,
     rule: &Rule,
-    plan: &Plan,
+    wanted: &[Meta],
     statements: &[Statement],
 ) -> Result<Statements, Memory>
     requires rule { RuleNames names.old rule.now }
@@ -458,7 +436,7 @@ fn rewritten_statements(
     let mut made = Vec::new(alloc);
     for statement in statements {
         let comments = statement.comments.try_copy(alloc)?;
-        let node = rewritten_node(alloc, names, rule, plan, &statement.node)?;
+        let node = rewritten_node(alloc, names, rule, wanted, &statement.node)?;
         made.push(Statement { comments, node })?;
     }
     Ok(Statements::from_vec(made))
@@ -470,7 +448,7 @@ fn rewritten_part<'n>(
     alloc: Global,
     names: &mut Names,
     rule: &Rule,
-    plan: &Plan,
+    wanted: &[Meta],
     standing: &Standing<'n>,
 ) -> Result<Bound, Memory>
     requires rule { RuleNames names.old rule.now }
@@ -480,15 +458,15 @@ fn rewritten_part<'n>(
 {
     match standing {
         Standing::Part(node) => {
-            let made = boxed_node(alloc, names, rule, plan, node)?;
+            let made = boxed_node(alloc, names, rule, wanted, node)?;
             Ok(Bound::Part(made))
         }
         Standing::Run(run) => {
-            let run = rewritten_statements(alloc, names, rule, plan, run)?;
+            let run = rewritten_statements(alloc, names, rule, wanted, run)?;
             Ok(Bound::Run(run))
         }
         Standing::Message(selector, arguments) => {
-            let arguments = rewritten_nodes(alloc, names, rule, plan, arguments)?;
+            let arguments = rewritten_nodes(alloc, names, rule, wanted, arguments)?;
             Ok(Bound::Whole(Message {
                 selector: *selector,
                 arguments,
@@ -504,7 +482,7 @@ fn rewritten_binding<'n>(
     alloc: Global,
     names: &mut Names,
     rule: &Rule,
-    plan: &Plan,
+    wanted: &[Meta],
     held: &Held<'n>,
 ) -> Result<Binding, Memory>
     requires rule { RuleNames names.old rule.now }
@@ -512,9 +490,9 @@ fn rewritten_binding<'n>(
     ensures changed { IfOk result (λ made. (final : List (List ℕ)) → Grows names.new final → IsBindingChanged final (becomes final rule.now) (held_of held.now) made) }
     ensures grows { Grows names.old names.new }
 {
-    let single = is_single(&plan.wanted, held.meta);
+    let single = is_single(wanted, held.meta);
     if held.meta.doubled {
-        let part = rewritten_part(alloc, names, rule, plan, &held.bound)?;
+        let part = rewritten_part(alloc, names, rule, wanted, &held.bound)?;
         Ok(binding_for(single, held.meta, part))
     } else {
         let part = copied(alloc, &held.bound)?;
@@ -528,7 +506,7 @@ fn rewritten_bindings<'n>(
     alloc: Global,
     names: &mut Names,
     rule: &Rule,
-    plan: &Plan,
+    wanted: &[Meta],
     held: &[Held<'n>],
 ) -> Result<Vec<Binding>, Memory>
     requires rule { RuleNames names.old rule.now }
@@ -538,7 +516,7 @@ fn rewritten_bindings<'n>(
 {
     let mut made = Vec::new(alloc);
     for one in held {
-        let binding = rewritten_binding(alloc, names, rule, plan, one)?;
+        let binding = rewritten_binding(alloc, names, rule, wanted, one)?;
         made.push(binding)?;
     }
     Ok(made)
@@ -566,11 +544,6 @@ pub fn rewrite_body(
     let mut wanted = Vec::new(alloc);
     put_metas(&rule.replacement, &mut wanted)?;
     let statements = body.statements.as_slice();
-    let may_be_high = may_be_high(statements, &rule.replacement);
-    let plan = Plan {
-        wanted,
-        may_be_high,
-    };
-    let statements = rewritten_statements(alloc, names, rule, &plan, statements)?;
+    let statements = rewritten_statements(alloc, names, rule, wanted.as_slice(), statements)?;
     with_statements(alloc, body, statements)
 }

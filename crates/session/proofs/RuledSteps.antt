@@ -1,6 +1,7 @@
 -- Code is rewritten by a rule with a certificate after others.
-use Rattle.std.proofs.Common.{◌≡◌, ◌<◌, ℕ, Bool, true, false, not, ◌&&◌, List, [], ◌∷◌, length, map, find, Option, Some, None, Result, Ok, Err, refl, sym, ap, subst, ◌∙◌}
+use Rattle.std.proofs.Common.{◌≡◌, ◌⊎◌, inl, inr, ◌<◌, ℕ, Bool, true, false, true≢false, not, ◌&&◌, List, [], ◌∷◌, length, map, find, Option, Some, None, Result, Ok, Err, refl, sym, ap, subst, ◌∙◌}
 use Rattle.std.specs.Prelude.{IfErr, is_none}
+use Rattle.std.specs.List.{AllByRecursion, list_any}
 use Rattle.std.specs.Option.{option_map_or}
 use Rattle.std.proofs.lemmas.List.{append-nil}
 use Rattle.rb_base.specs.Names.{HasNoTwice, name_at}
@@ -12,7 +13,9 @@ use Rattle.class_table.specs.declared.record.Place.{Place}
 use Rattle.class_table.specs.Slots.{Slots}
 use Rattle.class_table.specs.Valid.{IsOrderly}
 use Rattle.class_table.specs.View.{number_image, image_of}
+use Rattle.class_table.proofs.Live.{or_true}
 use Rattle.change_set.specs.declared.change.Change.{Change}
+use Rattle.change_set.specs.declared.change.Change.TheVariants as change
 use Rattle.change_set.specs.Changes.{all_applied, inverses}
 use Rattle.history_model.specs.History.{by_result, after_action, version_after}
 use Rattle.rename_model.specs.CommandWords.{text_command_words}
@@ -47,7 +50,9 @@ use Rattle.wider_slots.specs.Logs.{CanDoAgain}
 use Rattle.wider_slots.specs.Wider.{More, widened, Wider, MoreWithin}
 use Rattle.wider_slots.proofs.Opened.{more-closed}
 use Rattle.image_rewriting.specs.Changed.{rule_of}
-use Rattle.image_rewriting.specs.Planned.{IsRulePlan}
+use Rattle.image_heights.specs.High.{is_high_change}
+use Rattle.image_heights.proofs.LowCode.{live-high, item-high}
+use Rattle.image_rewriting.specs.Planned.{StandsIn, IsRulePlan}
 use Rattle.image_rewriting.proofs.SameRule.{same-rule, still-known}
 use Rattle.session.specs.Log.{DoneCommand, Done, with_command}
 use Rattle.session.specs.History.{version_behind, renamed_back}
@@ -147,6 +152,31 @@ rule-refused s x d r t f q room told why =
     let both : Some q ≡ Some w = sym told ∙ is in
     let one : q ≡ w = cc in
     why r' ∙ ap {B = Result Version Reason} (λ z. Err z) one)
+
+-- where the tree of a change that stands in slots is too high, they are not shallow
+change-high : (s : Slots) (c : Change) → StandsIn s c → is_high_change c ≡ true → is_shallow (image_of s) ≡ false
+change-high s (change.Class id rec) stands high = absurd stands
+change-high s (change.Method k m) stands high = live-high s k m stands.1 stands.0 high
+change-high s (change.DoIt n d) stands high = item-high s n d stands high
+change-high s (change.Part at path part source) stands high = absurd stands
+change-high s (change.Live what at) stands high = absurd stands
+
+changes-high : (s : Slots) (cs : List Change) → AllByRecursion (StandsIn s) cs → list_any is_high_change cs ≡ true → is_shallow (image_of s) ≡ false
+changes-high s [] stand high = absurd (true≢false (sym high))
+changes-high s (c ∷ cs) stand high = by (or_true (is_high_change c) (list_any is_high_change cs) high) (λ h. changes-high s cs stand.1 h)
+  where
+    by : (is_high_change c ≡ true) ⊎ (list_any is_high_change cs ≡ true) → (list_any is_high_change cs ≡ true → is_shallow (image_of s) ≡ false) → is_shallow (image_of s) ≡ false
+    by (inl h) rest = change-high s c stand.0 h
+    by (inr h) rest = rest h
+
+-- a tree of one of its changes is too high, and none of them is made
+pub rule-high-first : (s p : Slots) (x : Mentioned) (d : Done) (r : RuleRequest) (cs : List Change) (places : List Place) → IsClosed s → p ≡ record s { names = p.names } → Grows s.names p.names → HasNoTwice p.names → IsRulePlan p (rule_of s.names r.rule) cs places
+    → has_no_reflection text_command_words (image_of s) ≡ true → is_derived (command_in s.names r) ≡ true → list_any is_high_change cs ≡ true → IsMadeOf s x d (ruling s.names r) p x d (telling r) (Err (refusal.Condition condition.Shallow))
+rule-high-first s p x d r cs places closed rest grows once plan quiet derived high =
+    let room : Wider s p = wider-names s p closed rest grows once in
+    let made : image_of (all_applied p cs) ≡ rule_effect (command_in s.names r) (image_of s) = plan.effect ∙ ap (rule_effect (command_in s.names r)) (room-image s p room) in
+    let low : is_shallow (rule_effect (command_in s.names r) (image_of s)) ≡ false = ap is_shallow (sym made) ∙ changes-high (all_applied p cs) cs plan.standing high in
+    rule-refused s x d r p (refusal.Condition condition.Shallow) (Unmet Shallow) room refl (λ q. rule-high (version_behind s q d.commands) (command_in s.names r) quiet derived low)
 
 -- the changes of a rule are made in slots whose names may be more
 module _ (s p t : Slots) (x y : Mentioned) (d e : Done) (r : RuleRequest) (cs : List Change) (places : List Place) (first : Slots) (way : IsUnderWay first s x d)

@@ -25,7 +25,7 @@ use command_numbers::commands_by_numbers;
 use commands::Condition;
 use conditions::has_no_reflection;
 use derivations::{Derivation, derives};
-use image_heights::is_shallow;
+use image_heights::{is_shallow, makes_high};
 use image_rewriting::plan_rule;
 use rb_base::{Memory, Steps};
 use reference_index::Index;
@@ -54,7 +54,7 @@ fn is_derived(alloc: Global, image: &mut Image, request: &RuleRequest) -> Result
 }
 
 /// Rewrites all code of users after others, by a rule that its certificate derives, if no code looks at the program itself. It is
-/// refused if a tree is too high then.
+/// refused if a tree is too high then; if a change makes one, no change is made.
 fn rewrite<L: Ledger>(
     alloc: Global,
     image: &mut Image,
@@ -70,6 +70,9 @@ fn rewrite<L: Ledger>(
     ensures { IsMadeOf image.old index.old done.old (λ v. after_action ruled v (Applies (command_in image.old.names request.now))) image.new index.new done.new (rule_told (command_in image.old.names request.now).certificate) result }
 {
     let planned = plan_rule(alloc, image, &request.rule, steps)?;
+    if makes_high(planned.changes.as_slice()) {
+        return Err(RuleRefusal::Condition(Condition::Shallow));
+    }
     carry_out(image, index, planned, Renames::Nothing, done, steps)?;
     if is_shallow(image, steps) {
         Ok(())

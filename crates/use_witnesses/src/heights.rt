@@ -21,7 +21,8 @@ use code_conditions::{is_place_high, self_name, with_body, with_temporary, with_
 use commands::{CodeMove, Command, MethodName, MethodPart};
 use extracted_code::{Extracted, extract};
 use hierarchy_questions::own_method;
-use parameter_questions::{Fault, Question, is_high, is_place_found};
+use image_heights::is_high;
+use parameter_questions::{Fault, Question, is_place_found};
 use part_lookup::kept_part;
 use rb_base::{Memory, NameId, Steps};
 use st_tree::Method;

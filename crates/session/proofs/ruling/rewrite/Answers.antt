@@ -1,7 +1,10 @@
-use Rattle.std.proofs.Common.{refl, sym, ◌∙◌}
+use Rattle.std.proofs.Common.{List, refl, sym, ap, ◌∙◌}
+use Rattle.std.specs.List.{list_any}
 use Rattle.std.proofs.lemmas.Result.{err_from_is_err_and}
+use Rattle.change_set.specs.declared.change.Change.{Change}
+use Rattle.image_heights.specs.High.{is_high_change}
 use Rattle.session.proofs.Made.{made-wanting}
-use Rattle.session.proofs.RuledSteps.{wider-names, ruling, telling, rule-made, rule-too-high}
+use Rattle.session.proofs.RuledSteps.{wider-names, ruling, telling, rule-high-first, rule-made, rule-too-high}
 use Rattle.session.proofs.ruling.rewrite.Goals as goal
 
 pub plan_rule-requires-clause-orderly : goal.plan_rule-requires-clause-orderly
@@ -19,6 +22,13 @@ returns-in_err-planned g c =
     let plan = c.in_err-planned.ensures in
     rw (q.1, q.2) (
     made-wanting s c.args.index.now c.args.done.now (ruling s.names r) (telling r) p c.args.index.now c.args.done.now _ (wider-names s p c.requires.under_way.1.closed plan.rest plan.grows plan.once) refl refl (λ names. refl))
+
+pub returns-then-makes_high : goal.returns-then-makes_high
+returns-then-makes_high g c =
+    let plan = c.in_ok-planned.ensures in
+    let changes : List Change = c.in_ok-planned.planned.changes in
+    rule-high-first c.args.image.now c.plan_rule.new.image c.args.index.now c.args.done.now c.args.request.now changes c.in_ok-planned.planned.touched.items c.requires.under_way.1.closed plan.rest plan.grows plan.once plan.plan
+    c.requires.quiet c.requires.derived (sym (ap (list_any is_high_change) c.as_slice.ensures) ∙ sym c.makes_high.ensures ∙ c.if-makes_high.true)
 
 pub returns-in_err-carry_out : goal.returns-in_err-carry_out
 returns-in_err-carry_out g c =
