@@ -6,12 +6,12 @@ use Rattle.image_model.specs.Image.{ImageOf}
 use Rattle.run_model.specs.Values.{Outcome, done, failed, spent}
 use Rattle.run_model.specs.Runs.{run}
 use Rattle.query_model.specs.Queries.{QueryOf}
-use Rattle.command_words.specs.Forms.{Form, Apply, Changes, Team, Import, Format, Run, Find, Strip, Search, Rewrite, Demo, Help, Version, NoForm, form_of}
+use Rattle.command_words.specs.Forms.{Form, Apply, Changes, Why, Team, Import, Format, Run, Find, Strip, Search, Rewrite, Demo, Help, Version, NoForm, form_of}
 use Rattle.image_forms.specs.declared.status.Status.{Status}
 use Rattle.image_forms.specs.declared.status.Status.TheVariants as status
 use Rattle.image_forms.specs.Statuses.{number_of}
 use Rattle.image_forms.specs.Loads.{World, Loads, Given, Refused, Refuses}
-use Rattle.image_forms.specs.Answers.{status_applied, Applies, PlaysLog, WritesChanges, Imports, NotImported, Imported, Formats, Formatted, Refused as Stopped, status_of, RunsIn, NoDoIt, Ran, Runs, NoImage, InImage, Finds, NoImageThere, Found, StripsIn, NoStart, Stripped, Strips, NoImageToStrip, StripsImage, OfImage, Unread, Read, SearchesIn, NoPattern, Matched, RewritesIn, NoRule, NoReplacement, Rewritten, ChangesIn, Unchanged, Changed, DemosIn, NoExpression, Shown, AnswersForm, Answers, image_limit, script_limit}
+use Rattle.image_forms.specs.Answers.{status_applied, Applies, Explains, PlaysLog, WritesChanges, Imports, NotImported, Imported, Formats, Formatted, Refused as Stopped, status_of, RunsIn, NoDoIt, Ran, Runs, NoImage, InImage, Finds, NoImageThere, Found, StripsIn, NoStart, Stripped, Strips, NoImageToStrip, StripsImage, OfImage, Unread, Read, SearchesIn, NoPattern, Matched, RewritesIn, NoRule, NoReplacement, Rewritten, ChangesIn, Unchanged, Changed, DemosIn, NoExpression, Shown, AnswersForm, Answers, image_limit, script_limit}
 
 -- the status does not say that the output failed
 abbrev IsOther : Status → Type 0
@@ -39,6 +39,9 @@ applies text script s x a = other s (status_applied a.verdict) a.status (verdict
 
 writes : (text script : List ℕ) (s : Status) (x : List ℕ) → WritesChanges text script s x → IsOther s
 writes text script s x a = other s (status_applied a.verdict) a.status (verdict_other a.verdict)
+
+explains : (text script : List ℕ) (s : Status) (x : List ℕ) → Explains text script s x → IsOther s
+explains text script s x a = other s (status_applied a.verdict) a.status (verdict_other a.verdict)
 
 plays : (text log : List ℕ) (s : Status) (x : List ℕ) → PlaysLog text log s x → IsOther s
 plays text log s x p = other s (status_applied p.verdict) p.status (verdict_other p.verdict)
@@ -100,6 +103,7 @@ demos classes i s x (Shown j added c) = changes classes j s x c
 form_other : (w : World) (form : Form) (s : Status) (x : List ℕ) → AnswersForm w form s x → IsOther s
 form_other w (Apply image script) s x p = loads w image image_limit s x _ (λ i q. loads w script script_limit s x _ (λ c. applies i c s x) q) p
 form_other w (Changes image script) s x p = loads w image image_limit s x _ (λ i q. loads w script script_limit s x _ (λ c. writes i c s x) q) p
+form_other w (Why image script) s x p = loads w image image_limit s x _ (λ i q. loads w script script_limit s x _ (λ c. explains i c s x) q) p
 form_other w (Team image log) s x p = loads w image image_limit s x _ (λ i q. loads w log script_limit s x _ (λ l. plays i l s x) q) p
 form_other w (Import file) s x p = loads w file image_limit s x _ (λ i. imports i s x) p
 form_other w (Format image) s x p = loads w image image_limit s x _ (λ i. formats i s x) p

@@ -9,7 +9,7 @@ use Rattle.file_model.specs.Written.{file_of}
 use Rattle.file_model.proofs.OneImage.{one_image, one_refusal, no_image_where_refused}
 use Rattle.canonical_image.specs.Formatted.{formatted}
 use Rattle.image_forms.specs.declared.status.Status.{Status}
-use Rattle.command_words.specs.Forms.{Form, Apply, Changes, Team, Import, Format, Run, Find, Strip, Search, Rewrite, Demo, Help, Version, NoForm, files_of, form_of}
+use Rattle.command_words.specs.Forms.{Form, Apply, Changes, Why, Team, Import, Format, Run, Find, Strip, Search, Rewrite, Demo, Help, Version, NoForm, files_of, form_of}
 use Rattle.image_forms.specs.Loads.{World, Loads, Given, Refused, Refuses, MayFail, IsTold, IsHonest}
 use Rattle.grammar_model.specs.Whole.{DoIt}
 use Rattle.grammar_model.proofs.Texts.{no_fault_DoIt, one_SpellsDoIt, one_HasFirstFault}
@@ -38,8 +38,9 @@ use Rattle.apply_model.specs.declared.status.Status.TheVariants as verdict
 use Rattle.apply_model.specs.Applied as model
 use Rattle.play_model.specs.Played as play
 use Rattle.changes_model.specs.Changes as change
+use Rattle.why_model.specs.Why as explanation
 use Rattle.image_forms.specs.ImageLines.{image_refusal, import_refusal, expression_refusal, text_refusal}
-use Rattle.image_forms.specs.Answers.{status_applied, Applies, PlaysLog, WritesChanges, Imports, NotImported, Imported, Formats, Formatted, Refused as Stopped, status_of, RunsIn, NoDoIt, Ran, Runs, NoImage, InImage, Finds, NoImageThere, Found, stripped_text, StripsIn, NoStart, Stripped, Strips, NoImageToStrip, StripsImage, OfImage, Unread, Read, SearchesIn, NoPattern, Matched, RewritesIn, NoRule, NoReplacement, Rewritten, summary, ChangesIn, Unchanged, Changed, DemosIn, NoExpression, Shown, AnswersForm, Answers, image_limit, script_limit}
+use Rattle.image_forms.specs.Answers.{status_applied, Applies, Explains, PlaysLog, WritesChanges, Imports, NotImported, Imported, Formats, Formatted, Refused as Stopped, status_of, RunsIn, NoDoIt, Ran, Runs, NoImage, InImage, Finds, NoImageThere, Found, stripped_text, StripsIn, NoStart, Stripped, Strips, NoImageToStrip, StripsImage, OfImage, Unread, Read, SearchesIn, NoPattern, Matched, RewritesIn, NoRule, NoReplacement, Rewritten, summary, ChangesIn, Unchanged, Changed, DemosIn, NoExpression, Shown, AnswersForm, Answers, image_limit, script_limit}
 
 -- both answers are one
 abbrev pub SameAnswer : Status → Status → List ℕ → List ℕ → Type 0
@@ -162,6 +163,7 @@ pub record OnceLaws : Type 0 where
   pub applies : (image_line : Refusal → List ℕ) (text script : List ℕ) (v u : applied.Status) (x y : List ℕ) → model.Applies image_line text script v x → model.Applies image_line text script u y → (v ≡ u) × (x ≡ y)
   pub applies_in : (i : ImageOf (List ℕ)) (script : List ℕ) (v u : applied.Status) (x y : List ℕ) → model.AppliesIn i script v x → model.AppliesIn i script u y → (v ≡ u) × (x ≡ y)
   pub changes_in : (i : ImageOf (List ℕ)) (script : List ℕ) (v u : applied.Status) (x y : List ℕ) → change.ChangesIn i script v x → change.ChangesIn i script u y → (v ≡ u) × (x ≡ y)
+  pub explains : (image_line : Refusal → List ℕ) (text script : List ℕ) (v u : applied.Status) (x y : List ℕ) → explanation.Why image_line text script v x → explanation.Why image_line text script u y → (v ≡ u) × (x ≡ y)
   pub plays : (image_line : Refusal → List ℕ) (text log : List ℕ) (v u : applied.Status) (x y : List ℕ) → play.Plays image_line text log v x → play.Plays image_line text log u y → (v ≡ u) × (x ≡ y)
   pub imported : (text : List ℕ) (a b : Result (List ℕ) Refusal) → IsImported text a → IsImported text b → a ≡ b
   pub requests : (text : List ℕ) (rs qs : List Line) → Says text rs → Says text qs → rs ≡ qs
@@ -191,6 +193,11 @@ module _ (once : OnceLaws) where
   writes_one : (text script : List ℕ) (s t : Status) (x y : List ℕ) → WritesChanges text script s x → WritesChanges text script t y → SameAnswer s t x y
   writes_one text script s t x y a b =
       let same = change_one text script a.verdict b.verdict x y a.changes b.changes in
+      (a.status ∙ ap status_applied same.0 ∙ sym b.status, same.1)
+
+  explains_one : (text script : List ℕ) (s t : Status) (x y : List ℕ) → Explains text script s x → Explains text script t y → SameAnswer s t x y
+  explains_one text script s t x y a b =
+      let same = once.explains image_refusal text script a.verdict b.verdict x y a.why b.why in
       (a.status ∙ ap status_applied same.0 ∙ sym b.status, same.1)
 
   plays_one : (text log : List ℕ) (s t : Status) (x y : List ℕ) → PlaysLog text log s x → PlaysLog text log t y → SameAnswer s t x y
@@ -279,6 +286,9 @@ module _ (once : OnceLaws) where
   form_one w (Changes image script) s t x y honest p q =
       loads_one w image image_limit s t x y _ _ honest.told.0 honest.fine
       (λ i p' q'. loads_one w script script_limit s t x y _ _ honest.told.1.0 honest.fine (λ c. writes_one i c s t x y) p' q') p q
+  form_one w (Why image script) s t x y honest p q =
+      loads_one w image image_limit s t x y _ _ honest.told.0 honest.fine
+      (λ i p' q'. loads_one w script script_limit s t x y _ _ honest.told.1.0 honest.fine (λ c. explains_one i c s t x y) p' q') p q
   form_one w (Team image log) s t x y honest p q =
       loads_one w image image_limit s t x y _ _ honest.told.0 honest.fine
       (λ i p' q'. loads_one w log script_limit s t x y _ _ honest.told.1.0 honest.fine (λ l. plays_one i l s t x y) p' q') p q

@@ -7,6 +7,7 @@ mod demo;
 mod run;
 mod team;
 mod top;
+mod why;
 
 pub use image_forms::Status;
 pub use top::{browse, has_one_answer};

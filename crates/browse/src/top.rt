@@ -12,6 +12,7 @@ use crate::changes::changes;
 use crate::demo::demo;
 use crate::run::run;
 use crate::team::team;
+use crate::why::why;
 use apply_model::has_one_answer_in_image;
 use changes_model::has_one_change_in_image;
 use command_words::{Words, words_of};
@@ -37,6 +38,7 @@ fn answer<F: Shelf>(
     match words_of(words) {
         Words::Apply { image, script } => apply(alloc, shelf, image, script, out),
         Words::Changes { image, script } => changes(alloc, shelf, image, script, out),
+        Words::Why { image, script } => why(alloc, shelf, image, script, out),
         Words::Team { image, log } => team(alloc, shelf, image, log, out),
         Words::Import { file } => import(alloc, shelf, file, out),
         Words::Format { image } => format(alloc, shelf, image, out),
@@ -113,6 +115,7 @@ pub fn has_one_answer()
     has_one_answer_in_image();
     has_one_change_in_image();
     play_model::has_one_answer();
+    why_model::has_one_answer();
     has_one_import();
     has_one_reading();
     has_one_pattern();

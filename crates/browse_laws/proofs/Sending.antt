@@ -36,13 +36,13 @@ module _ (w : World) (image script sent : List ℕ) (s : Status) (of : IsOfApply
   given-of (Given text given rest) = with-script text given rest
   given-of (Refused r) = absurd (not-refused w image image_limit s sent of r)
 
-done-is : (v : applied.Status) → status.Done ≡ status_applied v → v ≡ verdict.Done
+pub done-is : (v : applied.Status) → status.Done ≡ status_applied v → v ≡ verdict.Done
 done-is verdict.Done e = refl
 done-is verdict.Condition e = absurd (cc)
 done-is verdict.ImageText e = absurd (cc)
 done-is verdict.ScriptText e = absurd (cc)
 
-condition-is : (v : applied.Status) → status.Condition ≡ status_applied v → v ≡ verdict.Condition
+pub condition-is : (v : applied.Status) → status.Condition ≡ status_applied v → v ≡ verdict.Condition
 condition-is verdict.Done e = absurd (cc)
 condition-is verdict.Condition e = refl
 condition-is verdict.ImageText e = absurd (cc)

@@ -12,6 +12,10 @@ apply_words image script = codes "apply" ∷ image ∷ script ∷ []
 abbrev pub changes_words : List ℕ → List ℕ → List (List ℕ)
 changes_words image script = codes "changes" ∷ image ∷ script ∷ []
 
+-- `why IMAGE SCRIPT`
+abbrev pub why_words : List ℕ → List ℕ → List (List ℕ)
+why_words image script = codes "why" ∷ image ∷ script ∷ []
+
 -- `team IMAGE LOG`
 abbrev pub team_words : List ℕ → List ℕ → List (List ℕ)
 team_words image log = codes "team" ∷ image ∷ log ∷ []

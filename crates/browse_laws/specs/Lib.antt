@@ -1,3 +1,4 @@
 pub mod Given
 pub mod Printed
+pub mod Explained
 pub mod Promises

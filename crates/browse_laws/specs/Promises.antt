@@ -23,7 +23,8 @@ use Rattle.image_forms.specs.declared.status.Status.{Status}
 use Rattle.image_forms.specs.declared.status.Status.TheVariants as status
 use Rattle.image_forms.specs.Loads.{World}
 use Rattle.image_forms.specs.Answers.{Applies, Runs, Answers}
-use Rattle.browse_laws.specs.Given.{apply_words, changes_words, team_words, strip_words, format_words, import_words, AreGiven, IsGiven}
+use Rattle.browse_laws.specs.Given.{apply_words, changes_words, why_words, team_words, strip_words, format_words, import_words, AreGiven, IsGiven}
+use Rattle.browse_laws.specs.Explained.{IsAccepted, IsToldWhy}
 use Rattle.browse_laws.specs.Printed.{IsStrippedFile, IsFormattedFile, IsImportedFile}
 
 -- `strip IMAGE EXPRESSION sets`
@@ -50,6 +51,11 @@ pub record IsFiledIn (text script sent : List ℕ) : Type 0 where
 pub record KeepsChanges (w : World) (image script : List ℕ) (s : Status) (sent : List ℕ) : Type 0 where
   pub filed_in : s ≡ status.Done → AreGiven w image script (λ text commands. IsFiledIn text commands sent)
   pub refused : s ≡ status.Condition → AreGiven w image script (λ text commands. IsRefusalOf text commands sent)
+
+-- of `why IMAGE SCRIPT`
+pub record KeepsWhy (w : World) (image script : List ℕ) (s : Status) (sent : List ℕ) : Type 0 where
+  pub accepted : s ≡ status.Done → AreGiven w image script (λ text commands. IsAccepted text commands sent)
+  pub refused : s ≡ status.Condition → AreGiven w image script (λ text commands. IsToldWhy text commands sent)
 
 -- of `team IMAGE LOG`
 abbrev pub KeepsTeam : World → List ℕ → List ℕ → Status → List ℕ → Type 0
@@ -95,6 +101,7 @@ pub record KeepsPromises (w : World) (words : List (List ℕ)) (s : Status) (sen
   pub answers : Answers w words s sent
   pub apply : (image script : List ℕ) → words ≡ apply_words image script → KeepsApply w image script s sent
   pub changes : (image script : List ℕ) → words ≡ changes_words image script → KeepsChanges w image script s sent
+  pub why : (image script : List ℕ) → words ≡ why_words image script → KeepsWhy w image script s sent
   pub team : (image log : List ℕ) → words ≡ team_words image log → KeepsTeam w image log s sent
   pub strip : (image expression : List ℕ) → words ≡ strip_words image expression → KeepsStrip w image expression s sent
   pub sets : (image expression : List ℕ) → words ≡ sets_words image expression → KeepsSets w image expression s sent

@@ -14,6 +14,8 @@ pub data Form : Type 0 where
   Apply : List ℕ → List ℕ → Form
   -- `changes IMAGE SCRIPT`
   Changes : List ℕ → List ℕ → Form
+  -- `why IMAGE SCRIPT`
+  Why : List ℕ → List ℕ → Form
   -- `team IMAGE LOG`
   Team : List ℕ → List ℕ → Form
   -- `import FILE`
@@ -52,15 +54,16 @@ form_of_two command word =
     (if bytes_eq command (codes "import") then Import word else
     (if bytes_eq command (codes "demo") then option_map_or Demo (number_of 2000 word) NoForm else NoForm))
 
--- `apply IMAGE SCRIPT`, `changes IMAGE SCRIPT`, `team IMAGE LOG`, `run IMAGE EXPRESSION` with 1,000,000 ticks, `strip IMAGE EXPRESSION`, `search IMAGE PATTERN`, and the forms above
+-- `apply IMAGE SCRIPT`, `changes IMAGE SCRIPT`, `why IMAGE SCRIPT`, `team IMAGE LOG`, `run IMAGE EXPRESSION` with 1,000,000 ticks, `strip IMAGE EXPRESSION`, `search IMAGE PATTERN`, and the forms above
 abbrev pub form_of_three : List ℕ → List ℕ → List ℕ → Form
 form_of_three command image word =
     if bytes_eq command (codes "apply") then Apply image word else
     (if bytes_eq command (codes "changes") then Changes image word else
+    (if bytes_eq command (codes "why") then Why image word else
     (if bytes_eq command (codes "team") then Team image word else
     (if bytes_eq command (codes "run") then Run image word 1000000 else
     (if bytes_eq command (codes "strip") then Strip image word false else
-    (if bytes_eq command (codes "search") then Search image word else NoForm)))))
+    (if bytes_eq command (codes "search") then Search image word else NoForm))))))
 
 -- `run IMAGE EXPRESSION BUDGET` with a budget from 1 to 10,000,000
 abbrev pub run_of : List ℕ → List ℕ → List ℕ → Form
@@ -93,6 +96,7 @@ form_of words = NoForm
 abbrev pub files_of : Form → List (List ℕ)
 files_of (Apply image script) = image ∷ script ∷ []
 files_of (Changes image script) = image ∷ script ∷ []
+files_of (Why image script) = image ∷ script ∷ []
 files_of (Team image log) = image ∷ log ∷ []
 files_of (Import file) = file ∷ []
 files_of (Format image) = image ∷ []
@@ -110,6 +114,7 @@ files_of NoForm = []
 abbrev pub shows : Words → Form
 shows (words.Apply image script) = Apply image.now script.now
 shows (words.Changes image script) = Changes image.now script.now
+shows (words.Why image script) = Why image.now script.now
 shows (words.Team image log) = Team image.now log.now
 shows (words.Import file) = Import file.now
 shows (words.Format image) = Format image.now

@@ -27,6 +27,11 @@ pub enum Words<'w> {
         image: &'w str,
         script: &'w str,
     },
+    /// `why IMAGE SCRIPT`.
+    Why {
+        image: &'w str,
+        script: &'w str,
+    },
     /// `team IMAGE LOG`.
     Team {
         image: &'w str,
@@ -125,6 +130,11 @@ fn form_of_three<'w>(command: &str, image: &'w str, word: &'w str) -> Words<'w>
         }
     } else if command == "changes" {
         Words::Changes {
+            image,
+            script: word,
+        }
+    } else if command == "why" {
+        Words::Why {
             image,
             script: word,
         }

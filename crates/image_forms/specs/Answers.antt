@@ -5,6 +5,7 @@ use Rattle.apply_model.specs.declared.status.Status as applied
 use Rattle.apply_model.specs.declared.status.Status.TheVariants as verdict
 use Rattle.apply_model.specs.Applied as model
 use Rattle.changes_model.specs.Changes as change
+use Rattle.why_model.specs.Why as explanation
 use Rattle.play_model.specs.Played as play
 use Rattle.image_forms.specs.declared.status.Status.{Status}
 use Rattle.image_forms.specs.declared.status.Status.TheVariants as status
@@ -37,7 +38,7 @@ use Rattle.image_maker.specs.Generated.{image_text, expression_text, script_text
 use Rattle.run_model.specs.Views.{run_text}
 use Rattle.strip_model.specs.Reach.{ReachOf, reach}
 use Rattle.strip_model.specs.Stripped.{certificate, strip}
-use Rattle.command_words.specs.Forms.{Form, Apply, Changes, Team, Import, Format, Run, Find, Strip, Search, Rewrite, Demo, Help, Version, NoForm, form_of}
+use Rattle.command_words.specs.Forms.{Form, Apply, Changes, Why, Team, Import, Format, Run, Find, Strip, Search, Rewrite, Demo, Help, Version, NoForm, form_of}
 use Rattle.image_forms.specs.Loads.{World, Loads, line}
 use Rattle.image_forms.specs.ImageLines.{image_refusal, import_refusal, expression_refusal, text_refusal}
 
@@ -54,7 +55,7 @@ usage = line (codes "usage: browse COMMAND ARGUMENTS")
 
 -- the forms as they are typed, each with what it does
 abbrev pub help_forms : List ℕ
-help_forms = codes "usage: browse COMMAND ARGUMENTS\napply IMAGE SCRIPT: prints the file-out IMAGE as the commands of SCRIPT change it\nchanges IMAGE SCRIPT: prints what to file in after IMAGE to have it as the commands of SCRIPT change it\nteam IMAGE LOG: prints what the sessions of LOG are answered, and IMAGE as they change it\nrun IMAGE EXPRESSION [BUDGET]: runs the do-its of IMAGE and then EXPRESSION, for at most BUDGET ticks\nfind IMAGE KIND NAME: lists what sends or implements a selector, or means a class or a variable\nformat IMAGE: prints IMAGE with each source in canonical text\nimport FILE: prints FILE, a file-out of Squeak, Pharo or VisualWorks, in the form that the others read\nstrip IMAGE EXPRESSION [sets]: prints IMAGE without what its do-its and EXPRESSION cannot reach, or what they reach\nsearch IMAGE PATTERN: lists the nodes that PATTERN matches\nrewrite IMAGE PATTERN REPLACEMENT: prints IMAGE with each node that PATTERN matches replaced\ndemo NUMBER: makes an image of NUMBER classes, runs it, renames in it, and runs it again\n--help: prints these lines\n--version: prints the version of the program and of the logic that proves it"
+help_forms = codes "usage: browse COMMAND ARGUMENTS\napply IMAGE SCRIPT: prints the file-out IMAGE as the commands of SCRIPT change it\nchanges IMAGE SCRIPT: prints what to file in after IMAGE to have it as the commands of SCRIPT change it\nwhy IMAGE SCRIPT: prints what stands in the way of the first command of SCRIPT that is refused\nteam IMAGE LOG: prints what the sessions of LOG are answered, and IMAGE as they change it\nrun IMAGE EXPRESSION [BUDGET]: runs the do-its of IMAGE and then EXPRESSION, for at most BUDGET ticks\nfind IMAGE KIND NAME: lists what sends or implements a selector, or means a class or a variable\nformat IMAGE: prints IMAGE with each source in canonical text\nimport FILE: prints FILE, a file-out of Squeak, Pharo or VisualWorks, in the form that the others read\nstrip IMAGE EXPRESSION [sets]: prints IMAGE without what its do-its and EXPRESSION cannot reach, or what they reach\nsearch IMAGE PATTERN: lists the nodes that PATTERN matches\nrewrite IMAGE PATTERN REPLACEMENT: prints IMAGE with each node that PATTERN matches replaced\ndemo NUMBER: makes an image of NUMBER classes, runs it, renames in it, and runs it again\n--help: prints these lines\n--version: prints the version of the program and of the logic that proves it"
 
 -- the kinds of `find`, each with what it lists
 abbrev pub help_kinds : List ℕ
@@ -93,6 +94,12 @@ pub record Applies (text script : List ℕ) (s : Status) (sent : List ℕ) : Typ
 pub record WritesChanges (text script : List ℕ) (s : Status) (sent : List ℕ) : Type 0 where
   pub verdict : applied.Status
   pub changes : change.Changes image_refusal text script verdict sent
+  pub status : s ≡ status_applied verdict
+
+-- `why` answers these two texts with the status and the bytes
+pub record Explains (text script : List ℕ) (s : Status) (sent : List ℕ) : Type 0 where
+  pub verdict : applied.Status
+  pub why : explanation.Why image_refusal text script verdict sent
   pub status : s ≡ status_applied verdict
 
 -- `team` answers these two texts with the status and the bytes
@@ -189,6 +196,7 @@ pub data DemosIn (classes : ℕ) (i : ImageOf (List ℕ)) (s : Status) (sent : L
 abbrev pub AnswersForm : World → Form → Status → List ℕ → Type 0
 AnswersForm w (Apply image script) s sent = Loads w image image_limit s sent (λ i. Loads w script script_limit s sent (λ c. Applies i c s sent))
 AnswersForm w (Changes image script) s sent = Loads w image image_limit s sent (λ i. Loads w script script_limit s sent (λ c. WritesChanges i c s sent))
+AnswersForm w (Why image script) s sent = Loads w image image_limit s sent (λ i. Loads w script script_limit s sent (λ c. Explains i c s sent))
 AnswersForm w (Team image log) s sent = Loads w image image_limit s sent (λ i. Loads w log script_limit s sent (λ l. PlaysLog i l s sent))
 AnswersForm w (Import file) s sent = Loads w file image_limit s sent (λ t. Imports t s sent)
 AnswersForm w (Format image) s sent = Loads w image image_limit s sent (λ i. Formats i s sent)

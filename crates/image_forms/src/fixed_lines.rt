@@ -11,6 +11,7 @@ use rb_base::{Memory, Text};
 const FORMS: &str = "usage: browse COMMAND ARGUMENTS
 apply IMAGE SCRIPT: prints the file-out IMAGE as the commands of SCRIPT change it
 changes IMAGE SCRIPT: prints what to file in after IMAGE to have it as the commands of SCRIPT change it
+why IMAGE SCRIPT: prints what stands in the way of the first command of SCRIPT that is refused
 team IMAGE LOG: prints what the sessions of LOG are answered, and IMAGE as they change it
 run IMAGE EXPRESSION [BUDGET]: runs the do-its of IMAGE and then EXPRESSION, for at most BUDGET ticks
 find IMAGE KIND NAME: lists what sends or implements a selector, or means a class or a variable

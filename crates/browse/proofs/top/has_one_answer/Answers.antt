@@ -8,6 +8,7 @@ returns c =
       applies_in = c.has_one_answer_in_image.ensures;
       changes_in = c.has_one_change_in_image.ensures;
       plays = c.has_one_answer-2.ensures;
+      explains = c.has_one_answer-3.ensures;
       imported = c.has_one_import.ensures;
       requests = c.has_one_reading.ensures.requests;
       pattern = c.has_one_pattern.ensures.one;

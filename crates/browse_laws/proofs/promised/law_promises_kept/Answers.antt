@@ -10,9 +10,9 @@ use Rattle.image_forms.specs.declared.status.Status.TheVariants as status
 use Rattle.image_forms.specs.Loads.{World, Loads, Given, Refused}
 use Rattle.image_forms.specs.Answers.{image_limit, Applies, Formatted, StripsIn, NoStart, Stripped, Strips, NoImageToStrip, StripsImage, Answers}
 use Rattle.changes_laws.specs.ChangeFiles.{IsChangeFile}
-use Rattle.browse_laws.specs.Given.{apply_words, changes_words, team_words, strip_words, format_words, import_words, AreGiven, IsGiven}
+use Rattle.browse_laws.specs.Given.{apply_words, changes_words, why_words, team_words, strip_words, format_words, import_words, AreGiven, IsGiven}
 use Rattle.browse_laws.specs.Printed.{doit_of, IsStrippedFile}
-use Rattle.browse_laws.specs.Promises.{sets_words, SendsWithoutEnd, KeepsApply, IsFiledIn, KeepsChanges, IsStripped, AreLeastSets, IsFormatted}
+use Rattle.browse_laws.specs.Promises.{sets_words, SendsWithoutEnd, KeepsApply, IsFiledIn, KeepsChanges, KeepsWhy, IsStripped, AreLeastSets, IsFormatted}
 use Rattle.browse_laws.proofs.Sending.{given-of}
 use Rattle.browse_laws.proofs.promised.law_promises_kept.Goals as goal
 
@@ -21,6 +21,7 @@ returns k = λ w words s sent answers. record {
   answers = answers;
   apply = λ image script are. applies w image script s sent (at w words (apply_words image script) s sent are answers);
   changes = λ image script are. files-in w image script s sent (at w words (changes_words image script) s sent are answers);
+  why = λ image script are. explains w image script s sent (at w words (why_words image script) s sent are answers);
   team = λ image log are done. k.law_played.ensures w image log sent (done-at w (team_words image log) s sent done (at w words (team_words image log) s sent are answers));
   strip = λ image expression are done. stripped w image expression sent (done-at w (strip_words image expression) s sent done (at w words (strip_words image expression) s sent are answers));
   sets = λ image expression are done. least-sets w image expression sent (done-at w (sets_words image expression) s sent done (at w words (sets_words image expression) s sent are answers));
@@ -73,6 +74,12 @@ returns k = λ w words s sent answers. record {
     files-in w image script s sent answers = record {
       filed_in = λ done. filed-in w image script sent (k.law_filed_in.ensures.done w image script sent (done-at w (changes_words image script) s sent done answers));
       refused = λ refused. k.law_filed_in.ensures.condition w image script sent (refused-at w (changes_words image script) s sent refused answers);
+    }
+
+    explains : (w : World) (image script : List ℕ) (s : Status) (sent : List ℕ) → Answers w (why_words image script) s sent → KeepsWhy w image script s sent
+    explains w image script s sent answers = record {
+      accepted = λ done. k.law_told_why.ensures.done w image script sent (done-at w (why_words image script) s sent done answers);
+      refused = λ refused. k.law_told_why.ensures.condition w image script sent (refused-at w (why_words image script) s sent refused answers);
     }
 
     -- a stripped file runs

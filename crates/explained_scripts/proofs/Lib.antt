@@ -1,0 +1,16 @@
+pub mod EachOnce
+pub mod Moving
+pub mod SaidLines
+pub mod AtTexts
+pub mod RoundLines
+pub mod AllStanding
+pub mod BroughtLines
+pub mod RefusedSteps
+pub mod RuleReasons
+pub mod RuleLines
+pub mod Showing
+pub mod Answered
+pub mod CommandLines
+pub mod Explaining
+pub mod Spots
+pub mod Unmoved

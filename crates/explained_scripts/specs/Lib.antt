@@ -1,0 +1,5 @@
+pub mod Families
+pub mod Brought
+pub mod Lines
+pub mod Refused
+pub mod Shown
